@@ -49,7 +49,7 @@ not_below ops k n m a b lt =
     let more = more_actions ops (n + 1) m (omega arith) in
     omega (arith, b.from)
 
-one_op : (ops : List Op) (k n m : ℕ) → IsAtOp ops k n → IsAtOp ops k m → n ≡ m
+pub one_op : (ops : List Op) (k n m : ℕ) → IsAtOp ops k n → IsAtOp ops k m → n ≡ m
 one_op ops k n m a b =
     elim (cases_lt n m) [
       | inl l ↦ absurd (not_below ops k n m a b l)
@@ -63,7 +63,7 @@ same_layout :
     let l : Layout = record { text = t; offsets = o; ends = e } in let m : Layout = record { text = t'; offsets = o'; ends = e' } in l ≡ m
 same_layout t t' o o' e e' a b c = cc
 
-one_layout : (p : Program) (l m : Layout) → IsLayout p l → IsLayout p m → l.text ≡ m.text → l ≡ m
+pub one_layout : (p : Program) (l m : Layout) → IsLayout p l → IsLayout p m → l.text ≡ m.text → l ≡ m
 one_layout p l m a b same =
     let again : IsLayout p (record { text = m.text; offsets = l.offsets; ends = l.ends }) =
     subst (λ text. IsLayout p (record { text = text; offsets = l.offsets; ends = l.ends })) same a in

@@ -2,7 +2,7 @@
 use Rattle.std.proofs.Common.{◌≡◌, ℕ, zero, suc, ◌+◌, ◌<◌, false, List, [], ◌++◌, length, refl, sym, ap, ◌∙◌, subst, inl, inr, arith, get_or, Ordering, Less, Equal, Greater}
 use Rattle.std.specs.Prelude.{Contains, ◌↔◌, map}
 use Rattle.std.specs.List.Sorted.{IsPermutation, IsSorted}
-use Rattle.std.specs.Ordering.{MatchOrdering, is_lt, ordering_then, nat_cmp}
+use Rattle.std.specs.Ordering.{is_lt, ordering_then, nat_cmp}
 use Rattle.std.proofs.lemmas.Bool.{cases_eq}
 use Rattle.std.proofs.lemmas.Cmp.{ranked}
 use Rattle.std.proofs.lemmas.List.{get_or_default}
@@ -16,6 +16,7 @@ use Rattle.dep_state.proofs.DeadSets.{Contains-from_map, Contains-map}
 use Rattle.adaptive.specs.declared.standings.Standing.{Standing}
 use Rattle.adaptive.specs.inside.Standings.{AreStandingsOf, HasStanding, StandingsNeverFall, standing_at}
 use Rattle.dep_state.specs.inside.Made.{NotAfter}
+use Rattle.dep_state.proofs.DistinctEvents.{by_orders}
 
 standing : ℕ → ℕ → ℕ → Standing
 standing k p n = record { at = record { p = record { 0 = p }; n = n }; status = k }
@@ -72,15 +73,6 @@ same_standings ss xs ys moved are = record {
     λ h. Contains-permutation xs ys _ moved ((are.exact k p n).1 h),
   );
 }
-
-by_orders :
-    (a b : Event) (o q : Ordering) → MatchOrdering o (b.p.0 < a.p.0) (b.p.0 ≡ a.p.0) (a.p.0 < b.p.0) → MatchOrdering q (b.n < a.n) (b.n ≡ a.n) (a.n < b.n) →
-    is_lt (ordering_then o q) ≡ false → NotAfter a b
-by_orders a b Less q m n e = absurd cc
-by_orders a b Equal Less m n e = absurd cc
-by_orders a b Equal Equal m n e = inr (sym m, omega (arith, n))
-by_orders a b Equal Greater m n e = inr (sym m, omega (arith, n))
-by_orders a b Greater q m n e = inl m
 
 -- what is no less by one order and then another is no less by the first
 first_of : (o q : Ordering) → is_lt (ordering_then o q) ≡ false → is_lt o ≡ false

@@ -1,8 +1,5 @@
 -- Texts of one plan are replayed and recorded alike.
 use Rattle.std.proofs.Common.{◌≡◌, ◌≢◌, ◌∙◌, ◌++◌, ℕ, [], ◌∷◌, ap, sym, subst, refl, append_assoc}
-use Rattle.pl_syntax.specs.declared.tree.Program.{Program}
-use Rattle.pl_syntax.specs.Grammar.{IsText}
-use Rattle.pl_syntax.proofs.LineFeeds.{no_line_is_a_mark}
 use Rattle.schedule.specs.Lines.{IsFirstLine, ended, unended}
 use Rattle.schedule.specs.calls.Records.{HasNoMark}
 use Rattle.schedule.specs.Records.{recorded}
@@ -13,6 +10,7 @@ use Rattle.armus_words.specs.Words.{Text}
 use Rattle.armus_top.specs.Programs.{IsPlanOf}
 use Rattle.armus_top.specs.Replays.{IsReplayOf, IsReplayedBy, IsShort}
 use Rattle.armus_top.proofs.RecordsMet.{closed_exists}
+use Rattle.armus_top.proofs.RecordsReplay.{unmarked}
 use Rattle.answer_laws.specs.calls.OnePlan.{HaveOnePlan, RecordGoesByPlan, ReplayGoesByPlan, TextsHaveNoSchedule}
 
 -- ---- a text without a mark is all text
@@ -41,12 +39,6 @@ all_is_text input text schedule (at_mark i s first) free = absurd (no_first_mark
 all_is_text input text schedule (more_text i line rest front behind s first unlike is split) free =
     let later = all_is_text rest behind schedule split (unmarked_rest input line rest first free) in
     (ap (λ t. front ++ t) later.0 ∙ sym is, later.1)
-
-unmarked : (text : Text) (p : Program) → IsText text p → HasNoMark text
-unmarked text p is rest = (
-  λ e. (no_line_is_a_mark p rest).0 (subst (λ t. IsText t p) e is),
-  λ front e. (no_line_is_a_mark p rest).1 front (subst (λ t. IsText t p) e is),
-)
 
 pub texts_have_no_schedule : TextsHaveNoSchedule
 texts_have_no_schedule text plan (p, is) =

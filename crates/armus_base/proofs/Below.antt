@@ -1,5 +1,5 @@
 -- Lists of what a function gives for the numbers below a bound.
-use Rattle.std.proofs.Common.{◌≡◌, ℕ, zero, suc, ◌<◌, ◌≤◌, Option, Some, None, List, [], ◌∷◌, ◌++◌, length, get_or, arith, sym, ◌∙◌, ap, subst, refl, inl, inr, length-append}
+use Rattle.std.proofs.Common.{◌≡◌, ℕ, zero, suc, ◌+◌, ◌<◌, ◌≤◌, Option, Some, None, List, [], ◌∷◌, ◌++◌, length, get_or, add-one, arith, sym, ◌∙◌, ap, subst, refl, inl, inr, length-append}
 use Rattle.std.specs.Prelude.{AllPairs, Contains, option_to_list, slice_get}
 use Rattle.std.proofs.lemmas.Bool.{cases_eq}
 use Rattle.std.proofs.lemmas.List.{append-nil, get_or_default}
@@ -72,6 +72,21 @@ pub given_ascends :
     AllPairs (λ a b. key a < key b) (given_below f n)
 given_ascends key f tells zero = λ i j d l m. absurd (omega arith)
 given_ascends key f tells (suc n) = ascends_more key f tells n (given_ascends key f tells n) (f n) refl
+
+-- one number more, and two functions that agree
+pub given_below_more : {A : Type 0} (f : ℕ → Option A) (n : ℕ) (x : A) (xs : List A) → xs ≡ given_below f n → f n ≡ Some x →
+    xs ++ x ∷ [] ≡ given_below f (n + 1)
+given_below_more f n x xs e h = ap (λ ys. ys ++ x ∷ []) e ∙ ap (λ o. given_below f n ++ option_to_list o) (sym h) ∙ ap (given_below f) (sym (add-one n))
+
+pub given_below_none : {A : Type 0} (f : ℕ → Option A) (n : ℕ) (xs : List A) → xs ≡ given_below f n → f n ≡ None → xs ≡ given_below f (n + 1)
+given_below_none f n xs e h =
+    e ∙ sym (append-nil (given_below f n)) ∙ ap (λ o. given_below f n ++ option_to_list o) (sym h) ∙ ap (given_below f) (sym (add-one n))
+
+pub given_below_same : {A : Type 0} (f g : ℕ → Option A) (n : ℕ) → ((k : ℕ) → k < n → f k ≡ g k) → given_below f n ≡ given_below g n
+given_below_same f g zero same = refl
+given_below_same f g (suc n) same =
+    ap (λ xs. xs ++ option_to_list (f n)) (given_below_same f g n (λ k l. same k (omega arith)))
+    ∙ ap (λ o. given_below g n ++ option_to_list o) (same n (omega arith))
 
 -- the list has one item for each number below the bound
 pub length-list_below : {A : Type 0} (f : ℕ → A) (n : ℕ) → length (list_below f n) ≡ n

@@ -1,7 +1,7 @@
 -- Tests that tell of a state after a small run which tasks are dead in it.
 use Rattle.std.proofs.Common.{◌≡◌, ℕ, ◌<◌, Bool, true, false, Option, Some, None, List, [], ◌∷◌, length, sym, ◌∙◌, ap, subst, refl, inl, inr}
 use Rattle.std.specs.Prelude.{◌==◌, ◌&&◌, ◌||◌, ◌↔◌, Contains, if◌then◌else◌, nat_lt}
-use Rattle.std.proofs.lemmas.Bool.{eqb-true, eq-eqb, false≢true, lt-ltb, ltb-true}
+use Rattle.std.proofs.lemmas.Bool.{eqb-true, eq-eqb, false≢true, lt-ltb, ltb-true, and_parts, or_cases, or_left, or_right, and_from}
 use Rattle.armus_base.specs.declared.event.Event.{Event}
 use Rattle.armus_base.specs.Deadlocks.{IsDeadIn, IsImpededWithin, IsAtPhase, IsPublishedOn}
 use Rattle.armus_base.specs.Places.{some_before}
@@ -13,7 +13,7 @@ use Rattle.armus_base.proofs.Elements.{Contains-cons_cases, Contains-head, Conta
 use Rattle.armus_base.proofs.Fixed.{some_before_is}
 use Rattle.armus_base.proofs.ForkedTasks.{forked_within}
 use Rattle.armus_base.proofs.Members.{published_member}
-use Rattle.armus_base.proofs.RunTests.{all_before, all_is, below_is, both, either, is_below, is_not, not_is}
+use Rattle.armus_base.proofs.RunTests.{all_before, all_is, below_is, is_below, is_not, not_is}
 use Rattle.armus_base.proofs.Stepping.{acting_forked}
 use Rattle.armus_base.proofs.Steps.{with_phase_is}
 
@@ -59,7 +59,7 @@ is_in (u ∷ us) t = (u == t) || is_in us t
 in_contains : (us : List ℕ) (t : ℕ) → is_in us t ≡ true → Contains us t
 in_contains [] t e = absurd (false≢true e)
 in_contains (u ∷ us) t e =
-    elim (either (u == t) (is_in us t) e) [
+    elim (or_cases (u == t) (is_in us t) e) [
       | inl here ↦ subst (λ v. Contains (u ∷ us) v) (eqb-true u t here) (Contains-head u us)
       | inr later ↦ Contains-tail u us t (in_contains us t later)
     ]
@@ -71,14 +71,6 @@ contains_in (u ∷ us) t m =
       | inl same ↦ or_left (u == t) (is_in us t) (eq-eqb u t same)
       | inr later ↦ or_right (u == t) (is_in us t) (contains_in us t later)
     ]
-  where
-    or_left : (a b : Bool) → a ≡ true → (a || b) ≡ true
-    or_left true b e = refl
-    or_left false b e = absurd (false≢true e)
-
-    or_right : (a b : Bool) → b ≡ true → (a || b) ≡ true
-    or_right true b e = refl
-    or_right false b e = e
 
 -- one of the first k tasks, of those that are marked, impedes the event
 abbrev is_impeded : State → ℕ → (ℕ → Bool) → Option Event → Bool
@@ -108,15 +100,11 @@ dead_test s k dead free =
 below_in : (k : ℕ) (dead : List ℕ) → are_below k dead ≡ true → (t : ℕ) → is_in dead t ≡ true → t < k
 below_in k [] test t e = absurd (false≢true e)
 below_in k (u ∷ us) test t e =
-    let a = both (nat_lt u k) (are_below k us) test in
-    elim (either (u == t) (is_in us t) e) [
+    let a = and_parts (nat_lt u k) (are_below k us) test in
+    elim (or_cases (u == t) (is_in us t) e) [
       | inl here ↦ subst (λ v. v < k) (eqb-true u t here) (ltb-true u k a.0)
       | inr later ↦ below_in k us a.1 t later
     ]
-
-joined : (a b : Bool) → a ≡ true → b ≡ true → (a && b) ≡ true
-joined true b e f = f
-joined false b e f = absurd (false≢true e)
 
 impeded_is :
     (s : State) (k : ℕ) (dead : List ℕ) (t : ℕ) (o : Option Event) → s.published t ≡ o → is_impeded s k (is_in dead) o ≡ true →
@@ -124,13 +112,13 @@ impeded_is :
 impeded_is s k dead t None is test = absurd (false≢true test)
 impeded_is s k dead t (Some e) is test =
     let at = some_before_is (λ u. is_in dead u && is_below e.n (s.phases u e.p.0)) k test in
-    let has = both (is_in dead at.0) (is_below e.n (s.phases at.0 e.p.0)) at.2 in
+    let has = and_parts (is_in dead at.0) (is_below e.n (s.phases at.0 e.p.0)) at.2 in
     let below = below_is e.n (s.phases at.0 e.p.0) has.1 in
     record {
       event = e;
       waits = is;
       by = at.0;
-      inside = joined (nat_lt at.0 k) (is_in dead at.0) (lt-ltb at.0 k at.1) has.0;
+      inside = and_from (nat_lt at.0 k) (is_in dead at.0) (lt-ltb at.0 k at.1) has.0;
       phase = below.0;
       impedes = below.1;
       below = below.2;
@@ -144,7 +132,7 @@ free_is s k free None e is test u m l phase below = absurd (cc)
 free_is s k free (Some f) e is test u m l phase below =
     let same : f ≡ e = cc in
     let all = subst (λ v. all_before (λ w. is_not (is_below v.n (s.phases w v.p.0)) || is_in free w) k ≡ true) same test in
-    elim (either (is_not (is_below e.n (s.phases u e.p.0))) (is_in free u)
+    elim (or_cases (is_not (is_below e.n (s.phases u e.p.0))) (is_in free u)
     (all_is (λ w. is_not (is_below e.n (s.phases w e.p.0)) || is_in free w) k all u l)) [
       | inl not ↦
           absurd (false≢true
@@ -158,8 +146,8 @@ free_alive :
     is_in free t ≡ true → IsDeadIn s t → ⊥
 free_alive s k tasks [] test t e dead = false≢true e
 free_alive s k tasks (u ∷ free) test t e dead =
-    let a = both (are_free s k free) (is_free s k free (s.published u)) test in
-    elim (either (u == t) (is_in free t) e) [
+    let a = and_parts (are_free s k free) (is_free s k free (s.published u)) test in
+    elim (or_cases (u == t) (is_in free t) e) [
       | inl here ↦
           let same : u ≡ t = eqb-true u t here in
           let one = dead.deadlocked.each t dead.inside in
@@ -177,7 +165,7 @@ module _ (plan : Plan) (some : 0 < length plan.parents) (h : List Step) (run : I
     (test : dead_test (state_after h) (length plan.parents) dead free ≡ true) where
   parts_free : are_free (state_after h) (length plan.parents) free ≡ true
   parts_free =
-      (both (are_free (state_after h) (length plan.parents) free)
+      (and_parts (are_free (state_after h) (length plan.parents) free)
       (are_below (length plan.parents) dead
       && all_before (λ t. if is_in dead t then is_impeded (state_after h) (length plan.parents) (is_in dead) ((state_after h).published t) else is_in free t)
       (length plan.parents))
@@ -188,10 +176,10 @@ module _ (plan : Plan) (some : 0 < length plan.parents) (h : List Step) (run : I
       × all_before (λ t. if is_in dead t then is_impeded (state_after h) (length plan.parents) (is_in dead) ((state_after h).published t) else is_in free t)
       (length plan.parents) ≡ true
   parts_rest =
-      both (are_below (length plan.parents) dead)
+      and_parts (are_below (length plan.parents) dead)
       (all_before (λ t. if is_in dead t then is_impeded (state_after h) (length plan.parents) (is_in dead) ((state_after h).published t) else is_in free t)
       (length plan.parents))
-      (both (are_free (state_after h) (length plan.parents) free)
+      (and_parts (are_free (state_after h) (length plan.parents) free)
       (are_below (length plan.parents) dead
       && all_before (λ t. if is_in dead t then is_impeded (state_after h) (length plan.parents) (is_in dead) ((state_after h).published t) else is_in free t)
       (length plan.parents))
@@ -207,11 +195,15 @@ module _ (plan : Plan) (some : 0 < length plan.parents) (h : List Step) (run : I
   listed_dead : (t : ℕ) → is_in dead t ≡ true → IsDeadIn (state_after h) t
   listed_dead t e = record {
     tasks = λ u. nat_lt u (length plan.parents) && is_in dead u;
-    inside = joined (nat_lt t (length plan.parents)) (is_in dead t) (lt-ltb t (length plan.parents) (below_in (length plan.parents) dead parts_rest.0 t e)) e;
+    inside = and_from (nat_lt t (length plan.parents)) (is_in dead t) (lt-ltb t (length plan.parents) (below_in (length plan.parents) dead parts_rest.0 t e)) e;
     deadlocked = record {
-      some = (t, joined (nat_lt t (length plan.parents)) (is_in dead t) (lt-ltb t (length plan.parents) (below_in (length plan.parents) dead parts_rest.0 t e)) e);
+      some = (
+        t,
+        and_from (nat_lt t (length plan.parents)) (is_in dead t)
+            (lt-ltb t (length plan.parents) (below_in (length plan.parents) dead parts_rest.0 t e)) e,
+      );
       each = λ u inside.
-          let a = both (nat_lt u (length plan.parents)) (is_in dead u) inside in
+          let a = and_parts (nat_lt u (length plan.parents)) (is_in dead u) inside in
           impeded_is (state_after h) (length plan.parents) dead u ((state_after h).published u) refl
           (by_case (is_in dead u) (is_impeded (state_after h) (length plan.parents) (is_in dead) ((state_after h).published u)) (is_in free u) a.1
           (at_task u (ltb-true u (length plan.parents) a.0)));

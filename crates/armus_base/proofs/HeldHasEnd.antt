@@ -17,7 +17,7 @@ use Rattle.armus_base.proofs.AvoidanceAgrees.{plain_unrefused}
 use Rattle.armus_base.proofs.DeadByStatuses.{run_is_of_plan}
 use Rattle.armus_base.proofs.Impeded.{HaveAll, have_still, impeded_or_not}
 use Rattle.armus_base.proofs.EndsTell.{ends_tell}
-use Rattle.armus_base.proofs.MaximalExists.{sum_below, sum_more}
+use Rattle.armus_base.proofs.Sums.{sum_below, sum_more}
 use Rattle.armus_base.proofs.Steps.{updated_is, updated_other, updated_same}
 use Rattle.armus_base.proofs.Tasks.{all_or_one}
 

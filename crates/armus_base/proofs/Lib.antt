@@ -45,6 +45,8 @@ pub mod TwoTasksAvoided
 pub mod Excluded
 pub mod Fronts
 pub mod Elements
+pub mod Lists
+pub mod Sums
 pub mod Walks
 pub mod Counts
 pub mod WalkCycles

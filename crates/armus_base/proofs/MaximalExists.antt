@@ -1,6 +1,6 @@
 -- A maximal plain run of a checked plan, made step by step.
 use Rattle.std.proofs.Common.{◌≡◌, ◌≢◌, ℕ, zero, suc, ◌<◌, ◌≤◌, ◌+◌, true, Option, Some, None, List, [], ◌∷◌, length, arith, sym, ◌∙◌, ap, subst, refl, ◌⊎◌, inl, inr}
-use Rattle.std.proofs.lemmas.Bool.{cases_eq, cases_lt, cases_Bool}
+use Rattle.std.proofs.lemmas.Bool.{cases_lt, cases_Bool}
 use Rattle.armus_base.specs.declared.event.Event.{Event}
 use Rattle.armus_base.specs.Plans.{Action, Passes, Plan, Refuses, action_at, actions, Aim}
 use Rattle.armus_base.specs.States.{IsLegal, Step}
@@ -15,35 +15,7 @@ use Rattle.armus_base.proofs.NextIsLegal.{next_is_legal}
 use Rattle.armus_base.proofs.Published.{published_passes}
 use Rattle.armus_base.proofs.Again.{in_code_plain}
 use Rattle.armus_base.proofs.Tasks.{all_or_one, no_action, begun_within, done_within_code, reached_or_not}
-
--- the sum of the first n values
-pub sum_below : (ℕ → ℕ) → ℕ → ℕ
-sum_below f zero = 0
-sum_below f (suc n) = sum_below f n + f n
-
-sum_at_most : (f g : ℕ → ℕ) → ((u : ℕ) → f u ≤ g u) → (n : ℕ) → sum_below f n ≤ sum_below g n
-unfolding sum_below
-sum_at_most f g l zero = omega arith
-sum_at_most f g l (suc n) = (let a = sum_at_most f g l n in let b = l n in omega arith)
-
--- one more at t
-module _ (f g : ℕ → ℕ) (t : ℕ) (own : g t ≡ suc (f t)) (rest : (u : ℕ) → u ≢ t → g u ≡ f u) where
-  sum_same : (n : ℕ) → n ≤ t → sum_below g n ≡ sum_below f n
-  unfolding sum_below
-  sum_same zero l = refl
-  sum_same (suc n) l = (let a = sum_same n (omega arith) in let b = rest n (λ e. absurd (omega arith)) in omega arith)
-
-  pub sum_more : (n : ℕ) → t < n → sum_below g n ≡ suc (sum_below f n)
-  unfolding sum_below
-  sum_more zero l = absurd (omega arith)
-  sum_more (suc n) l =
-      elim (cases_eq n t) [
-        | inl e ↦
-            (let a = sum_same n (omega arith) in
-            let b : g n ≡ suc (f n) = subst (λ v. g v ≡ suc (f v)) (sym e) own in
-            omega arith)
-        | inr other ↦ (let a = sum_more n (omega arith) in let b = rest n other in omega arith)
-      ]
+use Rattle.armus_base.proofs.Sums.{sum_at_most, sum_below, sum_more}
 
 -- how many actions all tasks have, and how many are done
 pub all_actions : Plan → ℕ

@@ -2,7 +2,7 @@
 use Rattle.std.proofs.Common.{◌≡◌, ◌≢◌, ℕ, zero, suc, ◌<◌, ◌≤◌, max, Bool, true, false, Option, Some, None, List, [], ◌∷◌, length, arith, sym, ◌∙◌, ap, subst, refl, ◌⊎◌, inl, inr}
 use Rattle.std.specs.Prelude.{◌&&◌, ◌||◌, if◌then◌else◌, nat_lt, IsSome}
 use Rattle.std.proofs.lemmas.Bool.Decides.{nat_tests}
-use Rattle.std.proofs.lemmas.Bool.{and_from, cases_Bool, cases_eq, cases_lt, false≢true, lt-ltb, or_cases, or_left, or_right}
+use Rattle.std.proofs.lemmas.Bool.{and_from, cases_Bool, cases_eq, cases_lt, false≢true, lt-ltb, or_cases, or_left, or_right, and_parts}
 use Rattle.armus_base.specs.declared.ending.TaskEnd.TheVariants.{Done}
 use Rattle.armus_base.specs.declared.event.Event.{Event}
 use Rattle.armus_base.specs.calls.AgreementLaws.{IsStuckIn, OnlyForkedMembers, RefusedWasDead, RefusedWasNotDone, RefusedWasStuck, furthest}
@@ -711,10 +711,6 @@ refused_was_stuck plan f s t checked final avoided refused =
 abbrev forked_among : State → (ℕ → Bool) → ℕ → Bool
 forked_among s tasks u = s.forked u && tasks u
 
-and_is : (x y : Bool) → (x && y) ≡ true → (x ≡ true) × (y ≡ true)
-and_is true y e = (refl, e)
-and_is false y e = absurd (false≢true e)
-
 pub stuck_is_dead : (s : State) (t : ℕ) → OnlyForkedMembers s → IsStuckIn s t → s.forked t ≡ true → IsDeadIn s t
 stuck_is_dead s t only_forked stuck now =
     let inside : forked_among s stuck.0 t ≡ true = and_from (s.forked t) (stuck.0 t) now stuck.1 in
@@ -725,7 +721,7 @@ stuck_is_dead s t only_forked stuck now =
           record {
             some = (t, inside);
             each = λ u there.
-                let is = and_is (s.forked u) (stuck.0 u) there in
+                let is = and_parts (s.forked u) (stuck.0 u) there in
                 elim (stuck.2 u is.1) [
                   | inl idle ↦ absurd (let forked = is.0 in cc)
                   | inr held ↦

@@ -1,7 +1,7 @@
 -- Tests that tell of a schedule whether its steps are a plain run without a pass, and whether that run has ended.
-use Rattle.std.proofs.Common.{◌≡◌, ℕ, zero, suc, ◌<◌, Bool, true, false, Option, Some, None, List, [], ◌∷◌, ◌++◌, length, arith, sym, ◌∙◌, ap, subst, refl, ◌⊎◌, inl, inr}
+use Rattle.std.proofs.Common.{◌≡◌, ℕ, zero, suc, ◌<◌, Bool, true, false, Option, Some, None, List, [], ◌∷◌, ◌++◌, length, arith, sym, ◌∙◌, ap, subst, refl, inl, inr}
 use Rattle.std.specs.Prelude.{◌==◌, ◌&&◌, ◌||◌, is_none, is_some, nat_lt, slice_get}
-use Rattle.std.proofs.lemmas.Bool.{cases_eq, eqb-true, false≢true, ltb-true}
+use Rattle.std.proofs.lemmas.Bool.{cases_eq, eqb-true, false≢true, ltb-true, and_parts, or_cases}
 use Rattle.armus_base.specs.declared.event.Event.{Event}
 use Rattle.armus_base.specs.declared.ids.TaskId.{TaskId}
 use Rattle.armus_base.specs.Places.{some_before}
@@ -13,17 +13,13 @@ use Rattle.armus_base.proofs.Fixed.{some_before_is}
 use Rattle.armus_base.proofs.ForkedTasks.{forked_within}
 use Rattle.armus_base.proofs.Members.{plain_undropped}
 
-pub both : (a b : Bool) → (a && b) ≡ true → a ≡ true × b ≡ true
-both true b e = (refl, e)
-both false b e = absurd (false≢true e)
-
 none_is : {A : Type 0} (o : Option A) → is_none o ≡ true → o ≡ None
 none_is None e = refl
 none_is (Some x) e = absurd (false≢true e)
 
-member_is : (o : Option ℕ) → is_some o ≡ true → (n : ℕ) × (o ≡ Some n)
-member_is None e = absurd (false≢true e)
-member_is (Some n) e = (n, refl)
+pub some_is : {A : Type 0} (o : Option A) → is_some o ≡ true → (x : A) × (o ≡ Some x)
+some_is None e = absurd (false≢true e)
+some_is (Some x) e = (x, refl)
 
 abbrev pub is_not : Bool → Bool
 is_not true = false
@@ -56,8 +52,8 @@ active s t = s.forked t && (is_none (s.published t) && is_none (s.refused t))
 
 active_is : (s : State) (t : ℕ) → active s t ≡ true → IsActive s t
 active_is s t e =
-    let a = both (s.forked t) (is_none (s.published t) && is_none (s.refused t)) e in
-    let b = both (is_none (s.published t)) (is_none (s.refused t)) a.1 in
+    let a = and_parts (s.forked t) (is_none (s.published t) && is_none (s.refused t)) e in
+    let b = and_parts (is_none (s.published t)) (is_none (s.refused t)) a.1 in
     record { forked = a.0; unpublished = none_is (s.published t) b.0; unrefused = none_is (s.refused t) b.1 }
 
 -- the step is legal, and no pass and no refusal
@@ -74,27 +70,28 @@ may plan s t (Refuses p) = false
 
 may_is : (plan : Plan) (s : State) (t : ℕ) (x : Action) → may plan s t x ≡ true → IsLegal plan s t x
 may_is plan s t (Makes p) e =
-    let a = both (active s t) (is_made_by t (slice_get plan.makers p) && is_not (s.made p)) e in
-    let b = both (is_made_by t (slice_get plan.makers p)) (is_not (s.made p)) a.1 in
+    let a = and_parts (active s t) (is_made_by t (slice_get plan.makers p) && is_not (s.made p)) e in
+    let b = and_parts (is_made_by t (slice_get plan.makers p)) (is_not (s.made p)) a.1 in
     (active_is s t a.0, made_is t (slice_get plan.makers p) b.0, not_is (s.made p) b.1)
 may_is plan s t (Registers c p) e =
-    let a = both (active s t) (is_drawn_by t (slice_get plan.parents c) && (is_not (s.forked c) && (is_some (s.phases t p) && is_none (s.phases c p)))) e in
-    let b = both (is_drawn_by t (slice_get plan.parents c)) (is_not (s.forked c) && (is_some (s.phases t p) && is_none (s.phases c p))) a.1 in
-    let d = both (is_not (s.forked c)) (is_some (s.phases t p) && is_none (s.phases c p)) b.1 in
-    let f = both (is_some (s.phases t p)) (is_none (s.phases c p)) d.1 in
-    (active_is s t a.0, drawn_is t (slice_get plan.parents c) b.0, not_is (s.forked c) d.0, member_is (s.phases t p) f.0, none_is (s.phases c p) f.1)
+    let a = and_parts (active s t) (is_drawn_by t (slice_get plan.parents c) && (is_not (s.forked c) && (is_some (s.phases t p) && is_none (s.phases c p)))) e
+    in
+    let b = and_parts (is_drawn_by t (slice_get plan.parents c)) (is_not (s.forked c) && (is_some (s.phases t p) && is_none (s.phases c p))) a.1 in
+    let d = and_parts (is_not (s.forked c)) (is_some (s.phases t p) && is_none (s.phases c p)) b.1 in
+    let f = and_parts (is_some (s.phases t p)) (is_none (s.phases c p)) d.1 in
+    (active_is s t a.0, drawn_is t (slice_get plan.parents c) b.0, not_is (s.forked c) d.0, some_is (s.phases t p) f.0, none_is (s.phases c p) f.1)
 may_is plan s t (Forks c) e =
-    let a = both (active s t) (is_drawn_by t (slice_get plan.parents c) && is_not (s.forked c)) e in
-    let b = both (is_drawn_by t (slice_get plan.parents c)) (is_not (s.forked c)) a.1 in
+    let a = and_parts (active s t) (is_drawn_by t (slice_get plan.parents c) && is_not (s.forked c)) e in
+    let b = and_parts (is_drawn_by t (slice_get plan.parents c)) (is_not (s.forked c)) a.1 in
     (active_is s t a.0, drawn_is t (slice_get plan.parents c) b.0, not_is (s.forked c) b.1)
 may_is plan s t (Advances p) e =
-    let a = both (active s t) (is_some (s.phases t p)) e in (active_is s t a.0, member_is (s.phases t p) a.1)
+    let a = and_parts (active s t) (is_some (s.phases t p)) e in (active_is s t a.0, some_is (s.phases t p) a.1)
 may_is plan s t (Drops p) e =
-    let a = both (active s t) (is_some (s.phases t p)) e in
+    let a = and_parts (active s t) (is_some (s.phases t p)) e in
     let is = active_is s t a.0 in
-    (is.forked, is.unpublished, member_is (s.phases t p) a.1, λ some. absurd (false≢true (subst (λ o. is_some o ≡ true) is.unrefused some)))
+    (is.forked, is.unpublished, some_is (s.phases t p) a.1, λ some. absurd (false≢true (subst (λ o. is_some o ≡ true) is.unrefused some)))
 may_is plan s t (Blocks aim) e =
-    let a = both (active s t) (is_some (s.phases t aim.phaser)) e in (active_is s t a.0, member_is (s.phases t aim.phaser) a.1)
+    let a = and_parts (active s t) (is_some (s.phases t aim.phaser)) e in (active_is s t a.0, some_is (s.phases t aim.phaser) a.1)
 may_is plan s t (Passes p) e = absurd (false≢true e)
 may_is plan s t (Refuses p) e = absurd (false≢true e)
 
@@ -135,7 +132,7 @@ one_more plan h run t (Some x) next test = (
 pub run_if : (plan : Plan) (ts : List ℕ) → run_test plan ts ≡ true → IsPlainRun plan (scheduled plan ts)
 run_if plan [] e = (tt, tt)
 run_if plan (t ∷ ts) e =
-    let a = both (run_test plan ts) (step_test plan (scheduled plan ts) t (action_at plan t (places (scheduled plan ts) t).done)) e in
+    let a = and_parts (run_test plan ts) (step_test plan (scheduled plan ts) t (action_at plan t (places (scheduled plan ts) t).done)) e in
     one_more plan (scheduled plan ts) (run_if plan ts a.0) t (action_at plan t (places (scheduled plan ts) t).done) refl a.1
 
 abbrev pub is_below : ℕ → Option ℕ → Bool
@@ -155,10 +152,6 @@ is_held s k (Some e) = some_before (λ u. is_below e.n (s.phases u e.p.0)) k
 abbrev end_test : Plan → State → Place → ℕ → Bool
 end_test plan s place t = is_none (action_at plan t place.done) || is_held s (length plan.parents) (s.published t)
 
-pub either : (a b : Bool) → (a || b) ≡ true → (a ≡ true) ⊎ (b ≡ true)
-either true b e = inl refl
-either false b e = inr e
-
 held_is :
     (plan : Plan) (s : State) (place : Place) (t : ℕ) (o : Option Event) → s.published t ≡ o → is_held s (length plan.parents) o ≡ true →
     HasEnded plan s place t
@@ -170,7 +163,7 @@ held_is plan s place t (Some e) is test =
 
 end_is : (plan : Plan) (s : State) (place : Place) (t : ℕ) → end_test plan s place t ≡ true → HasEnded plan s place t
 end_is plan s place t test =
-    elim (either (is_none (action_at plan t place.done)) (is_held s (length plan.parents) (s.published t)) test) [
+    elim (or_cases (is_none (action_at plan t place.done)) (is_held s (length plan.parents) (s.published t)) test) [
       | inl done ↦ is_done (none_is (action_at plan t place.done) done)
       | inr held ↦ held_is plan s place t (s.published t) refl held
     ]
@@ -182,7 +175,7 @@ all_before test (suc k) = test k && all_before test k
 pub all_is : (test : ℕ → Bool) (k : ℕ) → all_before test k ≡ true → (j : ℕ) → j < k → test j ≡ true
 all_is test zero e j l = absurd (omega arith)
 all_is test (suc k) e j l =
-    let a = both (test k) (all_before test k) e in
+    let a = and_parts (test k) (all_before test k) e in
     elim (cases_eq j k) [ inl same ↦ ap test same ∙ a.0 | inr other ↦ all_is test k a.1 j (omega arith) ]
 
 -- each forked task has come to an end
@@ -199,7 +192,7 @@ maximal_if plan some h run test t forked =
     test
     t
     (forked_within plan some h run.0 t forked) in
-    elim (either (is_not ((state_after h).forked t)) (end_test plan (state_after h) (places h t) t) one) [
+    elim (or_cases (is_not ((state_after h).forked t)) (end_test plan (state_after h) (places h t) t) one) [
       | inl not ↦ absurd (let none = not_is ((state_after h).forked t) not in cc)
       | inr end ↦ end_is plan (state_after h) (places h t) t end
     ]

@@ -124,7 +124,7 @@ pub unfolded-straight : (ops : List Op) → unfolded (straight ops) ≡ ops
 unfolded-straight [] = refl
 unfolded-straight (o ∷ ops) = ap (λ xs. o ∷ xs) (unfolded-straight ops)
 
-straight_whole : (d : ℕ) (ops : List Op) → AreWhole d (straight ops)
+pub straight_whole : (d : ℕ) (ops : List Op) → AreWhole d (straight ops)
 straight_whole d [] = tt
 straight_whole d (o ∷ ops) = straight_whole d ops
 

@@ -1,12 +1,13 @@
 -- The walk to a cycle, on its way and where it comes back.
-use Rattle.std.proofs.Common.{◌≡◌, ℕ, ◌+◌, ◌-◌, ◌<◌, Bool, true, false, List, [], ◌∷◌, ◌++◌, length, sym, ap, ◌∙◌, subst, ◌⊎◌, inl, inr, arith, get_or, set, take, drop, get_or-set_same, get_or-set_other, length-append, length-drop}
+use Rattle.std.proofs.Common.{◌≡◌, ℕ, ◌+◌, ◌-◌, ◌<◌, Bool, true, false, List, [], ◌∷◌, ◌++◌, length, sym, ap, ◌∙◌, subst, inl, inr, arith, get_or, set, take, drop, length-append, length-drop}
 use Rattle.std.specs.Prelude.{Contains, ◌↔◌}
-use Rattle.std.proofs.lemmas.Bool.{cases_eq, cases_lt}
+use Rattle.std.proofs.lemmas.Bool.{cases_lt}
 use Rattle.std.proofs.lemmas.List.{get_or_append_left, get_or_at, get_or-drop, take-append-drop}
 use Rattle.std.proofs.lemmas.List.Elements.{Contains-append_left, Contains-push, Contains-push_cases}
 use Rattle.armus_base.specs.Counts.{IsDistinct}
 use Rattle.armus_base.specs.Relations.{IsWalk, IsWalkCycle}
 use Rattle.armus_base.proofs.Counts.{IsDistinct-push}
+use Rattle.armus_base.proofs.Lists.{set_flag}
 
 -- a walk along R from a start has passed the nodes of a path, each once, and goes on to a node
 pub record IsWalkTo {X : Type 0} (R : X → X → Type 0) (start : X) (path : List X) (node : X) : Type 0 where
@@ -64,14 +65,6 @@ module _ {X : Type 0} (R : X → X → Type 0) (start : X) (path : List X) (node
         some = omega arith;
         back = λ d. rw (whole, first d) (h.next d (omega arith));
       }
-
--- a flag that is set
-set_flag : (xs : List Bool) (i j : ℕ) → i < length xs → (get_or (set xs i true) j false ≡ true) ↔ ((j ≡ i) ⊎ (get_or xs j false ≡ true))
-set_flag xs i j lt =
-    elim (cases_eq j i) [
-      | inl e ↦ (λ _. inl e, λ _. subst (λ k. get_or (set xs i true) k false ≡ true) (sym e) (get_or-set_same xs i true false lt))
-      | inr ne ↦ let f = get_or-set_other xs i j true false ne in (λ h. inr (sym f ∙ h), λ h. elim h [ inl e ↦ absurd (ne e) | inr g ↦ f ∙ g ])
-    ]
 
 -- the flags tell which nodes stand on a path, also where one more does
 pub set_flags :

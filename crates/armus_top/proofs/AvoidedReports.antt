@@ -1,6 +1,6 @@
 -- The report of the end of an avoided run, and the status that tells whether a task is refused.
-use Rattle.std.proofs.Common.{◌≡◌, ◌∙◌, ◌<◌, ◌⊎◌, ◌||◌, ◌++◌, [], ◌∷◌, ℕ, zero, suc, List, length, inl, inr, refl, sym, subst, ap, arith, Bool, true, false, if◌then◌else◌}
-use Rattle.std.proofs.lemmas.Bool.{cases_eq, cases_lt}
+use Rattle.std.proofs.Common.{◌≡◌, ◌∙◌, ◌<◌, ◌||◌, ◌++◌, [], ◌∷◌, ℕ, zero, suc, List, length, inl, inr, refl, sym, subst, ap, arith, Bool, true, false, if◌then◌else◌}
+use Rattle.std.proofs.lemmas.Bool.{cases_eq, cases_lt, or_cases, or_parts}
 use Rattle.std.specs.List.{list_any}
 use Rattle.armus_base.specs.declared.ending.Final.{Final}
 use Rattle.armus_base.specs.declared.ending.TaskEnd.{TaskEnd}
@@ -38,18 +38,10 @@ any_more (y ∷ ys) x = ap (λ (b : Bool). ended_refused y || b) (any_more ys x)
     regroup true b c = refl
     regroup false b c = refl
 
-or_either : (a b : Bool) → (a || b) ≡ true → (a ≡ true) ⊎ (b ≡ true)
-or_either true b e = inl refl
-or_either false b e = inr e
-
-or_neither : (a b : Bool) → (a || b) ≡ false → (a ≡ false) × (b ≡ false)
-or_neither true b e = absurd (cc)
-or_neither false b e = (refl, e)
-
 some_refused : (f : ℕ → TaskEnd) (n : ℕ) → list_any ended_refused (list_below f n) ≡ true → (t : ℕ) × (t < n) × (ended_refused (f t) ≡ true)
 some_refused f zero e = absurd (cc)
 some_refused f (suc n) e =
-    elim (or_either (list_any ended_refused (list_below f n)) (ended_refused (f n)) (sym (any_more (list_below f n) (f n)) ∙ e)) [
+    elim (or_cases (list_any ended_refused (list_below f n)) (ended_refused (f n)) (sym (any_more (list_below f n) (f n)) ∙ e)) [
       | inl before ↦ let found = some_refused f n before in (found.0, omega arith, found.2)
       | inr here ↦ (n, omega arith, here)
     ]
@@ -57,7 +49,7 @@ some_refused f (suc n) e =
 none_refused : (f : ℕ → TaskEnd) (n : ℕ) → list_any ended_refused (list_below f n) ≡ false → (t : ℕ) → t < n → ended_refused (f t) ≡ false
 none_refused f zero e t l = absurd (omega arith)
 none_refused f (suc n) e t l =
-    let none = or_neither (list_any ended_refused (list_below f n)) (ended_refused (f n)) (sym (any_more (list_below f n) (f n)) ∙ e) in
+    let none = or_parts (list_any ended_refused (list_below f n)) (ended_refused (f n)) (sym (any_more (list_below f n) (f n)) ∙ e) in
     elim (cases_lt t n) [
       | inl before ↦ none_refused f n none.0 t before
       | inr here ↦ let same : n ≡ t = omega arith in subst (λ k. ended_refused (f k) ≡ false) same none.1

@@ -53,7 +53,7 @@ closed_length : (input closed : Text) → IsClosedText input closed → length c
 closed_length input closed (inl (same, ends)) = omega (arith, ap length same)
 closed_length input closed (inr (longer, unclosed)) = omega (arith, ap length longer, length-append input (10 ∷ []))
 
-unmarked : (text : Text) (p : Program) → IsText text p → HasNoMark text
+pub unmarked : (text : Text) (p : Program) → IsText text p → HasNoMark text
 unmarked text p is rest = (
   λ e. (no_line_is_a_mark p rest).0 (subst (λ t. IsText t p) e is),
   λ front e. (no_line_is_a_mark p rest).1 front (subst (λ t. IsText t p) e is),

@@ -18,7 +18,8 @@ use Rattle.armus_top.specs.ClockRuns.{HasTextEnds, IsClockRunOf}
 use Rattle.armus_top.specs.Runs.{IsRunOutput}
 
 -- a program with a plan has an unfolding, whose plan it is
-unfolding_of : (program : ClockTree) (plan : Plan) → clock_plan_of program ≡ Ok plan → (u : ClockUnfolding) × (clock_unfolded program ≡ Ok u) × (plan_of_moves u ≡ plan)
+pub unfolding_of : (program : ClockTree) (plan : Plan) → clock_plan_of program ≡ Ok plan → (u : ClockUnfolding) × (clock_unfolded program ≡ Ok u) ×
+    (plan_of_moves u ≡ plan)
 unfolding clock_plan_of
 unfolding_of program plan e =
     let parts = bind_ok (clock_unfolded program) (λ s. Ok (plan_of_moves s)) plan e in (parts.0, parts.1, ok_is _ _ parts.2)

@@ -6,6 +6,7 @@ use Rattle.std.specs.List.{list_all}
 use Rattle.std.specs.Str.{bytes_eq}
 use Rattle.std.proofs.lemmas.Slice.Eq.{bytes_eq-Decides}
 use Rattle.std.proofs.lemmas.Grind.{common_steps}
+use Rattle.std.proofs.lemmas.Bool.{and_parts, and_from}
 use Rattle.armus_words.proofs.Meaning.{first_is, named_is, no_option}
 use Rattle.armus_words.specs.Words.{Text, Use, valued, flag, AreUses, AreWords, IsValue, StandsAlone, all_words}
 use Rattle.armus_words.specs.Words.{dashed, first_word, has_option, has_value_alone, is_value_byte, option_of, options_of, wants_value, without}
@@ -22,13 +23,6 @@ head_is e = cc
 tail_is : {x y : Text} {xs ys : List Text} → x ∷ xs ≡ y ∷ ys → xs ≡ ys
 tail_is e = cc
 
-and_true : (a b : Bool) → (a && b) ≡ true → (a ≡ true) × (b ≡ true)
-and_true true b e = (refl, e)
-and_true false b e = absurd (cc)
-
-both_true : (a b : Bool) → a ≡ true → b ≡ true → (a && b) ≡ true
-both_true a b e f = rw e f
-
 same_text : (x y : Text) → bytes_eq x y ≡ true → x ≡ y
 same_text x y e = (bytes_eq-Decides x y).0 e
 
@@ -36,8 +30,8 @@ same_text x y e = (bytes_eq-Decides x y).0 e
 
 pub value_from : (v : Text) → is_value v ≡ true → IsValue v
 value_from v e =
-    let some = and_true (nat_le 1 (length v)) (nat_le (length v) MAX_VALUE_BYTES && list_all is_value_byte v) e in
-    let rest = and_true (nat_le (length v) MAX_VALUE_BYTES) (list_all is_value_byte v) some.1 in
+    let some = and_parts (nat_le 1 (length v)) (nat_le (length v) MAX_VALUE_BYTES && list_all is_value_byte v) e in
+    let rest = and_parts (nat_le (length v) MAX_VALUE_BYTES) (list_all is_value_byte v) some.1 in
     let first : nat_le 1 (length v) ≡ true = some.0 in
     let second : nat_le (length v) MAX_VALUE_BYTES ≡ true = rest.0 in
     record { some = grind (arith, common_steps); short = grind (arith, common_steps); plain = rest.1 }
@@ -46,8 +40,8 @@ pub value_test : (v : Text) → IsValue v → is_value v ≡ true
 value_test v is =
     let some : 1 ≤ length v = is.some in
     let short : length v ≤ MAX_VALUE_BYTES = is.short in
-    both_true (nat_le 1 (length v)) _ (grind (arith, common_steps))
-    (both_true (nat_le (length v) MAX_VALUE_BYTES) (list_all is_value_byte v) (grind (arith, common_steps)) is.plain)
+    and_from (nat_le 1 (length v)) _ (grind (arith, common_steps))
+    (and_from (nat_le (length v) MAX_VALUE_BYTES) (list_all is_value_byte v) (grind (arith, common_steps)) is.plain)
 
 -- ---- an option word
 
@@ -168,7 +162,7 @@ no_more (x ∷ xs) e = let above : nat_le (length (x ∷ xs)) 0 ≡ true = e in 
 alone_decoded : (free : Free) (alone : Bool) (word : Text) (rest : List Text) → (alone && (nat_le (length rest) 0 && is_value word)) ≡ true → Decoded free alone (word ∷ rest)
 alone_decoded free false word rest e = absurd (cc)
 alone_decoded free true word rest e =
-    let parts = and_true (nat_le (length rest) 0) (is_value word) e in
+    let parts = and_parts (nat_le (length rest) 0) (is_value word) e in
     record {
       uses = [];
       value = Some word;
@@ -182,14 +176,14 @@ by_option : (free : Free) (alone : Bool) (word : Text) (rest : List Text) (found
     → ((w : Bool) (f : Free) → fits w f alone rest ≡ true → DecodedFrom w f alone rest) → Decoded free alone (word ∷ rest)
 by_option free alone word rest None e h more = alone_decoded free alone word rest h
 by_option free alone word rest (Some o) e h more =
-    let parts = and_true (is_free free o) (fits (wants_value o) (taken_off free o) alone rest) h in
+    let parts = and_parts (is_free free o) (fits (wants_value o) (taken_off free o) alone rest) h in
     subst (λ w. Decoded free alone (w ∷ rest)) (sym (named_word word o e))
     (with_use free alone o rest (wants_value o) refl parts.0 (more (wants_value o) (taken_off free o) parts.1))
 
 pub decoded : (waits : Bool) (free : Free) (alone : Bool) (words : List Text) → fits waits free alone words ≡ true → DecodedFrom waits free alone words
 decoded true free alone [] h = absurd (cc)
 decoded true free alone (word ∷ rest) h =
-    let parts = and_true (is_value word) (fits false free alone rest) h in
+    let parts = and_parts (is_value word) (fits false free alone rest) h in
     (word, value_from word parts.0, rest, refl, decoded false free alone rest parts.1)
 decoded false free true [] h = absurd (cc)
 decoded false free false [] h = record { uses = []; value = None; words_are = refl; uses_fit = tt; value_fits = tt }

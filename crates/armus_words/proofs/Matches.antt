@@ -15,10 +15,10 @@ use Rattle.armus_words.specs.declared.table.FirstWord.{FirstWord}
 use Rattle.armus_words.specs.declared.table.FirstWord.TheVariants as first
 use Rattle.armus_words.specs.declared.table.OptionWord.{OptionWord}
 use Rattle.armus_words.specs.declared.table.OptionWord.TheVariants.{Print, Workers, Graph, Live, Kept, Sites}
-use Rattle.std.proofs.lemmas.Bool.{cases_Bool}
+use Rattle.std.proofs.lemmas.Bool.{cases_Bool, or_parts}
 use Rattle.std.proofs.lemmas.Slice.Eq.{bytes_eq-Decides}
 use Rattle.armus_words.proofs.Meaning.{names_differ, one_name}
-use Rattle.armus_words.proofs.Rows.{has_row_pushed, or_false, or_true}
+use Rattle.armus_words.proofs.Rows.{has_row_pushed, or_true}
 use Rattle.armus_words.proofs.Steps.{ended, finished_is, knows_all, rules_for, unused_row, use_row, with_unused}
 use Rattle.armus_words.proofs.Passes.{shape_with}
 use Rattle.armus_words.proofs.Walks.{Before, after_all, passes_all, rows_all, settles_all, walked_all}
@@ -132,13 +132,13 @@ text_stays id os rows (Some r) t is e = ap text_in (keeps_ended id os rows r is)
 find_none : (id : Text) (rows : List Row) → has_row id rows ≡ false → find_row id rows ≡ None
 find_none id [] e = refl
 find_none id (x ∷ xs) e =
-    let parts = or_false (bytes_eq x.id id) (has_row id xs) e in
+    let parts = or_parts (bytes_eq x.id id) (has_row id xs) e in
     rw parts.0 (find_none id xs parts.1)
 
 find_last : (id : Text) (rows : List Row) (r : Row) → has_row id rows ≡ false → bytes_eq r.id id ≡ true → find_row id (rows ++ r ∷ []) ≡ Some r
 find_last id [] r e is = rw is refl
 find_last id (x ∷ xs) r e is =
-    let parts = or_false (bytes_eq x.id id) (has_row id xs) e in
+    let parts = or_parts (bytes_eq x.id id) (has_row id xs) e in
     rw parts.0 (find_last id xs r parts.1 is)
 
 -- the row of another flag that is not used does not make a row under this name

@@ -1,6 +1,7 @@
 -- Each store makes the next action of the task whose seat makes it, and keeps the rule.
-use Rattle.std.proofs.Common.{◌≡◌, ◌≢◌, ℕ, ◌<◌, Bool, true, false, List, Option, Some, None, length, set, sym, refl, ap, ◌∙◌, subst, inl, inr}
+use Rattle.std.proofs.Common.{◌≡◌, ◌≢◌, ℕ, ◌<◌, true, false, List, Option, Some, None, length, set, sym, refl, ap, ◌∙◌, subst, inl, inr}
 use Rattle.std.specs.Prelude.{unwrap_or}
+use Rattle.std.proofs.lemmas.Bool.{true_from_ne_false}
 use mathlib.Core.Option.{some}
 use lib.ListN.{get_elem?}
 use Rattle.atomic_table.specs.Table.{State as TableState, keeps, stepped}
@@ -42,10 +43,6 @@ pub record Sits (plan : Plan) (mode : Mode) (s : T) (l : IsKeptBy plan mode s) (
 seat_steps : (i : ℕ) → by_seat i ≡ not_yet → ⊥
 seat_steps i e = cc
 
-pub true_unless : (b : Bool) → (b ≡ false → ⊥) → b ≡ true
-true_unless true n = refl
-true_unless false n = absurd (n refl)
-
 pub sits : (plan : Plan) (mode : Mode) (s : T) (l : IsKeptBy plan mode s) (id : ℕ) (v : View) (t : ℕ) → v.own ≡ Some t → v.spent ≡ false →
     get_elem? s.views id ≡ some v → Sits plan mode s l id v t
 sits plan mode s l id v t own live found =
@@ -58,7 +55,7 @@ sits plan mode s l id v t own live found =
       alone = o.alone;
       task = task;
       place = ap (place_in v.sight.places) task ∙ sym (f.far.equal t o.within o.exact);
-      forked = true_unless (forked_at plan (done_by l.places) t) (λ e. seat_steps id (sym o.alone ∙ (l.seated.forks t).0 e));
+      forked = true_from_ne_false (forked_at plan (done_by l.places) t) (λ e. seat_steps id (sym o.alone ∙ (l.seated.forks t).0 e));
     }
 
 -- what comes next by the code, at the place of the seat's task

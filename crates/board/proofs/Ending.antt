@@ -1,7 +1,7 @@
 -- A viewer takes in the seat of a task.
 use Rattle.std.proofs.Common.{◌≡◌, ◌≢◌, ℕ, zero, suc, ◌<◌, ◌≤◌, Bool, true, false, List, [], ◌∷◌, ◌++◌, Option, Some, None, length, set, sym, refl, ap, ap₂, ◌∙◌, subst, arith, inl, inr, ◌⊎◌, eq-eqb, eqb-true}
 use Rattle.std.specs.Prelude.{◌==◌, ◌||◌, ◌&&◌, if◌then◌else◌, nat_le, unwrap_or}
-use Rattle.std.proofs.lemmas.Bool.{cases_eq, cases_lt, false≢true, le-leb, leb-true}
+use Rattle.std.proofs.lemmas.Bool.{cases_eq, cases_lt, false≢true, le-leb, leb-true, and_parts, or_cases, or_right}
 use mathlib.Core.Option.{some, none}
 use lib.ListN.{get_elem?}
 use Rattle.atomic_table.specs.Table.{Allows, Joins, Me, State as TableState, keeps, step}
@@ -70,18 +70,13 @@ longer_count [] ys e = refl
 longer_count (x ∷ xs) [] e = absurd (omega arith)
 longer_count (x ∷ xs) (y ∷ ys) e = (let r = longer_count xs ys (omega arith) in omega arith)
 
-pub both_true : (x y : Bool) → (x && y) ≡ true → (x ≡ true) × (y ≡ true)
-both_true true true e = (refl, refl)
-both_true true false e = absurd (false≢true e)
-both_true false y e = absurd (false≢true e)
-
 pub longer_at :
     (xs ys : List Place) → length xs ≡ length ys → are_of_one_run xs ys ≡ true → (u : ℕ) → IsLonger (place_in xs u) (place_in ys u) (place_in (longer_places xs ys) u)
 longer_at [] [] e h u = inl (refl, (let z : 0 ≤ 0 = omega arith in z))
 longer_at [] (y ∷ ys) e h u = absurd (omega arith)
 longer_at (x ∷ xs) [] e h u = absurd (omega arith)
-longer_at (x ∷ xs) (y ∷ ys) e h zero = longer_is x y (both_true (is_prefix x y || is_prefix y x) (are_of_one_run xs ys) h).0
-longer_at (x ∷ xs) (y ∷ ys) e h (suc u) = longer_at xs ys (omega arith) (both_true (is_prefix x y || is_prefix y x) (are_of_one_run xs ys) h).1 u
+longer_at (x ∷ xs) (y ∷ ys) e h zero = longer_is x y (and_parts (is_prefix x y || is_prefix y x) (are_of_one_run xs ys) h).0
+longer_at (x ∷ xs) (y ∷ ys) e h (suc u) = longer_at xs ys (omega arith) (and_parts (is_prefix x y || is_prefix y x) (are_of_one_run xs ys) h).1 u
 
 one_run :
     (xs ys : List Place) → length xs ≡ length ys →
@@ -107,14 +102,6 @@ among_last xs ys t u = among_either (xs ++ ys) (t ∷ []) u ∙ ap₂ (λ a b. a
     or_none true = refl
     or_none false = refl
 
-or_cases : (a b : Bool) → (a || b) ≡ true → (a ≡ true) ⊎ (b ≡ true)
-or_cases true b e = inl refl
-or_cases false b e = inr e
-
-or_right : (x y : Bool) → y ≡ true → (x || y) ≡ true
-or_right true y e = refl
-or_right false y e = e
-
 -- the tests that of each of some tasks one view's place is further on, and what they tell
 ahead_each : (us : List ℕ) (xs ys : List Place) → ((u : ℕ) → is_among us u ≡ true → IsPrefix (place_in ys u) (place_in xs u)) → are_ahead us xs ys ≡ true
 ahead_each [] xs ys each = refl
@@ -127,7 +114,7 @@ ahead_each (t ∷ us) xs ys each =
 pub ahead_at : (us : List ℕ) (xs ys : List Place) → are_ahead us xs ys ≡ true → (u : ℕ) → is_among us u ≡ true → IsPrefix (place_in ys u) (place_in xs u)
 ahead_at [] xs ys e u is = absurd (false≢true is)
 ahead_at (t ∷ us) xs ys e u is =
-    let two = both_true (is_prefix (place_in ys t) (place_in xs t)) (are_ahead us xs ys) e in
+    let two = and_parts (is_prefix (place_in ys t) (place_in xs t)) (are_ahead us xs ys) e in
     elim (or_cases (u == t) (is_among us u) is) [
       | inl h ↦ subst (λ (z : ℕ). IsPrefix (place_in ys z) (place_in xs z)) (sym (eqb-true u t h))
           (precedes_from (place_in ys t).done (place_in ys t).dropped (place_in xs t).done (place_in xs t).dropped two.0)

@@ -20,7 +20,7 @@ use Rattle.armus_base.proofs.Fixed.{phases_forked}
 use Rattle.armus_base.proofs.Steps.{updated_other, updated_same}
 use Rattle.armus_base.proofs.Published.{kept_is}
 use Rattle.armus_base.proofs.LawfulPlaces.{lawful_places_are_of}
-use Rattle.armus_base.proofs.KeepsFar.{prefixes_both, scan_goes}
+use Rattle.armus_base.proofs.KeepsFar.{prefixes_both, scan_goes, first_or_not}
 use Rattle.armus_base.proofs.BoardRuns.{lawful_is_reachable}
 use Rattle.armus_base.proofs.Reachable.{reachable_is_fixed}
 use Rattle.board.specs.declared.mode.Mode.{Mode}
@@ -165,14 +165,6 @@ phase_or_not (Some m) (Some n) = elim (cases_eq m n) [ inl e ↦ inl (ap Some e)
   where
     some_same : (m n : ℕ) → Some m ≡ Some n → m ≡ n
     some_same m n h = cc
-
-first_or_not : (b : Place) → (b ≡ first_place) ⊎ (b ≢ first_place)
-first_or_not b = by_parts b.done b.dropped refl refl
-  where
-    by_parts : (k : ℕ) (o : Option ℕ) → b.done ≡ k → b.dropped ≡ o → (b ≡ first_place) ⊎ (b ≢ first_place)
-    by_parts zero None a e = inl (λ i. record { done = a i; dropped = e i })
-    by_parts zero (Some d) a e = inr (λ h. let f = ap (λ (x : Place). x.dropped) h in cc)
-    by_parts (suc k) o a e = inr (λ h. let f : b.done ≡ 0 = ap (λ (x : Place). x.done) h in omega arith)
 
 -- what a holder of the lock adds to its finds
 abbrev seen_value : Found → Seen

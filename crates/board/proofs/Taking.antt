@@ -1,6 +1,7 @@
 -- What a viewer has seen after it took in a seat.
 use Rattle.std.proofs.Common.{◌≡◌, ℕ, true, [], ◌∷◌, Option, Some, None, length, sym, refl, ap, ◌∙◌, subst, arith, eq-eqb}
 use Rattle.std.specs.Prelude.{◌&&◌, ◌||◌}
+use Rattle.std.proofs.lemmas.Bool.{and_parts}
 use Rattle.atomic_table.specs.Seated.{TableId}
 use Rattle.armus_base.specs.Plans.{Plan}
 use Rattle.armus_base.specs.calls.Seats.{IsSeenAfterTakingIn}
@@ -9,7 +10,7 @@ use Rattle.board.specs.calls.Views.{is_among, place_in, seen, task_of}
 use Rattle.board.specs.calls.Steps.{are_ahead, are_of_one_run, both, longer_places, may_join, with_seat}
 use Rattle.board.specs.calls.Seats.{IsSeat, TakesIn}
 use Rattle.board.proofs.Closing.{some_task}
-use Rattle.board.proofs.Ending.{ahead_at, among_last, both_true, longer_at, longer_count, longer_left, longer_right, was_joined}
+use Rattle.board.proofs.Ending.{ahead_at, among_last, longer_at, longer_count, longer_left, longer_right, was_joined}
 
 none_some : (o : Option ℕ) (u : ℕ) → o ≡ None → o ≡ Some u → ⊥
 none_some o u a b = cc
@@ -27,11 +28,11 @@ module _ (table : TableId) (v w x : View) (alone : v.own ≡ None) (mine : IsSea
 
   tests : are_of_one_run v.sight.places w.sight.places ≡ true ×
       (are_ahead (task_of w ∷ []) w.sight.places v.sight.places && are_ahead v.sight.exact v.sight.places w.sight.places) ≡ true
-  tests = both_true (are_of_one_run v.sight.places w.sight.places)
+  tests = and_parts (are_of_one_run v.sight.places w.sight.places)
       (are_ahead (task_of w ∷ []) w.sight.places v.sight.places && are_ahead v.sight.exact v.sight.places w.sight.places) joined.1
 
   ahead : are_ahead (task_of w ∷ []) w.sight.places v.sight.places ≡ true × are_ahead v.sight.exact v.sight.places w.sight.places ≡ true
-  ahead = both_true (are_ahead (task_of w ∷ []) w.sight.places v.sight.places) (are_ahead v.sight.exact v.sight.places w.sight.places) tests.1
+  ahead = and_parts (are_ahead (task_of w ∷ []) w.sight.places v.sight.places) (are_ahead v.sight.exact v.sight.places w.sight.places) tests.1
 
   own_with : place_in (longer_places v.sight.places w.sight.places) (task_of w) ≡ place_in w.sight.places (task_of w)
   own_with =

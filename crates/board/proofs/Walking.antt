@@ -18,6 +18,7 @@ use Rattle.board.specs.calls.Seats.{Frame, aim_at, IsNewSeat, IsSeat, Known, Mak
 use Rattle.board.specs.inside.Walking.{HasLeft, IsActionOfPlan, begins, left_of}
 use Rattle.board.specs.calls.Steps.{IsSameSeat, WasSo}
 use Rattle.armus_base.proofs.MemberPhasers.{phaser_of_member}
+pub use Rattle.armus_base.proofs.Lists.{first_and_rest as next_left}
 use Rattle.board.proofs.Loaded.{event_stays, own_stays}
 use Rattle.board.proofs.Seated.{event_here, next_there, not_awaited, place_made}
 
@@ -162,12 +163,7 @@ pub record IsBefore (op : Op) (rest : List Op) (k : Known) : Type 0 where
   pub left : HasLeft (op ∷ rest) k
   pub idle : event_of k ≡ None
 
--- what is left where this op is the next one
-pub next_left : (ops : List Op) (op : Op) → slice_get ops 0 ≡ Some op → ops ≡ op ∷ drop 1 ops
-next_left [] op e = absurd (cc)
-next_left (x ∷ ops) op e = cc
-
--- and what is left behind it
+-- what is left behind the next op
 pub left_behind : (r : Option Op) (old new : List Op) → IfSome r (λ op. old ≡ op ∷ new) → IfNone r ((old ≡ []) × (new ≡ [])) → new ≡ drop 1 old
 left_behind None old new some none = none.1 ∙ sym (ap (drop 1) none.0)
 left_behind (Some op) old new some none = sym (ap (drop 1) some)

@@ -1,7 +1,7 @@
 -- One stage more on the way to the first fault.
-use Rattle.std.proofs.Common.{◌≡◌, ℕ, suc, ◌+◌, ◌-◌, ◌*◌, ◌<◌, ◌≤◌, ◌^◌, Bool, true, false, not, List, [], ◌∷◌, ◌++◌, length, Option, Some, None, Ok, Err, append_assoc, arith, sym, ◌∙◌, ap, subst, refl}
+use Rattle.std.proofs.Common.{◌≡◌, ℕ, suc, ◌+◌, ◌-◌, ◌*◌, ◌<◌, ◌≤◌, ◌^◌, Bool, true, false, List, [], ◌∷◌, ◌++◌, length, Option, Some, None, Ok, Err, append_assoc, arith, sym, ◌∙◌, ap, subst, refl}
 use Rattle.std.specs.Prelude.{map, nat_lt, slice_index_or}
-use Rattle.std.proofs.lemmas.Bool.{false≢true, ltb-true}
+use Rattle.std.proofs.lemmas.Bool.{ltb-true, not-false}
 use Rattle.std.proofs.lemmas.List.{length-append}
 use Rattle.armus_base.specs.declared.ids.TaskId.{TaskId}
 use Rattle.pl_syntax.specs.Tree.{new_task, new_phaser, reg, dereg, adv, await, skip}
@@ -30,10 +30,6 @@ use Rattle.check_scenes.proofs.LastTurnsOn.{last_turns_on, turn_few, turns_on}
 use Rattle.check_scenes.proofs.Last.{tells_more}
 use Rattle.check_scenes.proofs.NotesFitting.{notes_fit}
 
-not_false : (b : Bool) → not b ≡ false → b ≡ true
-not_false true e = refl
-not_false false e = absurd (false≢true (sym e))
-
 -- one visit more
 visits_after : (t n : ℕ) (c : Coming) (s : UnfoldingState) → (after_stage (comes t (record { statement = n; coming = c })) s).visits ≡ s.visits + 1
 visits_after t n (a_plain (new_task x)) s = refl
@@ -48,7 +44,7 @@ visits_after t n a_loop s = refl
 visits_after t n a_turn s = refl
 
 visit_left : (s : UnfoldingState) (t : ℕ) (c : Coming) → Passes s t c → s.visits < 4194304
-visit_left s t c passes = ltb-true s.visits 4194304 (not_false (nat_lt s.visits 4194304) (passes _ (0, omega arith, refl)))
+visit_left s t c passes = ltb-true s.visits 4194304 (not-false (nat_lt s.visits 4194304) (passes _ (0, omega arith, refl)))
 
 module _ (g : Source) where
   abbrev two : Bool

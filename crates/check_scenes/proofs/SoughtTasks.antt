@@ -12,7 +12,7 @@ use Rattle.pl_plan.specs.inside.CheckerSteps.{thing_of}
 use Rattle.pl_plan.specs.inside.Shows.{MaybeStartShows, ShowsState}
 use Rattle.pl_plan.specs.inside.Steps.{IsSpelled}
 use Rattle.pl_plan.specs.declared.step.Step.{Step}
-use Rattle.pl_plan.proofs.Beginning.{kept_begun, ready}
+use Rattle.pl_plan.proofs.Beginning.{kept_begun, ready, range_is}
 use Rattle.pl_plan.proofs.Keeping.{padded_same}
 use Rattle.pl_plan.proofs.Unfolds as unfolds
 use Rattle.check_scenes.specs.Turns.{turn_in}
@@ -48,11 +48,6 @@ record FoundStart (names : ℕ → List ℕ) (k : Checker) (s : UnfoldingState) 
   first_is : start.first ≡ first + 1
   spelled : IsSpelled (length k.bindings.slots) names k.steps first start.body after
   shows : ShowsState names (with_start_things (slice_index_or k.starts t None) k) (with_names start.names s)
-
-range_is : (first after : ℕ) (s : CheckerStart) → Some (first, after) ≡ range_of (Some s) → (first ≡ s.first) × (after ≡ s.after)
-range_is first after s e =
-    let p : ◌≡◌ {A = ℕ × ℕ} (first, after) (s.first, s.after) = cc in
-    (ap (λ x. x.0) p, ap (λ x. x.1) p)
 
 found_by :
     (names : ℕ → List ℕ) (k : Checker) (s : UnfoldingState) (t first after : ℕ) (o : Option Start) (o' : Option CheckerStart) → slice_index_or s.starts t None ≡ o →

@@ -40,7 +40,7 @@ answer n (Some kind) w = Err (fault kind n)
 
 -- ---- what a coming answers
 
-bind_assoc : {A B C : Type 0} (o : Outcome A) (f : A → Outcome B) (g : B → Outcome C) → ((o >>= f) >>= g) ≡ (o >>= λ x. f x >>= g)
+pub bind_assoc : {A B C : Type 0} (o : Outcome A) (f : A → Outcome B) (g : B → Outcome C) → ((o >>= f) >>= g) ≡ (o >>= λ x. f x >>= g)
 bind_assoc (Ok x) f g = refl
 bind_assoc (Err e) f g = refl
 

@@ -8,10 +8,10 @@ use Rattle.std.proofs.lemmas.List.{length-append}
 use Rattle.std.proofs.lemmas.Option.{slice_get_past}
 use Rattle.armus_base.specs.Limits.{max_ops, max_phasers, max_tasks}
 use Rattle.armus_base.specs.Pieces.{times}
+use Rattle.armus_base.proofs.Lists.{slice_get-append}
 use Rattle.pl_plan.specs.Limits.{max_visits}
 use Rattle.pl_plan.specs.Unfolding.{Outcome, ◌>>=◌, fault_unless, has_cells}
 use Rattle.pl_plan.specs.declared.fault.CheckFault.{CheckFault}
-use Rattle.pl_plan.proofs.Growth.{slice_get-append}
 use Rattle.pl_plan.proofs.Tables.{slice_get-last}
 use Rattle.clock_syntax.specs.Trees.{ClockPlain, ClockTree, advance, async, clock, clock_count, done, drop, finish, loop, plain, resume, skip}
 use Rattle.clock_moves.specs.calls.Laws.{ClockFaultIsOfText}

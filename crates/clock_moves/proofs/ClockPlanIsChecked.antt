@@ -1,8 +1,8 @@
 -- The plan to which a clock program unfolds is checked.
-use Rattle.std.proofs.Common.{◌≡◌, ℕ, zero, suc, ◌+◌, ◌-◌, ◌<◌, ◌≤◌, Bool, false, Ok, Option, Some, None, List, [], ◌∷◌, length, arith, sym, ◌∙◌, ap, subst, refl}
+use Rattle.std.proofs.Common.{◌≡◌, ℕ, zero, suc, ◌+◌, ◌-◌, ◌≤◌, Bool, false, Ok, Option, Some, None, [], ◌∷◌, length, arith, sym, ◌∙◌, ap, subst, refl}
 use Rattle.std.specs.Prelude.{is_some, map, slice_get, sum_by}
 use Rattle.std.proofs.lemmas.List.{get_or-map, length-map}
-use Rattle.std.proofs.lemmas.Option.{slice_get_past}
+use Rattle.std.proofs.lemmas.Option.{slice_get_past, slice_get_within}
 use Rattle.armus_base.specs.Limits.{max_tasks}
 use Rattle.armus_base.specs.CheckedPlans.{IsCheckedPlan}
 use Rattle.armus_base.proofs.CheckedByCodes.{checked_by_codes}
@@ -76,16 +76,10 @@ pub record IsBetween (t : ℕ) (u : ClockUnfolding) : Type 0 where
   pub idle : (a : ℕ) → t ≤ a → moves_at u a ≡ []
   pub counted : u.ops ≡ sum_by length (map code_of_moves u.moves)
 
-within : {A : Type 0} (xs : List A) (k : ℕ) (x : A) → slice_get xs k ≡ Some x → k < length xs
-within [] zero x e = absurd cc
-within [] (suc k) x e = absurd cc
-within (y ∷ xs) zero x e = omega arith
-within (y ∷ xs) (suc k) x e = omega (arith, within xs k x e)
-
 -- an activity begins
 pub begins_known : (t : ℕ) (u : ClockUnfolding) (start : ClockStart) → IsBetween t u → slice_get u.starts t ≡ Some start → IsUnfolding t (with_known start.known u)
 begins_known t u start h e =
-    let inside = within u.starts t start e in
+    let inside = slice_get_within u.starts t start e in
     let many = length-map u.starts as_forked in
     let same = h.sound.starts in
     record {

@@ -4,9 +4,10 @@ use Rattle.std.specs.Prelude.{Contains, slice_get}
 use Rattle.std.proofs.lemmas.Bool.{cases_eq}
 use Rattle.std.proofs.lemmas.List.{get_or-set_other, get_or-set_same, length-append, length-map}
 use Rattle.std.proofs.lemmas.List.Elements.{Contains-append_cases}
-use Rattle.std.proofs.lemmas.Option.{slice_get-get_or}
+use Rattle.std.proofs.lemmas.Option.{slice_get-get_or, slice_get_within}
 use Rattle.armus_base.proofs.Elements.{Contains-cons_cases, nothing_in_nil}
 use Rattle.armus_base.specs.Limits.{max_tasks}
+use Rattle.armus_base.proofs.Lists.{past_end}
 use Rattle.pl_plan.proofs.Places.{at_more}
 use Rattle.pl_plan.proofs.VisitsLeave.{bind_ok, ok_is}
 use Rattle.clock_moves.specs.calls.Laws.{EachActivityStops, HoldsNoStop}
@@ -117,24 +118,13 @@ stops_now t u w h s =
 
 -- ---- all activities
 
-within : {A : Type 0} (xs : List A) (k : ℕ) (x : A) → slice_get xs k ≡ Some x → k < length xs
-within [] zero x e = absurd cc
-within [] (suc k) x e = absurd cc
-within (y ∷ xs) zero x e = omega arith
-within (y ∷ xs) (suc k) x e = omega (arith, within xs k x e)
-
-past_end : {A : Type 0} (xs : List A) (k : ℕ) → slice_get xs k ≡ None → length xs ≤ k
-past_end [] k e = omega arith
-past_end (y ∷ xs) zero e = absurd cc
-past_end (y ∷ xs) (suc k) e = omega (arith, past_end xs k e)
-
 activity_stops : (t : ℕ) (u w : ClockUnfolding) (o : Option ClockStart) → HaveStopped t u → slice_get u.starts t ≡ o → unfold_started t o u ≡ Ok w → HaveStopped (t + 1) w
 activity_stops t u w None h is e =
     subst (HaveStopped (t + 1)) (ok_is _ _ e)
     (record { between = passes_over t u h.between; past = λ a l there. h.past a (omega (arith, past_end u.starts t is)) there })
 activity_stops t u w (Some start) h is e =
     let a = bind_ok (come_all t (comings_of start.first start.body) (with_known start.known u)) (stop t (start.first - 1)) w e in
-    let there = within u.starts t start is in
+    let there = slice_get_within u.starts t start is in
     stops_now t a.0 w
     (comings_keep (HasNotStopped t) t
     (λ n v g. record { unfolding_so = visits_keep t v g.unfolding_so n; past = g.past; running = g.running }) (λ v z g m. goes_on t v z g m)

@@ -10,3 +10,4 @@ pub mod ClockFaultIsOfText
 pub mod ByClockTable
 pub mod EachStops
 pub mod ComesAreMoves
+pub mod NextComings

@@ -5,6 +5,7 @@ use Rattle.std.specs.List.{zip}
 use Rattle.std.proofs.lemmas.List.{length-map, take_all}
 use Rattle.armus_base.specs.Limits.{max_tasks}
 use Rattle.armus_base.specs.Plans.{Plan, code_of}
+use Rattle.armus_base.proofs.Lists.{some_at}
 use Rattle.clock_syntax.specs.Trees.{ClockTree}
 use Rattle.clock_moves.specs.Moves.{Move, code_of_moves}
 use Rattle.clock_moves.specs.Unfolding.{ClockUnfolding, clock_plan_of, clock_unfolded, plan_of_moves}
@@ -88,11 +89,6 @@ pair_at (x ∷ bs) (ms ∷ mss) zero b moves is are =
     let alike : ms ≡ moves = cc in
     ap (λ z. Some (op_origins_of z ms)) same ∙ ap (λ z. Some (op_origins_of b z)) alike
 pair_at (x ∷ bs) (ms ∷ mss) (suc t) b moves is are = pair_at bs mss t b moves is are
-
-some_at : {A : Type 0} (xs : List A) (t : ℕ) → t < length xs → (x : A) × (slice_get xs t ≡ Some x)
-some_at [] t lt = absurd (omega arith)
-some_at (x ∷ xs) zero lt = (x, refl)
-some_at (x ∷ xs) (suc t) lt = some_at xs t (omega arith)
 
 code_at : (mss : List (List Move)) (t : ℕ) (moves : List Move) → slice_get mss t ≡ Some moves → slice_get (map code_of_moves mss) t ≡ Some (code_of_moves moves)
 code_at [] t moves is = absurd cc

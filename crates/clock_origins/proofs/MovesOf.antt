@@ -3,7 +3,7 @@ use Rattle.std.proofs.Common.{◌≡◌, ℕ, zero, suc, ◌+◌, ◌<◌, ◌�
 use Rattle.std.specs.Prelude.{map, slice_get}
 use Rattle.std.proofs.lemmas.Bool.{cases_eq}
 use Rattle.std.proofs.lemmas.Option.{get_or_from_slice_get, slice_get_within}
-use Rattle.pl_plan.proofs.Growth.{slice_get-append}
+use Rattle.armus_base.proofs.Lists.{slice_get-append, past_end}
 use Rattle.clock_syntax.specs.Trees.{ClockPlain, ClockTree, advance, async, clock, done, drop, finish, loop, plain, resume, skip}
 use Rattle.clock_moves.specs.calls.ClockTests.{left_at_end}
 use Rattle.clock_moves.specs.Moves.{Move, stops}
@@ -12,7 +12,7 @@ use Rattle.clock_moves.proofs.MoveCodes.{moves_at}
 use Rattle.clock_text.specs.calls.ClockUnfolds.{GoesToEnd, UnfoldsFrom, after_part, comes, no_more, one_more, stops_there}
 use Rattle.clock_text.specs.calls.ProgramPoints.{ProgramPoint, before, behind, closing, finishes_around, first_point, last, part_at, turning}
 use Rattle.clock_text.proofs.AddsMoves.{Adds, adds_both, adds_move, move_of_end, moves_of_part, part_adds}
-use Rattle.clock_text.proofs.Numbers.{AreRows, known_rows, next_rows, opening_rows, past_end}
+use Rattle.clock_text.proofs.Numbers.{AreRows, known_rows, next_rows, opening_rows}
 use Rattle.clock_text.proofs.PointComings.{comings_at, first_left, none_left, whole_body}
 use Rattle.clock_text.proofs.UnfoldsByPoints.{unfolding_is_unfolded}
 use Rattle.clock_origins.specs.ClockOps.{moving_comings}

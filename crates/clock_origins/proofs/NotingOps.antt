@@ -9,8 +9,8 @@ use Rattle.clock_syntax.specs.Trees.{ClockTree, clock_count, done}
 use Rattle.clock_syntax.specs.calls.Bodies.{clock_followed_by, clock_tree_of}
 use Rattle.clock_syntax.proofs.ClockParts.{clock_counts}
 use Rattle.clock_moves.specs.Unfolding.{ClockComing, a_close, a_turn, coming, comings_of}
+use Rattle.clock_moves.proofs.NextComings.{next_comings_of, times_more}
 use Rattle.clock_origins.specs.inside.OpNotes.{OpNotesValue, next_noted, ops_noted}
-use Rattle.clock_origins.proofs.Noting.{next_comings_of, times_more}
 
 pub ops_noted-append : (ms ns : List ClockComing) (k : OpNotesValue) → ops_noted (ms ++ ns) k ≡ ops_noted ns (ops_noted ms k)
 ops_noted-append [] ns k = refl

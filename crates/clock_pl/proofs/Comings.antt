@@ -5,10 +5,12 @@ use Rattle.std.proofs.lemmas.List.{take-append-drop, take_all}
 use Rattle.armus_base.specs.Pieces.{times}
 use Rattle.clock_syntax.specs.declared.tree.ClockStmt.{ClockStmt}
 use Rattle.clock_syntax.specs.declared.tree.ClockStmt.TheVariants as s
-use Rattle.clock_syntax.specs.Trees.{ClockTree, done, clock_count, clock, advance, resume, drop as dropped, skip}
+use Rattle.clock_syntax.specs.Trees.{ClockTree, done, clock_count}
 use Rattle.clock_syntax.specs.calls.Bodies.{clock_followed_by, clock_tree_of}
 use Rattle.clock_syntax.proofs.ClockParts.{clock_count_first, clock_counts}
-use Rattle.clock_moves.specs.Unfolding.{ClockComing, a_plain, an_async, a_close, a_finish, a_loop, a_turn, coming, comings_of}
+use Rattle.clock_moves.specs.Unfolding.{ClockComing, a_close, a_turn, coming, comings_of}
+use Rattle.clock_moves.proofs.ByClockTable.{bind_assoc}
+use Rattle.clock_moves.proofs.NextComings.{first_comings, times_more}
 use Rattle.pl_plan.specs.Unfolding.{Outcome, ◌>>=◌}
 use Rattle.pl_plan.specs.declared.fault.CheckFault.{CheckFault}
 use Rattle.clock_pl.specs.declared.fault.ClockEnd.{ClockEnd}
@@ -16,14 +18,14 @@ use Rattle.clock_pl.specs.declared.fault.ClockEnd.TheVariants as ends_by
 use Rattle.clock_pl.specs.calls.ClockPlanning.{as_fault}
 use Rattle.clock_pl.specs.inside.ClockChecker.{ClockChecker}
 use Rattle.clock_pl.specs.inside.ClockCheckerSteps.{GivesClockChecker, checker_async, checker_close, checker_come, checker_come_all, checker_finish, checker_open, checker_statement, checker_visit}
-use Rattle.clock_pl.proofs.Listing.{bind_same, bind_bind}
+use Rattle.clock_pl.proofs.Listing.{bind_same}
 
 pub come_all-append : (ms ns : List ClockComing) (k : ClockChecker) → checker_come_all (ms ++ ns) k ≡ (checker_come_all ms k >>= checker_come_all ns)
 unfolding checker_come_all
 come_all-append [] ns k = refl
 come_all-append (m ∷ ms) ns k =
     bind_same (checker_come m k) (checker_come_all (ms ++ ns)) (λ k. checker_come_all ms k >>= checker_come_all ns) (λ k. come_all-append ms ns k)
-    ∙ sym (bind_bind (checker_come m k) (checker_come_all ms) (checker_come_all ns))
+    ∙ sym (bind_assoc (checker_come m k) (checker_come_all ms) (checker_come_all ns))
 
 one_over : (o : Outcome ClockChecker) → (o >>= checker_come_all []) ≡ o
 unfolding checker_come_all
@@ -52,7 +54,7 @@ statement_comes (s.Finish body) n k k1 e =
     (λ k. checker_come_all (comings_of (n + 1) body) k >>= λ k. checker_close n k.known.governing k)
     (λ k. come_all-append (comings_of (n + 1) body) (coming n a_close ∷ []) k
     ∙ bind_same (checker_come_all (comings_of (n + 1) body) k) (checker_come_all (coming n a_close ∷ [])) (λ k. checker_close n k.known.governing k) (closes n))
-    ∙ sym (bind_bind (checker_finish n k1) (checker_come_all (comings_of (n + 1) body)) (λ k. checker_close n k.known.governing k))
+    ∙ sym (bind_assoc (checker_finish n k1) (checker_come_all (comings_of (n + 1) body)) (λ k. checker_close n k.known.governing k))
 statement_comes (s.Loop turns body) n k k1 e =
     ap (λ o. (o >>= λ k. Ok k) >>= checker_come_all (times turns (coming n a_turn ∷ comings_of (n + 1) body) ++ [])) e
     ∙ ap (λ ms. checker_come_all ms k1) (append-nil (times turns (coming n a_turn ∷ comings_of (n + 1) body)))
@@ -100,10 +102,6 @@ module _ (n : ℕ) (body : ClockTree) where
 pub record TurnsDone (n : ℕ) (body : ClockTree) (old : ClockChecker) (i : ℕ) (k : ClockChecker) : Type 0 where
   pub did : checker_come_all (times i (coming n a_turn ∷ comings_of (n + 1) body)) old ≡ Ok k
 
-times_more : (i : ℕ) (xs : List ClockComing) → times i xs ++ xs ≡ times (suc i) xs
-times_more zero xs = sym (append-nil xs)
-times_more (suc i) xs = append_assoc xs (times i xs) xs ∙ ap (λ z. xs ++ z) (times_more i xs)
-
 times_split : (i m : ℕ) (xs : List ClockComing) → times (i + m) xs ≡ times i xs ++ times m xs
 times_split zero m xs = ap (λ z. times z xs) (let e : 0 + m ≡ m = omega arith in e)
 times_split (suc i) m xs =
@@ -134,24 +132,6 @@ module _ (n : ℕ) (body : ClockTree) (old : ClockChecker) (i : ℕ) (k : ClockC
       ∙ ap (λ o. o >>= checker_come_all (times (turns - 1 - i) (coming n a_turn ∷ comings_of (n + 1) body))) e
 
 -- ---- bodies
-
-first_comings : (q : ClockStmt) (n : ℕ) (t : ClockTree) →
-    comings_of n (clock_followed_by q t) ≡ comings_of n (clock_followed_by q done) ++ comings_of (n + clock_count (clock_followed_by q done)) t
-first_comings (s.Clock x) n t = ap (λ m. coming n (a_plain (clock x)) ∷ comings_of m t) (let e : n + 1 ≡ n + (0 + 1) = omega arith in e)
-first_comings (s.Advance x) n t = ap (λ m. coming n (a_plain (advance x)) ∷ comings_of m t) (let e : n + 1 ≡ n + (0 + 1) = omega arith in e)
-first_comings (s.Resume x) n t = ap (λ m. coming n (a_plain (resume x)) ∷ comings_of m t) (let e : n + 1 ≡ n + (0 + 1) = omega arith in e)
-first_comings (s.Drop x) n t = ap (λ m. coming n (a_plain (dropped x)) ∷ comings_of m t) (let e : n + 1 ≡ n + (0 + 1) = omega arith in e)
-first_comings s.Skip n t = ap (λ m. coming n (a_plain skip) ∷ comings_of m t) (let e : n + 1 ≡ n + (0 + 1) = omega arith in e)
-first_comings (s.Async xs body) n t = ap (λ m. coming n (an_async xs body) ∷ comings_of m t) (let e : n + 1 + clock_count body ≡ n +
-    (clock_count body + 0 + 1) = omega arith in e)
-first_comings (s.Finish body) n t =
-    ap (λ m. coming n a_finish ∷ (comings_of (n + 1) body ++ (coming n a_close ∷ comings_of m t)))
-    (let e : n + 1 + clock_count body ≡ n + (clock_count body + 0 + 1) = omega arith in e)
-    ∙ ap (λ z. coming n a_finish ∷ z) (sym (append_assoc (comings_of (n + 1) body) (coming n a_close ∷ []) (comings_of (n + (clock_count body + 0 + 1)) t)))
-first_comings (s.Loop k body) n t =
-    ap (λ m. coming n a_loop ∷ (times k (coming n a_turn ∷ comings_of (n + 1) body) ++ comings_of m t))
-    (let e : n + 1 + clock_count body ≡ n + (clock_count body + 0 + 1) = omega arith in e)
-    ∙ ap (λ z. coming n a_loop ∷ (z ++ comings_of (n + (clock_count body + 0 + 1)) t)) (sym (append-nil (times k (coming n a_turn ∷ comings_of (n + 1) body))))
 
 comings-append : (n : ℕ) (xs ys : List ClockStmt) →
     comings_of n (clock_tree_of (xs ++ ys)) ≡ comings_of n (clock_tree_of xs) ++ comings_of (n + clock_count (clock_tree_of xs)) (clock_tree_of ys)

@@ -1,6 +1,6 @@
 -- The clocks of the names of an async, one after the other.
-use Rattle.std.proofs.Common.{◌≡◌, ℕ, suc, ◌+◌, ◌<◌, ◌≤◌, Bool, true, false, not, List, [], ◌∷◌, ◌++◌, length, map, take, drop, get_or, Ok, Err, Result, sym, ap, ◌∙◌, subst, refl, arith, append_assoc}
-use Rattle.std.specs.Prelude.{◌||◌, ◌&&◌, option_to_list, Some, None, if◌then◌else◌}
+use Rattle.std.proofs.Common.{◌≡◌, ℕ, ◌+◌, ◌<◌, ◌≤◌, Bool, true, false, not, List, [], ◌∷◌, ◌++◌, length, map, take, drop, get_or, Ok, Err, Result, sym, ap, ◌∙◌, subst, refl, append_assoc}
+use Rattle.std.specs.Prelude.{◌||◌, ◌&&◌, option_to_list}
 use Rattle.std.specs.List.{list_any}
 use Rattle.std.specs.Str.{bytes_eq}
 use Rattle.std.proofs.lemmas.List.{take_more, drop_more, drop_all, map-append, append-nil}
@@ -8,27 +8,24 @@ use Rattle.std.proofs.lemmas.List.Folds.{list_any-append}
 use Rattle.armus_base.specs.declared.ids.PhaserId.{PhaserId}
 use Rattle.armus_base.specs.declared.ids.TaskId.{TaskId}
 use Rattle.armus_base.specs.declared.op.Op.{Op}
-use Rattle.armus_base.specs.declared.op.Op.TheVariants.{Reg, Fork, Drop}
+use Rattle.armus_base.specs.declared.op.Op.TheVariants.{Reg, Fork}
 use Rattle.clock_syntax.specs.Trees.{ClockTree}
 use Rattle.clock_moves.specs.Moves.{ops_of, starts, Standing}
-use Rattle.clock_moves.specs.Unfolding.{Current, as_clock, clock_of, clocks_of, innermost, listed_twice, not_registered, numbers_of, still_pending}
+use Rattle.clock_moves.specs.Unfolding.{Current, as_clock, clock_of, clocks_of, innermost, listed_twice, not_registered, still_pending}
+use Rattle.clock_moves.proofs.ByClockTable.{bind_assoc}
 use Rattle.pl_plan.specs.Unfolding.{Outcome, ◌>>=◌, fault_unless, phaser}
 use Rattle.pl_plan.specs.declared.fault.CheckFault.{CheckFault}
 use Rattle.clock_pl.specs.declared.fault.ClockEnd.{ClockEnd}
 use Rattle.clock_pl.specs.declared.fault.ClockEnd.TheVariants as ends_by
 use Rattle.clock_pl.specs.calls.ClockPlanning.{as_fault}
 use Rattle.clock_pl.specs.inside.ClockChecker.{ClockChecker, current}
-use Rattle.clock_pl.specs.inside.ClockCheckerSteps.{GivesValue, checker_async, checker_move, checker_next_activity, checker_ops, innermost_alone, kept_start_at, start_ops, stop_op, stop_ops, with_kept_activity}
+use Rattle.clock_pl.specs.inside.ClockCheckerSteps.{GivesValue, checker_async, checker_move, checker_next_activity, checker_ops, innermost_alone, kept_start_at, start_ops, with_kept_activity}
 
 -- ---- steps that may fail
 
 pub bind_same : {A B : Type 0} (o : Outcome A) (f g : A → Outcome B) → ((x : A) → f x ≡ g x) → (o >>= f) ≡ (o >>= g)
 bind_same (Ok x) f g h = h x
 bind_same (Err e) f g h = refl
-
-pub bind_bind : {A B C : Type 0} (o : Outcome A) (f : A → Outcome B) (g : B → Outcome C) → ((o >>= f) >>= g) ≡ (o >>= λ x. f x >>= g)
-bind_bind (Ok x) f g = refl
-bind_bind (Err e) f g = refl
 
 pub bind_ok : {A : Type 0} (o : Outcome A) → (o >>= λ x. Ok x) ≡ o
 bind_ok (Ok x) = refl
@@ -94,7 +91,7 @@ module _ (n : ℕ) (names : List (List ℕ)) (now : Current) (listed : List (Lis
     listed_more p listed' e l = record {
       all = next ∙ ap (λ o. (o >>= λ p. clocks_of n (x ∷ listed) (drop (i + 1) names) now >>= λ ps. Ok (p ∷ ps))
           >>= λ ps. Ok (map (λ (p : PhaserId). p.0) clocks ++ ps)) e
-          ∙ bind_bind (clocks_of n (x ∷ listed) (drop (i + 1) names) now) (λ ps. Ok (p.0 ∷ ps)) (λ ps. Ok (map (λ (p : PhaserId). p.0) clocks ++ ps))
+          ∙ bind_assoc (clocks_of n (x ∷ listed) (drop (i + 1) names) now) (λ ps. Ok (p.0 ∷ ps)) (λ ps. Ok (map (λ (p : PhaserId). p.0) clocks ++ ps))
           ∙ ap (λ o. o >>= λ ps. Ok (map (λ (p : PhaserId). p.0) clocks ++ (p.0 ∷ ps)))
           (clocks_of_same n (x ∷ listed) listed' (drop (i + 1) names) now (λ y. any_push (bytes_eq y) listed x ∙ ap (λ z. list_any (bytes_eq y) z) (sym l)))
           ∙ bind_same (clocks_of n listed' (drop (i + 1) names) now) (λ ps. Ok (map (λ (p : PhaserId). p.0) clocks ++ (p.0 ∷ ps)))

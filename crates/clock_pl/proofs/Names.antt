@@ -9,6 +9,7 @@ use Rattle.std.proofs.lemmas.List.{length-map, length-set, length-append, length
 use Rattle.std.proofs.lemmas.Slice.Eq.{bytes_eq-Decides}
 use Rattle.armus_base.specs.declared.ids.PhaserId.{PhaserId}
 use Rattle.clock_pl.specs.inside.ClockChecker.{numbered_clock, clock_by_name, clocks_lengthened, clocks_with, names_with, clock_number, spelled_names}
+use Rattle.pl_plan.proofs.Distinct.{other_way}
 
 -- tests of spellings are tests of keys
 pub place_spelled : (x : List ℕ) (keys : List (Bor (List ℕ))) → position_or_len (λ (b : Bor (List ℕ)). bytes_eq x b.now) keys ≡ position_or_len (bytes_eq x) (spelled_names keys)
@@ -103,13 +104,6 @@ by_place names clocks x short = by (cases_lt (position_or_len (bytes_eq x) names
         ap (λ v. numbered_clock (cond v (Some (position_or_len (bytes_eq x) names)) None) clocks) (let e : nat_lt (position_or_len (bytes_eq x) names)
         (length names) ≡ false = grind arith in e)
         ∙ ap clock_number (sym (get_or_past clocks (position_or_len (bytes_eq x) names) None (omega arith)))
-
-other_way : (a b : List ℕ) → bytes_eq a b ≡ false → bytes_eq b a ≡ false
-other_way a b e = by (bytes_eq b a) refl
-  where
-    by : (v : Bool) → bytes_eq b a ≡ v → bytes_eq b a ≡ false
-    by false q = q
-    by true q = absurd (false≢true (sym e ∙ (bytes_eq-Decides a b).1 (sym ((bytes_eq-Decides b a).0 q))))
 
 lengthened_at : (n j : ℕ) (clocks : List (Option PhaserId)) → slice_index_or (clocks_lengthened n clocks) j None ≡ slice_index_or clocks j None
 lengthened_at n j clocks = by (cases_lt j (length clocks))

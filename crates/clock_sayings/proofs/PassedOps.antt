@@ -1,43 +1,15 @@
 -- What the first ops of a code have left, op by op; and at which op of its code a task stands.
-use Rattle.std.proofs.Common.{◌≡◌, ℕ, zero, suc, ◌+◌, ◌<◌, ◌≤◌, Bool, true, false, subst, cond, if◌then◌else◌, List, [], ◌∷◌, ◌++◌, length, take, drop, arith, refl, sym, ap, ◌∙◌, inl, inr}
+use Rattle.std.proofs.Common.{◌≡◌, ℕ, ◌+◌, ◌<◌, ◌≤◌, Bool, true, false, subst, cond, if◌then◌else◌, List, [], ◌∷◌, ◌++◌, length, take, drop, arith, refl, sym, ap, ◌∙◌, inl, inr}
 use Rattle.std.specs.Prelude.{◌==◌, ◌&&◌, ◌||◌, count_by, get_or, not, reverse, slice_index_or}
-use Rattle.std.proofs.lemmas.Bool.{cases_eq, cases_lt, eq-eqb, ne_eqb}
+use Rattle.std.proofs.lemmas.Bool.{cases_eq, eq-eqb, ne_eqb}
 use Rattle.std.proofs.lemmas.List.{drop_more, length-drop, reverse-append, take_more}
 use Rattle.std.proofs.lemmas.List.Sums.{sum_by-append}
 use Rattle.armus_base.specs.declared.op.Op.{Op}
 use Rattle.armus_base.specs.declared.op.Op.TheVariants as op
-use Rattle.pl_core.specs.Tasks.{IsAtOp, actions_before}
 use Rattle.clock_sayings.specs.ClockFacts.{is_await, is_pending, is_signalled}
 use Rattle.clock_sayings.specs.inside.Passing.{pending_by}
 use Rattle.pl_plan.specs.calls.MemberRows.{marked}
 use Rattle.pl_plan.proofs.MemberRows.{marked_other, marked_same}
-
--- more ops have no fewer actions
-more_actions : (ops : List Op) (n m : ℕ) → n ≤ m → actions_before ops n ≤ actions_before ops m
-more_actions ops zero m le = omega arith
-more_actions [] (suc n) zero le = omega arith
-more_actions [] (suc n) (suc m) le = omega arith
-more_actions (o ∷ ops) (suc n) zero le = absurd (omega arith)
-more_actions (op.Make p ∷ ops) (suc n) (suc m) le = let h = more_actions ops n m (omega arith) in omega arith
-more_actions (op.Reg c p ∷ ops) (suc n) (suc m) le = let h = more_actions ops n m (omega arith) in omega arith
-more_actions (op.Fork c ∷ ops) (suc n) (suc m) le = let h = more_actions ops n m (omega arith) in omega arith
-more_actions (op.Adv p ∷ ops) (suc n) (suc m) le = let h = more_actions ops n m (omega arith) in omega arith
-more_actions (op.Drop p ∷ ops) (suc n) (suc m) le = let h = more_actions ops n m (omega arith) in omega arith
-more_actions (op.Await p off ∷ ops) (suc n) (suc m) le = let h = more_actions ops n m (omega arith) in omega arith
-
--- no task is at two ops
-not_below : (ops : List Op) (k n m : ℕ) → IsAtOp ops k n → IsAtOp ops k m → n < m → ⊥
-not_below ops k n m a b lt =
-    let below = a.below (omega (arith, b.within)) in
-    let more = more_actions ops (n + 1) m (omega arith) in
-    omega (arith, b.from)
-
-pub one_op : (ops : List Op) (k n m : ℕ) → IsAtOp ops k n → IsAtOp ops k m → n ≡ m
-one_op ops k n m a b =
-    elim (cases_lt n m) [
-      | inl l ↦ absurd (not_below ops k n m a b l)
-      | inr l ↦ elim (cases_lt m n) [ inl l' ↦ absurd (not_below ops k m n b a l') | inr l' ↦ omega arith ]
-    ]
 
 count_by-append : (xs ys : List Op) → count_by is_await (xs ++ ys) ≡ count_by is_await xs + count_by is_await ys
 count_by-append xs ys = sum_by-append (λ x. cond (is_await x) 1 0) xs ys

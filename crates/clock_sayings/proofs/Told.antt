@@ -14,7 +14,7 @@ use Rattle.armus_base.specs.declared.ending.TaskEnd.TheVariants.{Blocked, Done, 
 use Rattle.armus_base.specs.declared.op.Op.{Op}
 use Rattle.armus_base.proofs.Below.{list_below-at}
 use Rattle.clock_sayings.specs.ClockFacts.{AreWaitsAt, ClockWait, IsWaitBy, is_await, is_pending}
-use Rattle.clock_sayings.proofs.PassedOps.{one_op}
+use Rattle.accounts.proofs.OneAccount.{one_op}
 
 -- what f gives for a number
 pub list_at : {A : Type 0} (f : ℕ → A) (n t : ℕ) (xs : List A) (d : A) → xs ≡ list_below f n → t < n → slice_index_or xs t d ≡ f t

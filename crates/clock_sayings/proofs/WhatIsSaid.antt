@@ -1,5 +1,5 @@
 -- What is said of each activity in the explanation of a final state.
-use Rattle.std.proofs.Common.{◌≡◌, ℕ, zero, suc, ◌<◌, Bool, true, false, Option, Some, None, List, [], ◌∷◌, length, arith, sym, ◌∙◌, ap, subst, refl}
+use Rattle.std.proofs.Common.{◌≡◌, ℕ, ◌<◌, Bool, true, false, Option, Some, None, List, [], length, arith, sym, ◌∙◌, ap, subst, refl}
 use Rattle.std.specs.Prelude.{slice_get}
 use Rattle.std.specs.List.{flat_map}
 use Rattle.armus_base.specs.declared.ending.TaskEnd.TheVariants.{Done}
@@ -13,6 +13,7 @@ use Rattle.armus_base.specs.Runs.{IsFinal, Place}
 use Rattle.armus_base.specs.States.{State}
 use Rattle.armus_base.proofs.DeadByStatuses.{run_is_of_plan}
 use Rattle.armus_base.proofs.Members.{published_member}
+use Rattle.armus_base.proofs.Lists.{some_at}
 use Rattle.clock_syntax.specs.Trees.{ClockTree}
 use Rattle.clock_moves.specs.Unfolding.{ClockUnfolding, plan_of_moves}
 use Rattle.clock_moves.proofs.ClockPlanIsChecked.{clock_plan_is_checked}
@@ -25,11 +26,6 @@ use Rattle.clock_sayings.specs.calls.ParagraphLaws.{EachHasItsParagraph, IsSaidO
 use Rattle.clock_sayings.proofs.MembersWait.{members_wait}
 use Rattle.clock_sayings.proofs.Named.{ascending, behind, from_behind, lines_named, named_in}
 use Rattle.clock_sayings.proofs.Told.{list_at}
-
-some_at : {A : Type 0} (xs : List A) (t : ℕ) → t < length xs → (x : A) × (slice_get xs t ≡ Some x)
-some_at [] t lt = absurd (omega arith)
-some_at (x ∷ xs) zero lt = (x, refl)
-some_at (x ∷ xs) (suc t) lt = some_at xs t (omega arith)
 
 module _ (file : Option (List ℕ)) (text : List ℕ) (p : ClockTree) (u : ClockUnfolding) (plan : Plan) (a : ℕ → Place) (lines : List ℕ) (waits : Bool)
     (x : ExplainsActivities file text p u plan a lines waits) (final : IsFinal plan (state_at plan a)) where

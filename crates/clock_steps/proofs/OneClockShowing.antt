@@ -4,8 +4,8 @@ use Rattle.armus_base.specs.Plans.{Plan, code_of}
 use Rattle.armus_base.specs.Runs.{places, state_after}
 use Rattle.armus_base.specs.States.{Step}
 use Rattle.accounts.proofs.AtSomeOp.{at_some_op}
+use Rattle.accounts.proofs.OneAccount.{one_op}
 use Rattle.step_lines.specs.ShownSteps.{first_steps, more_steps_line, most_shown}
-use Rattle.step_lines.proofs.OneShowing.{one_op}
 use Rattle.clock_syntax.specs.Trees.{ClockTree}
 use Rattle.clock_moves.specs.Unfolding.{ClockPart, ClockUnfolding}
 use Rattle.clock_origins.specs.ClockOps.{all_op_origins}

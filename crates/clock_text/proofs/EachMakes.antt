@@ -3,15 +3,15 @@ use Rattle.std.proofs.Common.{◌≡◌, ℕ, ◌+◌, ◌<◌, ◌≤◌, Some,
 use Rattle.std.specs.Prelude.{slice_get}
 use Rattle.std.proofs.lemmas.Bool.{cases_eq}
 use Rattle.std.proofs.lemmas.Option.{slice_get_within}
+use Rattle.armus_base.proofs.Lists.{slice_get-append, past_end}
 use Rattle.clock_syntax.specs.Trees.{ClockTree}
-use Rattle.pl_plan.proofs.Growth.{slice_get-append}
 use Rattle.clock_moves.specs.Unfolding.{ClockStart, ClockUnfolding, activities, clock_opening, clock_unfolded, nothing_known, with_known}
 use Rattle.clock_moves.proofs.MoveCodes.{moves_at}
 use Rattle.clock_text.specs.calls.ClockUnfolds.{UnfoldsFrom, no_more, one_more}
 use Rattle.clock_text.specs.calls.ProgramPoints.{first_point}
 use Rattle.clock_text.proofs.AddsMoves.{goes_adds}
 use Rattle.clock_text.proofs.Makes.{Makes, goes_makes}
-use Rattle.clock_text.proofs.Numbers.{AreRows, known_rows, next_rows, opening_rows, past_end}
+use Rattle.clock_text.proofs.Numbers.{AreRows, known_rows, next_rows, opening_rows}
 use Rattle.clock_text.proofs.UnfoldsByPoints.{unfolding_is_unfolded}
 
 -- what the later activities leave: the moves of the earlier ones, and each start

@@ -1,12 +1,12 @@
 -- Which moves an activity makes from a point of its text on, by its names and by how it stands alone; and that those of an unfolding are such.
-use Rattle.std.proofs.Common.{◌≡◌, ℕ, zero, suc, ◌+◌, ◌<◌, Bool, true, false, not, Option, Some, None, List, [], ◌∷◌, ◌++◌, length, arith, sym, ◌∙◌, ap, subst, refl}
+use Rattle.std.proofs.Common.{◌≡◌, ℕ, zero, suc, ◌+◌, ◌<◌, true, false, not, Option, Some, None, List, [], ◌∷◌, ◌++◌, length, arith, sym, ◌∙◌, ap, subst, refl}
 use Rattle.std.specs.List.{list_any}
 use Rattle.std.specs.Str.{bytes_eq}
 use Rattle.std.specs.Prelude.{◌&&◌, ◌==◌, if◌then◌else◌, is_none, map, option_to_list, slice_get, unwrap_or}
-use Rattle.std.proofs.lemmas.Bool.{false≢true}
+use Rattle.std.proofs.lemmas.Bool.{false≢true, not-false}
 use Rattle.std.proofs.lemmas.Option.{slice_get_within}
+use Rattle.armus_base.proofs.Lists.{slice_get-append}
 use Rattle.clock_syntax.specs.Trees.{ClockPlain, ClockTree, advance, async, clock, clock_count, done, drop, finish, loop, plain, resume, skip}
-use Rattle.pl_plan.proofs.Growth.{slice_get-append}
 use Rattle.pl_plan.proofs.Tables.{slice_get-last}
 use Rattle.clock_moves.specs.calls.ClockTests.{ClockRow, PassesClockTable, after_end, clock_named, clock_table, left_at_end, names_rows, no_activity_left, no_clock_cell_left, no_clock_left, no_clock_op_left, visited}
 use Rattle.clock_moves.specs.Moves.{Move, Standing, advances, begins, drops, ends, opens, registered_on, resumes, starts, stops, unregistered_from, with_pending}
@@ -87,10 +87,6 @@ known_name : (o : Option ℕ) → is_none o ≡ false → o ≡ Some (unwrap_or 
 known_name None e = absurd (false≢true (sym e))
 known_name (Some p) e = refl
 
-not_false : (b : Bool) → not b ≡ false → b ≡ true
-not_false true e = refl
-not_false false e = absurd (false≢true (sym e))
-
 module _ (v : ClockUnfolding) where
   names_pass :
       (earlier xs : List (List ℕ)) (more : List ClockRow) → PassesClockTable (names_rows true earlier xs ++ more) v →
@@ -102,7 +98,7 @@ module _ (v : ClockUnfolding) where
       let twice : list_any (bytes_eq x) earlier ≡ false = passes _ (2, omega arith, refl) in
       let rested : (true && v.now.standing.pending (clock_named v x)) ≡ false = passes _ (3, omega arith, refl) in (
         known_name (v.now.names x) unknown,
-        not_false (v.now.standing.members (clock_named v x)) outside,
+        not-false (v.now.standing.members (clock_named v x)) outside,
         twice,
         rested,
         names_pass (x ∷ earlier) xs more
@@ -135,16 +131,16 @@ module _ (u : ClockUnfolding) (t : ℕ) (v : ClockUnfolding) (here : t < length 
   plain_makes n (advance x) more rest ms passes makes =
       let unknown : is_none (v.now.names x) ≡ false = passes _ (1, omega arith, refl) in
       let outside : not (v.now.standing.members (clock_named v x)) ≡ false = passes _ (2, omega arith, refl) in
-      advances_on (clock_named v x) (known_name (v.now.names x) unknown) (not_false (v.now.standing.members (clock_named v x)) outside) makes
+      advances_on (clock_named v x) (known_name (v.now.names x) unknown) (not-false (v.now.standing.members (clock_named v x)) outside) makes
   plain_makes n (resume x) more rest ms passes makes =
       let unknown : is_none (v.now.names x) ≡ false = passes _ (1, omega arith, refl) in
       let outside : not (v.now.standing.members (clock_named v x)) ≡ false = passes _ (2, omega arith, refl) in
       let rested : (true && v.now.standing.pending (clock_named v x)) ≡ false = passes _ (4, omega arith, refl) in
-      resumes_on (clock_named v x) (known_name (v.now.names x) unknown) (not_false (v.now.standing.members (clock_named v x)) outside) rested makes
+      resumes_on (clock_named v x) (known_name (v.now.names x) unknown) (not-false (v.now.standing.members (clock_named v x)) outside) rested makes
   plain_makes n (drop x) more rest ms passes makes =
       let unknown : is_none (v.now.names x) ≡ false = passes _ (1, omega arith, refl) in
       let outside : not (v.now.standing.members (clock_named v x)) ≡ false = passes _ (2, omega arith, refl) in
-      drops_from (clock_named v x) (known_name (v.now.names x) unknown) (not_false (v.now.standing.members (clock_named v x)) outside) makes
+      drops_from (clock_named v x) (known_name (v.now.names x) unknown) (not-false (v.now.standing.members (clock_named v x)) outside) makes
   plain_makes n skip more rest ms passes makes = skips makes
 
   once_inner : (fs : List ℕ) → innermost (option_to_list (innermost fs)) ≡ innermost fs

@@ -1,8 +1,9 @@
 -- The numbers of activities, clocks and finishes are rows, one activity's behind those of the activities before it; so each has one name.
-use Rattle.std.proofs.Common.{◌≡◌, ℕ, zero, suc, ◌+◌, ◌-◌, ◌<◌, ◌≤◌, None, Ok, List, [], ◌∷◌, ◌++◌, length, arith, sym, ◌∙◌, ap, subst, refl, inl, inr}
-use Rattle.std.specs.Prelude.{slice_get, slice_index_or}
+use Rattle.std.proofs.Common.{◌≡◌, ℕ, zero, suc, ◌+◌, ◌-◌, ◌<◌, ◌≤◌, Ok, List, [], ◌∷◌, ◌++◌, length, arith, sym, ◌∙◌, ap, subst, refl, inl, inr}
+use Rattle.std.specs.Prelude.{slice_index_or}
 use Rattle.std.proofs.lemmas.Bool.{cases_eq, cases_lt}
 use Rattle.std.proofs.lemmas.Option.{slice_get_within}
+use Rattle.armus_base.proofs.Lists.{past_end}
 use Rattle.clock_syntax.specs.Trees.{ClockTree}
 use Rattle.clock_moves.specs.Moves.{Move}
 use Rattle.clock_moves.specs.Unfolding.{ClockStart, ClockUnfolding, activities, clock_opening, clock_unfolded, with_known}
@@ -106,11 +107,6 @@ module _ (t : ℕ) (u v : ClockUnfolding) (h : AreRows t u) (here : t < length u
         idle = λ k l. a.others k (λ e. absurd (omega arith)) ∙ h.idle k (omega arith);
         within = omega (arith, here, a.parents);
       }
-
-pub past_end : {A : Type 0} (xs : List A) (k : ℕ) → slice_get xs k ≡ None → length xs ≤ k
-past_end [] k e = omega arith
-past_end (y ∷ xs) zero e = absurd cc
-past_end (y ∷ xs) (suc k) e = omega (arith, past_end xs k e)
 
 pub known_rows : (t : ℕ) (u : ClockUnfolding) (start : ClockStart) → AreRows t u → AreRows t (with_known start.known u)
 known_rows t u start h =

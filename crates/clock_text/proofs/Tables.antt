@@ -3,7 +3,7 @@ use Rattle.std.proofs.Common.{◌≡◌, ◌≢◌, ℕ, zero, suc, ◌<◌, Boo
 use Rattle.std.specs.List.{list_any}
 use Rattle.std.specs.Str.{bytes_eq}
 use Rattle.std.specs.Prelude.{◌&&◌, ◌||◌, ◌==◌, if◌then◌else◌}
-use Rattle.std.proofs.lemmas.Bool.{cases_eq, eq-eqb, eqb-true, false≢true}
+use Rattle.std.proofs.lemmas.Bool.{cases_eq, eq-eqb, eqb-true, false≢true, and_parts}
 use Rattle.std.proofs.lemmas.Slice.Eq.{bytes_eq-Decides}
 use Rattle.armus_base.specs.Places.{some_before}
 use Rattle.clock_machine.specs.calls.Direct.{with_column, with_entry}
@@ -36,17 +36,12 @@ other_bytes a b n = by (bytes_eq a b) refl
     by true e = absurd (n (same_bytes a b e))
     by false e = e
 
-and_true : (b c : Bool) → (b && c) ≡ true → (b ≡ true) × (c ≡ true)
-and_true true true e = (refl, refl)
-and_true true false e = absurd (false≢true e)
-and_true false c e = absurd (false≢true e)
-
 pub both_true : (b c : Bool) → b ≡ true → c ≡ true → (b && c) ≡ true
 both_true b c e g = ap (λ z. z && c) e ∙ g
 
 pub made_same : (p q : Made) → is_made p q ≡ true → p ≡ q
 made_same p q e =
-    let both = and_true (bytes_eq p.maker q.maker) (p.before == q.before) e in
+    let both = and_parts (bytes_eq p.maker q.maker) (p.before == q.before) e in
     let maker = same_bytes p.maker q.maker both.0 in
     let order = eqb-true p.before q.before both.1 in
     λ i. record { maker = maker i; before = order i }

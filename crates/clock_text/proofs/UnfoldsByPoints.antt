@@ -1,8 +1,10 @@
 -- The computation of the unfolding goes from point to point, and there is no other way: plan and first fault are those of the relation.
-use Rattle.std.proofs.Common.{◌≡◌, ℕ, zero, suc, ◌+◌, ◌-◌, ◌<◌, ◌≤◌, Ok, Err, Option, Some, None, List, [], ◌∷◌, length, arith, sym, ◌∙◌, ap, subst, refl}
+use Rattle.std.proofs.Common.{◌≡◌, ℕ, zero, suc, ◌+◌, ◌-◌, ◌≤◌, Ok, Err, Option, Some, None, List, [], ◌∷◌, length, arith, sym, ◌∙◌, ap, subst, refl}
 use Rattle.std.specs.Prelude.{slice_get}
 use Rattle.std.proofs.lemmas.List.{length-map}
+use Rattle.std.proofs.lemmas.Option.{slice_get_within, slice_get_past}
 use Rattle.armus_base.specs.Limits.{max_tasks}
+use Rattle.armus_base.proofs.Lists.{past_end}
 use Rattle.clock_syntax.specs.Trees.{ClockTree}
 use Rattle.pl_plan.proofs.VisitsLeave.{bind_ok}
 use Rattle.pl_plan.specs.Unfolding.{Outcome, ◌>>=◌}
@@ -182,22 +184,6 @@ module _ (t : ℕ) where
 
 -- ---- all activities
 
-past_end : {A : Type 0} (xs : List A) (k : ℕ) → slice_get xs k ≡ None → length xs ≤ k
-past_end [] k e = omega arith
-past_end (y ∷ xs) zero e = absurd cc
-past_end (y ∷ xs) (suc k) e = omega (arith, past_end xs k e)
-
-behind_end : {A : Type 0} (xs : List A) (k : ℕ) → length xs ≤ k → slice_get xs k ≡ None
-behind_end [] k l = refl
-behind_end (y ∷ xs) zero l = absurd (omega arith)
-behind_end (y ∷ xs) (suc k) l = behind_end xs k (omega arith)
-
-within : {A : Type 0} (xs : List A) (k : ℕ) (x : A) → slice_get xs k ≡ Some x → k < length xs
-within [] zero x e = absurd cc
-within [] (suc k) x e = absurd cc
-within (y ∷ xs) zero x e = omega arith
-within (y ∷ xs) (suc k) x e = omega (arith, within xs k x e)
-
 -- between two activities there are no more than may be
 few_starts : (t : ℕ) (u : ClockUnfolding) → IsBetween t u → length u.starts ≤ max_tasks
 few_starts t u between = omega (arith, between.sound.checked.limits.few_tasks, between.sound.starts, length-map u.starts as_forked)
@@ -208,7 +194,7 @@ unfolding unfold_activities
 none_is_unfolded zero t u none = refl
 none_is_unfolded (suc n) t u none =
     ap (λ o. unfold_started t o u >>= unfold_activities n (t + 1)) none
-    ∙ none_is_unfolded n (t + 1) u (behind_end u.starts (t + 1) (omega (arith, past_end u.starts t none)))
+    ∙ none_is_unfolded n (t + 1) u (slice_get_past u.starts (t + 1) (omega (arith, past_end u.starts t none)))
 
 -- what is known of the activities from t on
 record AreToCome (n t : ℕ) (u : ClockUnfolding) : Type 0 where
@@ -229,7 +215,7 @@ to_come_on n t u v start h is e =
 unfolds : (n t : ℕ) (u w : ClockUnfolding) → AreToCome n t u → unfold_activities n t u ≡ Ok w → UnfoldsFrom t u w
 unfolding unfold_activities
 unfolds zero t u w h e =
-    subst (λ z. UnfoldsFrom t u z) (same_ok u w e) (no_more (behind_end u.starts t (omega (arith, h.enough, few_starts t u h.between))))
+    subst (λ z. UnfoldsFrom t u z) (same_ok u w e) (no_more (slice_get_past u.starts t (omega (arith, h.enough, few_starts t u h.between))))
 unfolds (suc n) t u w h e = by_start (slice_get u.starts t) refl (λ start v is first more. unfolds n (t + 1) v w (to_come_on n t u v start h is first) more)
   where
     by_start :
@@ -267,7 +253,7 @@ unfolded : (n t : ℕ) (u w : ClockUnfolding) → AreToCome n t u → UnfoldsFro
 unfolding unfold_activities
 unfolded n t u w h (no_more none) = none_is_unfolded n t u none
 unfolded zero t u w h (one_more start is first rest) =
-    absurd (omega (arith, h.enough, few_starts t u h.between, within u.starts t start is))
+    absurd (omega (arith, h.enough, few_starts t u h.between, slice_get_within u.starts t start is))
 unfolded (suc n) t u w h (one_more {v = v} start is first rest) =
     let a = activity_went t start u v first in
     ap (λ o. unfold_started t o u >>= unfold_activities n (t + 1)) is ∙ ap (λ o. o >>= unfold_activities n (t + 1)) a
@@ -275,8 +261,8 @@ unfolded (suc n) t u w h (one_more {v = v} start is first rest) =
 
 faulty : (n t : ℕ) (u : ClockUnfolding) (fault : CheckFault) → AreToCome n t u → FailsFrom t u fault → unfold_activities n t u ≡ Err fault
 unfolding unfold_activities
-faulty zero t u fault h (in_this_one start is here) = absurd (omega (arith, h.enough, few_starts t u h.between, within u.starts t start is))
-faulty zero t u fault h (in_a_later_one start is first rest) = absurd (omega (arith, h.enough, few_starts t u h.between, within u.starts t start is))
+faulty zero t u fault h (in_this_one start is here) = absurd (omega (arith, h.enough, few_starts t u h.between, slice_get_within u.starts t start is))
+faulty zero t u fault h (in_a_later_one start is first rest) = absurd (omega (arith, h.enough, few_starts t u h.between, slice_get_within u.starts t start is))
 faulty (suc n) t u fault h (in_this_one start is here) =
     ap (λ o. unfold_started t o u >>= unfold_activities n (t + 1)) is ∙ ap (λ o. o >>= unfold_activities n (t + 1)) (activity_failed t start u fault here)
 faulty (suc n) t u fault h (in_a_later_one {v = v} start is first rest) =

@@ -13,7 +13,7 @@ use Rattle.armus_base.specs.declared.status.Dead.{Dead}
 use Rattle.armus_base.specs.declared.status.Status.{Status}
 use Rattle.armus_base.specs.Deadlocks.{IsListedOn}
 use Rattle.armus_base.proofs.Elements.{Contains-cons_cases, Contains-head, Contains-tail, nothing_in_nil}
-use Rattle.phase_scan.proofs.Tables.{slice_get-set_other, slice_get-set_same}
+use Rattle.armus_base.proofs.Lists.{slice_get-set_other, slice_get-set_same}
 use Rattle.collector.specs.inside.Names.{AreFresh}
 use Rattle.collector.specs.calls.Passes.{NamesToo, was_named}
 

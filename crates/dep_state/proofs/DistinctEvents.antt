@@ -46,7 +46,7 @@ same_event a b (inr (e, le)) no_way =
       | inr ne ↦ absurd (no_way (inr (e, omega arith)))
     ]
 
-by_orders :
+pub by_orders :
     (a b : Event) (o q : Ordering) → MatchOrdering o (b.p.0 < a.p.0) (b.p.0 ≡ a.p.0) (a.p.0 < b.p.0) → MatchOrdering q (b.n < a.n) (b.n ≡ a.n) (a.n < b.n) →
     is_lt (ordering_then o q) ≡ false → NotAfter a b
 by_orders a b Less q m n e = absurd cc

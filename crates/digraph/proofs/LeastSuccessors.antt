@@ -1,20 +1,11 @@
 -- The least successor that reaches a cycle, by the answers of a search.
-use Rattle.std.proofs.Common.{◌≡◌, ℕ, ◌<◌, Bool, true, false, List, [], length, sym, ◌∙◌, subst, ◌⊎◌, inl, inr, get_or, set, get_or-set_same, get_or-set_other}
-use Rattle.std.specs.Prelude.{◌↔◌, All}
-use Rattle.std.proofs.lemmas.Bool.{cases_eq}
+use Rattle.std.proofs.Common.{◌≡◌, ℕ, ◌<◌, Bool, true, false, List, [], length, get_or, set}
+use Rattle.std.specs.Prelude.{All}
 use Rattle.std.proofs.lemmas.List.Elements.{All-contains}
 use Rattle.digraph.specs.calls.Graph.{HasEdge, TellsCycles}
 use Rattle.digraph.specs.inside.Rows.{IsGraph}
 use Rattle.digraph.specs.inside.Search.{row_of}
 use Rattle.digraph.specs.calls.Cycle.{IsLeastSuccessor, IsLeastMarked}
-
--- a flag that is set
-pub set_flag : (xs : List Bool) (i j : ℕ) → i < length xs → (get_or (set xs i true) j false ≡ true) ↔ ((j ≡ i) ⊎ (get_or xs j false ≡ true))
-set_flag xs i j lt =
-    elim (cases_eq j i) [
-      | inl e ↦ (λ _. inl e, λ _. subst (λ k. get_or (set xs i true) k false ≡ true) (sym e) (get_or-set_same xs i true false lt))
-      | inr ne ↦ let f = get_or-set_other xs i j true false ne in (λ h. inr (sym f ∙ h), λ h. elim h [ inl e ↦ absurd (ne e) | inr g ↦ f ∙ g ])
-    ]
 
 module _ (g : List (List ℕ)) (answers : List Bool) (ok : IsGraph g) (tells : TellsCycles g answers) (node : ℕ) (lt : node < length g) where
   -- each successor is a node

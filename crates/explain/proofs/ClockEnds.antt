@@ -1,25 +1,23 @@
 -- Where the runs of a clock text end, and what is explained there.
 use Rattle.std.proofs.Common.{◌≡◌, ◌∙◌, ℕ, zero, suc, ◌<◌, Bool, true, false, List, [], ◌∷◌, ◌++◌, Option, Some, None, length, ap, arith, inl, inr, refl, subst, sym}
-use Rattle.std.specs.Prelude.{◌↔◌, ◌⊎◌, ◌||◌, Err, Ok, if◌then◌else◌}
+use Rattle.std.specs.Prelude.{◌↔◌, ◌⊎◌, Err, Ok, if◌then◌else◌}
 use Rattle.std.specs.List.{list_any}
-use Rattle.std.proofs.lemmas.Bool.{cases_eq}
+use Rattle.std.proofs.lemmas.Bool.{cases_eq, or_cases, or_right, or_left}
 use mathlib.Core.Path.{fun_ext}
 use Rattle.armus_base.specs.CheckedPlans.{IsCheckedPlan}
 use Rattle.armus_base.specs.calls.FinalLaws.{IsOfPlan}
-use Rattle.armus_base.specs.declared.ending.Final.{Final}
 use Rattle.armus_base.specs.declared.ending.TaskEnd.{TaskEnd}
 use Rattle.armus_base.specs.declared.ending.TaskEnd.TheVariants as ends
 use Rattle.armus_base.specs.declared.event.Event.{Event}
-use Rattle.armus_base.specs.Finals.{end_by, end_of, final_of, list_below}
+use Rattle.armus_base.specs.Finals.{end_by, end_of, list_below}
 use Rattle.armus_base.specs.Places.{state_at}
 use Rattle.armus_base.specs.Plans.{Plan}
 use Rattle.armus_base.specs.Runs.{IsMaximal, IsPlainRun, Place, places, state_after}
-use Rattle.armus_base.specs.States.{State, Step}
+use Rattle.armus_base.specs.States.{Step}
 use Rattle.armus_base.proofs.DeadByStatuses.{run_is_of_plan}
 use Rattle.armus_base.proofs.OneEnd.{one_end}
 use Rattle.armus_base.proofs.Stepping.{places_fix}
-use Rattle.pl_core.specs.calls.Worlds.{places_of, state_of}
-use Rattle.pl_plan.proofs.VisitsLeave.{bind_ok, ok_is}
+use Rattle.pl_core.specs.calls.Worlds.{places_of}
 use Rattle.pl_plan.specs.Unfolding.{Outcome, ◌>>=◌}
 use Rattle.pl_plan.specs.declared.fault.CheckFault.{CheckFault}
 use Rattle.clock_syntax.specs.Grammar.{IsClockText}
@@ -29,21 +27,16 @@ use Rattle.clock_moves.specs.Unfolding.{ClockUnfolding, clock_plan_of, clock_unf
 use Rattle.clock_moves.proofs.ClockPlanIsChecked.{clock_plan_is_checked}
 use Rattle.clock_text.proofs.TextEndsTold.{text_ends_are_told}
 use Rattle.clock_origins.proofs.Walked.{same_unfolding}
-use Rattle.clock_sayings.specs.ClockExplanations.{ExplainsActivities, waits_there, some_activity_waits}
+use Rattle.clock_sayings.specs.ClockExplanations.{ExplainsActivities, waits_there}
 use Rattle.clock_sayings.specs.declared.explaining.ClockExplanation.{ClockExplanation}
 use Rattle.world_runs.specs.calls.EndWorlds.{IsWorldEnd}
 use Rattle.world_runs.specs.declared.world_end.WorldEnd.{WorldEnd}
 use Rattle.armus_words.specs.Words.{Text}
-use Rattle.explain.specs.ClockExplained.{ClockEndsSo, HasSomeClockFault, IsClockExplanationOf, IsClockRunOf}
+use Rattle.explain.specs.ClockExplained.{HasSomeClockFault, IsClockExplanationOf, IsClockRunOf}
 use Rattle.explain.specs.Explained.{WaitsIn}
+use Rattle.armus_top.proofs.TextEnds.{unfolding_of}
 
 -- ---- plans
-
--- a program with a plan has an unfolding, whose plan it is
-pub unfolding_of : (program : ClockTree) (plan : Plan) → clock_plan_of program ≡ Ok plan → (u : ClockUnfolding) × (clock_unfolded program ≡ Ok u) × (plan_of_moves u ≡ plan)
-unfolding clock_plan_of
-unfolding_of program plan e =
-    let parts = bind_ok (clock_unfolded program) (λ s. Ok (plan_of_moves s)) plan e in (parts.0, parts.1, ok_is _ _ parts.2)
 
 fails_in : (o : Outcome ClockUnfolding) (fault : CheckFault) → (o >>= λ s. Ok (plan_of_moves s)) ≡ Err fault → o ≡ Err fault
 fails_in (Ok u) fault e = absurd (cc)
@@ -123,18 +116,6 @@ clock_end_explained file text p plan e x status reads unfolds ended explains sta
 
 -- ---- who waits
 
-or_true : (a b : Bool) → (a || b) ≡ true → (a ≡ true) ⊎ (b ≡ true)
-or_true true b e = inl refl
-or_true false b e = inr e
-
-or_right : (a b : Bool) → b ≡ true → (a || b) ≡ true
-or_right true b e = refl
-or_right false b e = e
-
-or_left : (a b : Bool) → a ≡ true → (a || b) ≡ true
-or_left true b e = refl
-or_left false b e = absurd cc
-
 any_last : (xs : List TaskEnd) (x : TaskEnd) → waits_there x ≡ true → list_any waits_there (xs ++ x ∷ []) ≡ true
 any_last [] x e = or_left (waits_there x) false e
 any_last (y ∷ xs) x e = or_right (waits_there y) (list_any waits_there (xs ++ x ∷ [])) (any_last xs x e)
@@ -142,15 +123,15 @@ any_last (y ∷ xs) x e = or_right (waits_there y) (list_any waits_there (xs ++ 
 any_before : (xs : List TaskEnd) (x : TaskEnd) → list_any waits_there xs ≡ true → list_any waits_there (xs ++ x ∷ []) ≡ true
 any_before [] x e = absurd cc
 any_before (y ∷ xs) x e =
-    elim (or_true (waits_there y) (list_any waits_there xs) e) [
+    elim (or_cases (waits_there y) (list_any waits_there xs) e) [
       | inl here ↦ or_left (waits_there y) (list_any waits_there (xs ++ x ∷ [])) here
       | inr later ↦ or_right (waits_there y) (list_any waits_there (xs ++ x ∷ [])) (any_before xs x later)
     ]
 
 any_or_last : (xs : List TaskEnd) (x : TaskEnd) → list_any waits_there (xs ++ x ∷ []) ≡ true → (list_any waits_there xs ≡ true) ⊎ (waits_there x ≡ true)
-any_or_last [] x e = elim (or_true (waits_there x) false e) [ inl here ↦ inr here | inr none ↦ absurd cc ]
+any_or_last [] x e = elim (or_cases (waits_there x) false e) [ inl here ↦ inr here | inr none ↦ absurd cc ]
 any_or_last (y ∷ xs) x e =
-    elim (or_true (waits_there y) (list_any waits_there (xs ++ x ∷ [])) e) [
+    elim (or_cases (waits_there y) (list_any waits_there (xs ++ x ∷ [])) e) [
       | inl here ↦ inl (or_left (waits_there y) (list_any waits_there xs) here)
       | inr later ↦ elim (any_or_last xs x later) [
         | inl before ↦ inl (or_right (waits_there y) (list_any waits_there xs) before)

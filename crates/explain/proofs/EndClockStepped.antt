@@ -18,7 +18,8 @@ use Rattle.clock_steps.specs.ShownClockSteps.{AreClockShown}
 use Rattle.clock_steps.specs.calls.SteppedClocks.{IsSteppedClockRun}
 use Rattle.armus_words.specs.Words.{Text}
 use Rattle.explain.specs.ClockStepped.{AreClockStepsOf}
-use Rattle.explain.proofs.ClockEnds.{clock_run, unfolding_of}
+use Rattle.explain.proofs.ClockEnds.{clock_run}
+use Rattle.armus_top.proofs.TextEnds.{unfolding_of}
 
 module _ (text : Text) (p : ClockTree) (plan : Plan) (s : SteppedRun) (unfolds : clock_plan_of p ≡ Ok plan)
     (stepped : (u : ClockUnfolding) → clock_unfolded p ≡ Ok u → IsSteppedClockRun text p u plan s) where

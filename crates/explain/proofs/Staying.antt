@@ -1,6 +1,6 @@
 -- By the explanation of an avoided run somebody was refused or waits for ever just where a task of the state in which it ends was or does.
 use Rattle.std.proofs.Common.{◌≡◌, ◌∙◌, ℕ, ◌<◌, Bool, true, false, Option, Some, None, List, length, ap, inl, inr, refl, subst, sym}
-use Rattle.std.specs.Prelude.{◌↔◌, ◌⊎◌, slice_index_or}
+use Rattle.std.specs.Prelude.{◌↔◌, slice_index_or}
 use Rattle.std.proofs.lemmas.Option.{get_or_from_slice_get}
 use Rattle.armus_base.specs.CheckedPlans.{IsCheckedPlan}
 use Rattle.armus_base.specs.Deadlocks.{IsDeadBy}
@@ -26,11 +26,11 @@ use Rattle.report.specs.declared.standing.Standing.TheVariants as way
 use Rattle.refused_awaits.specs.AvoidedExplanations.{IsAvoidedExplanation}
 use Rattle.refused_awaits.specs.AvoidedWords.{was_refused, waits_at_the_end, somebody_stays}
 use Rattle.refused_awaits.proofs.StaysTold.{stays_by_standing, standing_stays}
+use Rattle.refused_awaits.proofs.ToldOnce.{refused_end}
 use Rattle.armus_words.specs.Words.{Text}
 use Rattle.armus_top.specs.Programs.{IsPlanOf}
 use Rattle.armus_top.proofs.OnePlan.{checked_plan}
-use Rattle.explain.specs.Avoided.{IsRefusedIn, SomeStays}
-use Rattle.explain.specs.Explained.{WaitsIn}
+use Rattle.explain.specs.Avoided.{SomeStays}
 
 -- an end tells what it comes from
 blocked_is : (forked : Bool) (published refused : Option Event) (e : Event) → end_by forked published refused ≡ ends.Blocked e → published ≡ Some e
@@ -44,14 +44,6 @@ refused_is forked (Some d) refused e is = absurd (cc)
 refused_is forked None (Some d) e is = cc
 refused_is true None None e is = absurd (cc)
 refused_is false None None e is = absurd (cc)
-
--- who was refused, or waits, by its standing
-refused_end : (IsDead : Type 0) (end : TaskEnd) (s : Standing) → Stands IsDead end s → was_refused s ≡ true → (e : Event) × (end ≡ ends.Refused e)
-refused_end IsDead (ends.Refused e) s is on = (e, refl)
-refused_end IsDead ends.Done s is on = absurd (let off = subst (λ x. was_refused x ≡ true) is on in cc)
-refused_end IsDead ends.Unforked s is on = absurd (let off = subst (λ x. was_refused x ≡ true) is on in cc)
-refused_end IsDead (ends.Blocked e) s (inl (dead, is)) on = absurd (let off = subst (λ x. was_refused x ≡ true) is on in cc)
-refused_end IsDead (ends.Blocked e) s (inr (alive, is)) on = absurd (let off = subst (λ x. was_refused x ≡ true) is on in cc)
 
 waiting_end : (IsDead : Type 0) (end : TaskEnd) (s : Standing) → Stands IsDead end s → waits_at_the_end s ≡ true → (e : Event) × (end ≡ ends.Blocked e)
 waiting_end IsDead (ends.Blocked e) s is on = (e, refl)

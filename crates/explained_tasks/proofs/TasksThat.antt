@@ -6,6 +6,7 @@ use Rattle.std.proofs.lemmas.List.Elements.{Contains-append_left, Contains-appen
 use Rattle.armus_base.specs.declared.ids.TaskId.{TaskId}
 use Rattle.armus_base.specs.Finals.{list_below}
 use Rattle.armus_base.proofs.Elements.{Contains-cons_cases, Contains-head, nothing_in_nil}
+use Rattle.armus_base.proofs.Lists.{none_first}
 use Rattle.task_sayings.specs.declared.situation.Situation.{Situation}
 use Rattle.task_sayings.specs.Facts.{FactsValue, situation_of, tasks_that}
 use Rattle.task_sayings.proofs.Filters.{below_is, passed_from, passed_is}
@@ -23,11 +24,6 @@ task_below (suc n) t lt =
           Contains-append_right (list_below (λ u. record { 0 = u }) n) (record { 0 = n } ∷ []) t
           (subst (λ (k : ℕ). Contains {X = TaskId} (record { 0 = n } ∷ []) (record { 0 = k })) same (Contains-head (record { 0 = n }) []))
     ]
-
--- a list of which nothing stands first is empty
-pub none_first : {A : Type 0} (xs : List A) → slice_get xs 0 ≡ None → xs ≡ []
-none_first [] e = refl
-none_first (x ∷ xs) e = absurd (cc)
 
 -- an element of a list means that one stands first
 pub some_first : {A : Type 0} (xs : List A) (x : A) → Contains xs x → (y : A) × (slice_get xs 0 ≡ Some y)

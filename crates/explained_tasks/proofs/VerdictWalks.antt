@@ -1,13 +1,13 @@
 -- What the walk along the nexts shows.
-use Rattle.std.proofs.Common.{◌≡◌, ℕ, ◌+◌, ◌-◌, ◌<◌, Bool, true, false, Some, None, List, [], ◌∷◌, ◌++◌, length, get_or, set, take, arith, sym, ◌∙◌, ap, subst, refl, inl, inr, append_assoc, get_or-set_same, get_or-set_other, ◌⊎◌}
+use Rattle.std.proofs.Common.{◌≡◌, ℕ, ◌+◌, ◌-◌, ◌<◌, Bool, true, false, Some, None, List, [], ◌∷◌, ◌++◌, length, get_or, set, take, arith, sym, ◌∙◌, ap, subst, refl, inl, inr, append_assoc}
 use Rattle.std.specs.Prelude.{Contains, ◌↔◌}
-use Rattle.std.proofs.lemmas.Bool.{cases_eq}
 use Rattle.std.proofs.lemmas.List.{take_more, take_all}
 use Rattle.std.proofs.lemmas.List.Elements.{Contains-append_left, Contains-push, Contains-push_cases}
 use Rattle.armus_base.specs.declared.ids.TaskId.{TaskId}
 use Rattle.armus_base.specs.Relations.{IsWalk, IsWalkCycle}
 use Rattle.armus_base.specs.States.{Phases}
 use Rattle.armus_base.proofs.WalkCycles.{IsWalk-push, walk_done, IsWalkTo as Goes}
+use Rattle.armus_base.proofs.Lists.{set_flag}
 use Rattle.explained_tasks.specs.declared.outcome.Verdict.{Verdict}
 use Rattle.explained_tasks.specs.declared.outcome.Verdict.TheVariants.{Nobody, Circle, Chain}
 use Rattle.task_sayings.specs.Facts.{FactsValue}
@@ -51,14 +51,6 @@ module _ (f : FactsValue) (phases : ℕ → Phases) (start t : TaskId) (path : L
       first : (xs : List TaskId) → 0 < length xs → (d : TaskId) → get_or (xs ++ t ∷ []) 0 d ≡ get_or xs 0 d
       first [] l d = absurd (omega arith)
       first (x ∷ xs) l d = refl
-
--- a flag that is set
-set_flag : (xs : List Bool) (i j : ℕ) → i < length xs → (get_or (set xs i true) j false ≡ true) ↔ ((j ≡ i) ⊎ (get_or xs j false ≡ true))
-set_flag xs i j lt =
-    elim (cases_eq j i) [
-      | inl e ↦ (λ _. inl e, λ _. subst (λ k. get_or (set xs i true) k false ≡ true) (sym e) (get_or-set_same xs i true false lt))
-      | inr ne ↦ let f = get_or-set_other xs i j true false ne in (λ h. inr (sym f ∙ h), λ h. elim h [ inl e ↦ absurd (ne e) | inr g ↦ f ∙ g ])
-    ]
 
 -- the flags tell which tasks stand on a path, also where one more does
 pub set_task_flags :

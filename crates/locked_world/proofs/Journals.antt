@@ -1,19 +1,16 @@
 -- A journal and its run fix each other.
 use Rattle.std.proofs.Common.{◌≡◌, ◌≢◌, ℕ, List, [], ◌∷◌, ◌++◌, Some, sym, ◌∙◌, ap, subst, refl, inl, inr}
 use Rattle.armus_base.specs.declared.ids.TaskId.{TaskId}
-use Rattle.armus_base.specs.Plans.{Aim, Plan, Action, Refuses, action_at, in_code}
+use Rattle.armus_base.specs.Plans.{Aim, Plan, Action, Refuses, action_at}
 use Rattle.armus_base.specs.Runs.{IsByCode, IsPlainRun, places}
 use Rattle.armus_base.specs.States.{Step}
 use Rattle.armus_base.proofs.Codes.{no_refusal}
 use Rattle.armus_base.proofs.Members.{by_code_next, plain_undropped}
+use Rattle.armus_base.proofs.Again.{in_code_plain}
 use Rattle.locked_world.specs.calls.Journals.{GoesOnWith, JournalLeadsTo, no_step, one_more}
 use Rattle.locked_world.specs.Journals.{journal_of}
 use Rattle.locked_world.specs.calls.Laws.{EachGoesOn, JournalFixesRun, JournalLeads, LeadsIsJournal}
 use Rattle.locked_world.proofs.Ahead.{ahead_of_last, same_ends}
-
-in_code_plain : (x : Action) → ((aim : Aim) → x ≢ Refuses aim) → in_code x ≡ x
-in_code_plain (Refuses p) n = absurd (n p refl)
-in_code_plain x n = refl
 
 -- the last step of a plain run is how its task goes on by its code
 pub last_goes_on : (plan : Plan) (h : List Step) (e : Step) → IsPlainRun plan (e ∷ h) → GoesOnWith plan h e.task e.action

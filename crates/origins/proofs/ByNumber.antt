@@ -6,11 +6,11 @@ use Rattle.std.specs.List.{slice_get}
 use Rattle.std.proofs.lemmas.Bool.{cases_lt, ne_eqb}
 use Rattle.std.proofs.lemmas.List.{length-map}
 use Rattle.std.proofs.lemmas.Option.{slice_get-get_or, slice_get-map, slice_get_past}
+use Rattle.armus_base.proofs.Lists.{slice_get-append, slice_get-behind}
 use Rattle.pl_syntax.specs.declared.tree.Body.{Body}
 use Rattle.pl_syntax.specs.declared.tree.Stmt.{Stmt}
 use Rattle.pl_syntax.specs.Tree.{Tree, count, done, fork, loop, plain}
 use Rattle.pl_plan.specs.Unfolding.{Coming, a_fork, a_loop}
-use Rattle.pl_plan.proofs.Growth.{slice_get-append, slice_get-behind}
 use Rattle.origins.specs.Origins.{statement_in, written_statements}
 use Rattle.origins.specs.inside.Tables.{body_of, coming_of, kept_comings, fork_body, forked_body}
 use Rattle.origins.proofs.ForkBodies.{found_inside, fork_behind, fork_here, fork_inside, loop_behind, loop_inside}

@@ -8,12 +8,12 @@ use Rattle.std.proofs.lemmas.List.Elements.{filter-append}
 use Rattle.std.proofs.lemmas.Nat.{div-add-mod', mod_below}
 use Rattle.std.proofs.lemmas.Option.{slice_get-map, slice_get-get_or, slice_get_past, slice_get_within}
 use Rattle.armus_base.specs.Pieces.{times}
+use Rattle.armus_base.proofs.Lists.{slice_get-append, slice_get-behind}
 use Rattle.pl_syntax.specs.declared.tree.Stmt.{Stmt}
 use Rattle.pl_syntax.specs.declared.tree.Stmt.TheVariants as s
 use Rattle.pl_syntax.specs.Tree.{Tree, count, done, fork, loop, plain}
 use Rattle.pl_syntax.specs.calls.Bodies.{followed_by, tree_of}
 use Rattle.pl_plan.specs.Unfolding.{Start, Visit, a_fork, a_loop, a_plain, a_turn, visit, visits_of}
-use Rattle.pl_plan.proofs.Growth.{slice_get-append, slice_get-behind}
 use Rattle.origins.specs.declared.turns.LoopTurn.{LoopTurn}
 use Rattle.origins.specs.declared.seeking.Sought.TheVariants.{Found, Left}
 use Rattle.origins.specs.calls.OriginLaws.{TurnsAreOfVisits}

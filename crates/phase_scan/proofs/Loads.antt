@@ -1,12 +1,12 @@
 -- What loads leave as it was, and what they make longer.
-use Rattle.std.proofs.Common.{◌≡◌, ◌≢◌, ℕ, zero, suc, ◌<◌, ◌≤◌, ◌+◌, Bool, true, false, Option, Some, None, length, sym, refl, ap, ◌∙◌, subst, arith, inl, inr, ◌⊎◌, eq-eqb}
+use Rattle.std.proofs.Common.{◌≡◌, ◌≢◌, ℕ, suc, ◌<◌, ◌≤◌, ◌+◌, Bool, true, false, Option, Some, None, length, sym, refl, ap, ◌∙◌, subst, arith, inl, inr, eq-eqb}
 use Rattle.std.specs.Prelude.{if◌then◌else◌, ◌&&◌, ◌==◌}
 use Rattle.std.proofs.lemmas.Bool.{cases_eq}
 use Rattle.armus_base.specs.declared.event.Event.{Event}
 use Rattle.armus_base.specs.Plans.{Blocks, Plan, action_at}
 use Rattle.armus_base.specs.States.{IsReached, State}
 use Rattle.armus_base.specs.calls.Runs.{IsPrefix, Precedes}
-use Rattle.armus_base.specs.Runs.{Place, first_place}
+use Rattle.armus_base.specs.Runs.{Place}
 use Rattle.armus_base.specs.Places.{members_below, phases_after, published_after}
 use Rattle.armus_base.specs.calls.Places.{phases_at_place}
 use Rattle.armus_base.specs.CheckedPlans.{IsCheckedPlan}
@@ -22,6 +22,7 @@ use Rattle.board.specs.calls.Words.{found_in}
 use Rattle.board.specs.calls.Steps.{IsSameSeat, WasSo}
 use Rattle.board.specs.calls.Seats.{AnswersAwait, AnswersPhase, IsSeat, Known, event_of}
 use Rattle.armus_base.proofs.MemberPhasers.{phaser_of_member}
+use Rattle.armus_base.proofs.KeepsFar.{first_or_not}
 use Rattle.board.proofs.Loaded.{event_stays}
 use Rattle.phase_scan.specs.calls.Looks.{LoadsAlone, InEachLawful, ScansTo}
 
@@ -30,14 +31,6 @@ prefix_both a b c x y = precedes_trans a.done b.done c.done a.dropped b.dropped 
 
 some_same : (u w : ℕ) → Some u ≡ Some w → u ≡ w
 some_same u w e = cc
-
-first_or_not : (b : Place) → (b ≡ first_place) ⊎ (b ≢ first_place)
-first_or_not b = by_parts b.done b.dropped refl refl
-  where
-    by_parts : (k : ℕ) (o : Option ℕ) → b.done ≡ k → b.dropped ≡ o → (b ≡ first_place) ⊎ (b ≢ first_place)
-    by_parts zero None a e = inl (λ i. record { done = a i; dropped = e i })
-    by_parts zero (Some d) a e = inr (λ h. let f = ap (λ (x : Place). x.dropped) h in cc)
-    by_parts (suc k) o a e = inr (λ h. let f : b.done ≡ 0 = ap (λ (x : Place). x.done) h in omega arith)
 
 -- what is a prefix of a place of a task is one
 prefix_place : (b : Bool) (plan : Plan) (t : ℕ) (a c : Place) → IsPlaceOf b plan t a → IsPrefix c a → IsPlaceOf b plan t c

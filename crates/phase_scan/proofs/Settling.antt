@@ -15,6 +15,7 @@ use Rattle.armus_base.specs.calls.Boards.{IsLawful}
 use Rattle.armus_base.specs.Deadlocks.{IsDeadIn}
 use Rattle.armus_base.specs.Finals.{given_below, is_awaited, is_event_of, listed_phase, status_of, statuses_on}
 use Rattle.armus_base.specs.calls.Seats.{IsAsFarOn, found_by}
+use Rattle.armus_base.proofs.Below.{given_below_same}
 use Rattle.board.specs.calls.Views.{avoids, seen}
 use Rattle.board.specs.calls.Words.{found_in}
 use Rattle.board.specs.calls.Seats.{IsSeat, Known}
@@ -24,7 +25,6 @@ use Rattle.phase_scan.specs.calls.Settled.{KnowsAll, TellsState}
 use Rattle.phase_scan.proofs.Loads.{goes_both}
 use Rattle.phase_scan.proofs.Farther.{possible_before}
 use Rattle.phase_scan.proofs.Keeping.{some_same}
-use Rattle.phase_scan.proofs.Tables.{given_below_same}
 use Rattle.phase_scan.proofs.FoundPlaces.{IsLoaded, phase}
 use Rattle.phase_scan.proofs.Telling.{await, awaits, gathers, seat, some_possible}
 

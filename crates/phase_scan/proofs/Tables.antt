@@ -1,10 +1,9 @@
 -- The tables of a collect: what a read and a write say, and the lists of statuses that they give.
 use mathlib.Core.Path.{fun_ext}
-use Rattle.std.proofs.Common.{◌≡◌, ◌≢◌, ℕ, zero, suc, ◌<◌, ◌≤◌, ◌+◌, ◌-◌, ◌*◌, Bool, true, false, List, [], ◌∷◌, ◌++◌, Option, Some, None, length, set, add-one, arith, sym, ◌∙◌, ap, subst, refl, inl, inr}
+use Rattle.std.proofs.Common.{◌≡◌, ◌≢◌, ℕ, zero, suc, ◌<◌, ◌≤◌, ◌+◌, ◌-◌, ◌*◌, Bool, true, false, List, [], ◌∷◌, ◌++◌, Option, Some, None, length, set, arith, sym, ◌∙◌, ap, subst, refl, inl, inr}
 use Rattle.std.specs.Prelude.{nat_lt, slice_get, unwrap_or, if◌then◌else◌, option_map, option_to_list, ◌||◌}
 use Rattle.std.proofs.lemmas.Bool.{cases_eq, cases_lt}
 use Rattle.std.proofs.lemmas.Nat.{same_from_place}
-use Rattle.std.proofs.lemmas.List.{append-nil}
 use Rattle.armus_base.specs.declared.event.Event.{Event}
 use Rattle.armus_base.specs.declared.status.Member.{Member}
 use Rattle.armus_base.specs.declared.status.Status.{Status}
@@ -13,20 +12,10 @@ use Rattle.armus_base.specs.Places.{some_before}
 use Rattle.armus_base.specs.States.{Phases, State, with_phase}
 use Rattle.armus_base.specs.calls.Statuses.{IsInOrder}
 use Rattle.armus_base.proofs.Steps.{with_phase_same, with_phase_other}
+use Rattle.armus_base.proofs.Lists.{slice_get-set_same, slice_get-set_other}
+use Rattle.armus_base.proofs.Below.{given_below_more, given_below_none}
 use Rattle.phase_scan.specs.inside.Nexts.{IsNextAsked}
 use Rattle.phase_scan.specs.calls.Tables.{phases_of_found, status_found}
-
-pub slice_get-set_same : {A : Type 0} (xs : List A) (k : ℕ) (v : A) → k < length xs → slice_get (set xs k v) k ≡ Some v
-slice_get-set_same [] k v l = absurd (omega arith)
-slice_get-set_same (x ∷ xs) zero v l = refl
-slice_get-set_same (x ∷ xs) (suc k) v l = slice_get-set_same xs k v (omega arith)
-
-pub slice_get-set_other : {A : Type 0} (xs : List A) (k j : ℕ) (v : A) → j ≢ k → slice_get (set xs k v) j ≡ slice_get xs j
-slice_get-set_other [] k j v n = refl
-slice_get-set_other (x ∷ xs) zero zero v n = absurd (n refl)
-slice_get-set_other (x ∷ xs) zero (suc j) v n = refl
-slice_get-set_other (x ∷ xs) (suc k) zero v n = refl
-slice_get-set_other (x ∷ xs) (suc k) (suc j) v n = slice_get-set_other xs k j v (λ e. n (ap suc e))
 
 -- inside the table
 pub cell_is : (w : ℕ) (cells : List (Option ℕ)) (t p : ℕ) → p < w → phases_of_found w cells t p ≡ unwrap_or (slice_get cells (t * w + p)) None
@@ -77,14 +66,6 @@ cell_set w cells t p c l within =
         ∙ sym (cell_is w cells u q inside)
         ∙ sym (with_phase_other (phases_of_found w cells) t p c u q n)
 
--- what a function gives for the numbers below a bound: one number more, and two functions that agree
-pub given_below_more : {A : Type 0} (f : ℕ → Option A) (n : ℕ) (x : A) (xs : List A) → xs ≡ given_below f n → f n ≡ Some x → xs ++ x ∷ [] ≡ given_below f (n + 1)
-given_below_more f n x xs e h = ap (λ ys. ys ++ x ∷ []) e ∙ ap (λ o. given_below f n ++ option_to_list o) (sym h) ∙ ap (given_below f) (sym (add-one n))
-
-pub given_below_none : {A : Type 0} (f : ℕ → Option A) (n : ℕ) (xs : List A) → xs ≡ given_below f n → f n ≡ None → xs ≡ given_below f (n + 1)
-given_below_none f n xs e h =
-    e ∙ sym (append-nil (given_below f n)) ∙ ap (λ o. given_below f n ++ option_to_list o) (sym h) ∙ ap (given_below f) (sym (add-one n))
-
 -- up to the next asked number nothing is listed
 pub listed_up_to : (asked : ℕ → Bool) (m : Phases) (d p : ℕ) → ((q : ℕ) → p ≤ q → q < p + d → asked q ≡ false) →
     given_below (listed_phase asked m) p ≡ given_below (listed_phase asked m) (p + d)
@@ -101,12 +82,6 @@ listed_to_next asked m n p g xs is next =
     let from = next.from in
     let same : p + (g - p) ≡ g = omega arith in
     is ∙ listed_up_to asked m (g - p) p (λ q a b. next.none q a (omega arith)) ∙ ap (given_below (listed_phase asked m)) same
-
-pub given_below_same : {A : Type 0} (f g : ℕ → Option A) (n : ℕ) → ((k : ℕ) → k < n → f k ≡ g k) → given_below f n ≡ given_below g n
-given_below_same f g zero same = refl
-given_below_same f g (suc n) same =
-    ap (λ xs. xs ++ option_to_list (f n)) (given_below_same f g n (λ k l. same k (omega arith)))
-    ∙ ap (λ o. given_below g n ++ option_to_list o) (same n (omega arith))
 
 pub given_below_nothing : {A : Type 0} (f : ℕ → Option A) (n : ℕ) → ((k : ℕ) → f k ≡ None) → given_below f n ≡ []
 given_below_nothing f zero none = refl

@@ -5,8 +5,9 @@ use Rattle.armus_base.specs.declared.status.Member.{Member}
 use Rattle.armus_base.specs.Finals.{given_below, listed_phase}
 use Rattle.armus_base.specs.States.{Phases, State, updated}
 use Rattle.armus_base.proofs.Steps.{updated_other, updated_same}
+use Rattle.armus_base.proofs.Below.{given_below_more, given_below_none}
 use Rattle.phase_scan.specs.calls.Tables.{state_supposed, status_found}
-use Rattle.phase_scan.proofs.Tables.{given_below_more, given_below_none, status_none, status_some}
+use Rattle.phase_scan.proofs.Tables.{status_none, status_some}
 
 module _ (phasers : ℕ) (s : State) (t : ℕ) (event : Event) (own : Phases) (column : ℕ → Option ℕ) (asked : ℕ → Bool) (u : ℕ) where
   abbrev supposed : State

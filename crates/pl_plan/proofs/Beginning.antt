@@ -43,7 +43,7 @@ pub record Ready (k : Checker) (first after : ℕ) : Type 0 where
   pub within : after ≤ length k.steps
   pub list : IsList (length k.bindings.slots) k.steps first after
 
-range_is : (first after : ℕ) (s : CheckerStart) → Some (first, after) ≡ range_of (Some s) → (first ≡ s.first) × (after ≡ s.after)
+pub range_is : (first after : ℕ) (s : CheckerStart) → Some (first, after) ≡ range_of (Some s) → (first ≡ s.first) × (after ≡ s.after)
 range_is first after s e =
     let p : ◌≡◌ {A = ℕ × ℕ} (first, after) (s.first, s.after) = cc in
     (ap (λ x. x.0) p, ap (λ x. x.1) p)

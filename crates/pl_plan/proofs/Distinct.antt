@@ -16,7 +16,7 @@ pub spelling_at : (keys : List (Bor (List ℕ))) (i : ℕ) (k : Bor (List ℕ)) 
 spelling_at keys i k name lt e same =
     get_or-map (λ (b : Bor (List ℕ)). b.now) keys i k [] lt ∙ ap (λ (b : Bor (List ℕ)). b.now) (get_or_from_slice_get keys i k k e) ∙ sym ((bytes_eq-Decides name k.now).0 same)
 
-other_way : (a b : List ℕ) → bytes_eq a b ≡ false → bytes_eq b a ≡ false
+pub other_way : (a b : List ℕ) → bytes_eq a b ≡ false → bytes_eq b a ≡ false
 other_way a b e = by (bytes_eq b a) refl
   where
     by : (v : Bool) → bytes_eq b a ≡ v → bytes_eq b a ≡ false

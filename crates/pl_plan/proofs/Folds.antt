@@ -1,15 +1,14 @@
 -- The pieces that statements leave are whole loops and unfold to the ops of the statements; and `pieces_in` computes them, so there is one list of them.
 use Rattle.std.proofs.Common.{◌≡◌, ℕ, zero, suc, ◌+◌, ◌-◌, ◌*◌, ◌≤◌, max, Bool, true, false, List, [], ◌∷◌, ◌++◌, length, drop, refl, ap}
 use Rattle.std.proofs.Common.{ap₂, sym, ◌∙◌, arith, append_assoc, length-append, suc-mul}
-use Rattle.std.proofs.lemmas.Bool.{false≢true}
+use Rattle.std.proofs.lemmas.Bool.{false≢true, and_parts}
 use Rattle.std.proofs.lemmas.List.{drop_at}
-use Rattle.armus_base.proofs.RunTests.{both}
 use Rattle.armus_base.specs.declared.op.Op.{Op}
 use Rattle.armus_base.specs.declared.piece.Piece.{Piece}
 use Rattle.armus_base.specs.declared.piece.Piece.TheVariants.{Op as Single, Repeat}
 use Rattle.armus_base.specs.calls.Pieces.{AreWhole, max_turns, unfolded}
 use Rattle.armus_base.specs.Pieces.{straight, times}
-use Rattle.armus_base.proofs.Unfolding.{unfolded-append, unfolded-straight}
+use Rattle.armus_base.proofs.Unfolding.{unfolded-append, unfolded-straight, straight_whole}
 use Rattle.armus_base.proofs.WholeLoops.{unfolded_loop, whole-append, whole_deeper, whole_loop}
 use Rattle.pl_syntax.specs.Tree.{Tree, count, height}
 use Rattle.pl_plan.specs.FoldedOps.{Folding, folding, is_steady, is_steady_plain, loop_pieces, pieces_in, repeated, steady_pieces, then_on, turn_pieces}
@@ -70,14 +69,14 @@ leaves_unfold (a_turn k body rest once os ps qs e l m) few =
 
 pub steady_few : {t : Tree} {os : List Op} {ps : List Piece} → LeavesPieces t os ps → is_steady t ≡ true → length ps ≤ count t
 steady_few nothing steady = omega arith
-steady_few (no_op s rest os ps e l) steady = omega (arith, steady_few l (both (is_steady_plain s) (is_steady rest) steady).1)
-steady_few (op s rest o os ps e l) steady = omega (arith, steady_few l (both (is_steady_plain s) (is_steady rest) steady).1)
+steady_few (no_op s rest os ps e l) steady = omega (arith, steady_few l (and_parts (is_steady_plain s) (is_steady rest) steady).1)
+steady_few (op s rest o os ps e l) steady = omega (arith, steady_few l (and_parts (is_steady_plain s) (is_steady rest) steady).1)
 steady_few (a_fork x body rest o os ps l) steady = absurd (false≢true steady)
 steady_few (folded k body rest once os bs ps e pieces l m) steady =
-    omega (arith, length-append bs ps, steady_few l e, steady_few m (both (is_steady body) (is_steady rest) steady).1)
-steady_few (no_piece k body rest os ps e l m) steady = omega (arith, steady_few m (both (is_steady body) (is_steady rest) steady).1)
-steady_few (no_turn body rest os ps m) steady = omega (arith, steady_few m (both (is_steady body) (is_steady rest) steady).1)
-steady_few (a_turn k body rest once os ps qs e l m) steady = absurd (false≢true (sym e ∙ (both (is_steady body) (is_steady rest) steady).0))
+    omega (arith, length-append bs ps, steady_few l e, steady_few m (and_parts (is_steady body) (is_steady rest) steady).1)
+steady_few (no_piece k body rest os ps e l m) steady = omega (arith, steady_few m (and_parts (is_steady body) (is_steady rest) steady).1)
+steady_few (no_turn body rest os ps m) steady = omega (arith, steady_few m (and_parts (is_steady body) (is_steady rest) steady).1)
+steady_few (a_turn k body rest once os ps qs e l m) steady = absurd (false≢true (sym e ∙ (and_parts (is_steady body) (is_steady rest) steady).0))
 
 -- ---- the function computes the relation
 
@@ -144,10 +143,6 @@ leaves_computed (a_turn k body rest once os ps qs e l m) more =
     rw e (turn_is (pieces_in body) (pieces_in rest) k once os more ps qs (leaves_computed l (os ++ more)) others)
 
 -- ---- Drops behind
-
-straight_whole : (d : ℕ) (ops : List Op) → AreWhole d (straight ops)
-straight_whole d [] = tt
-straight_whole d (o ∷ ops) = straight_whole d ops
 
 pub straight_unfolds : (d : ℕ) (ops : List Op) → UnfoldTo d ops (straight ops)
 straight_unfolds d ops = record { whole = straight_whole d ops; same = unfolded-straight ops }

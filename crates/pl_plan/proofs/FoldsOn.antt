@@ -1,11 +1,10 @@
 -- The folding of steps, step by step.
 use Rattle.std.proofs.Common.{◌≡◌, ℕ, zero, suc, ◌+◌, ◌-◌, ◌*◌, ◌<◌, ◌≤◌, Bool, true, false, if◌then◌else◌, List, [], ◌∷◌, ◌++◌, length, drop, set, arith, refl, sym, ap, subst, ◌∙◌, append_assoc, append-nil, length-append}
 use Rattle.std.proofs.Math.Seq.{set-append_seam}
-use Rattle.std.proofs.lemmas.Bool.{false≢true}
+use Rattle.std.proofs.lemmas.Bool.{false≢true, and_parts}
 use Rattle.armus_base.specs.declared.op.Op.{Op}
 use Rattle.armus_base.specs.declared.piece.Piece.{Piece}
 use Rattle.armus_base.specs.declared.piece.Piece.TheVariants.{Repeat}
-use Rattle.armus_base.proofs.RunTests.{both}
 use Rattle.pl_syntax.specs.Tree.{Tree, done, plain, fork, loop, Plain, new_task, new_phaser, reg, dereg, adv, await, skip, count}
 use Rattle.pl_plan.specs.declared.step.NameId.{NameId}
 use Rattle.pl_plan.specs.declared.step.Step.{Step}
@@ -262,10 +261,10 @@ plain_few false rest os later = omega (arith, later os)
 -- a steady body leaves no more pieces than it has statements
 pub pieces_few : (t : Tree) → is_steady t ≡ true → (os : List Op) → length (pieces_in t os).pieces ≤ count t
 pieces_few done steady os = omega arith
-pieces_few (plain s rest) steady os = plain_few (makes_op s) rest os (pieces_few rest (both (is_steady_plain s) (is_steady rest) steady).1)
+pieces_few (plain s rest) steady os = plain_few (makes_op s) rest os (pieces_few rest (and_parts (is_steady_plain s) (is_steady rest) steady).1)
 pieces_few (fork x body rest) steady os = absurd (false≢true steady)
 pieces_few (loop k body rest) steady os =
-    let tests = both (is_steady body) (is_steady rest) steady in
+    let tests = and_parts (is_steady body) (is_steady rest) steady in
     let first : length (loop_pieces (is_steady body) k (pieces_in body) os).pieces ≤ count body + 1 =
     rw tests.0 (loop_few k (count body) (pieces_in body) os (pieces_few body tests.0)) in
     omega (

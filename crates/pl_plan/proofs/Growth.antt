@@ -1,25 +1,18 @@
 -- What stays of the phases that a plan fixes while it grows, and what becomes of them.
-use Rattle.std.proofs.Common.{◌≡◌, ◌≢◌, ℕ, zero, suc, ◌+◌, ◌<◌, ◌≤◌, Some, None, Option, List, [], ◌∷◌, ◌++◌, length, arith, sym, ◌∙◌, ap, subst, refl, inl, inr}
+use Rattle.std.proofs.Common.{◌≡◌, ◌≢◌, ℕ, zero, suc, ◌+◌, ◌<◌, ◌≤◌, Some, None, Option, List, [], ◌∷◌, length, arith, sym, ◌∙◌, ap, subst, refl, inl, inr}
 use Rattle.std.specs.Prelude.{slice_get}
 use Rattle.std.proofs.lemmas.Bool.{cases_eq}
 use Rattle.std.proofs.lemmas.List.{length-append}
 use Rattle.std.proofs.lemmas.Bool.Decides.{nat_tests}
-use Rattle.armus_base.specs.Plans.{Action, Makes, Registers, Forks, Advances, Drops, Blocks, Passes, Refuses, Plan, action_at, actions, parent_of, number_or_zero}
+use Rattle.armus_base.specs.Plans.{Action, Makes, Registers, Forks, Advances, Drops, Blocks, Passes, Refuses, Plan, action_at, actions, parent_of}
 use Rattle.armus_base.specs.States.{Phases}
 use Rattle.armus_base.specs.Places.{first_phases, own_phases, own_step, phases_after, register_step, registered, registered_by}
 use Rattle.armus_base.specs.calls.CheckedPlans.{Grows}
 use Rattle.armus_base.specs.CheckedPlans.{HasTables, IsCheckedPlan, IsMemberAfter}
 use Rattle.armus_base.proofs.Codes.{child_within}
 use Rattle.armus_base.proofs.Fixed.{first_phases_is, first_phases_unfolds, register_step_keeps}
-
-pub slice_get-append : {A : Type 0} (xs ys : List A) (k : ℕ) → k < length xs → slice_get (xs ++ ys) k ≡ slice_get xs k
-slice_get-append [] ys k l = absurd (omega arith)
-slice_get-append (x ∷ xs) ys zero l = refl
-slice_get-append (x ∷ xs) ys (suc k) l = slice_get-append xs ys k (omega arith)
-
-pub slice_get-behind : {A : Type 0} (xs ys : List A) (i : ℕ) → slice_get (xs ++ ys) (length xs + i) ≡ slice_get ys i
-slice_get-behind [] ys i = ap (slice_get ys) (let e : 0 + i ≡ i = omega arith in e)
-slice_get-behind (x ∷ xs) ys i = ap (slice_get (x ∷ (xs ++ ys))) (let e : length (x ∷ xs) + i ≡ suc (length xs + i) = omega arith in e) ∙ slice_get-behind xs ys i
+use Rattle.armus_base.proofs.Lists.{slice_get-behind}
+use Rattle.armus_base.proofs.PlanGrows.{own_at, fixed_own, parents_same, registered_same, first_phases_same}
 
 -- the phases of a task with those of m after these further actions of its own
 abbrev pub own_steps : List Action → Phases → Phases
@@ -56,67 +49,19 @@ registered_more act m c k (x ∷ xs) h =
     ∙ ap (λ o. register_steps xs c (own_step o (own_phases act m k)) (register_step o c (own_phases act m k) (registered act m c k))) now
 
 module _ (plan plan' : Plan) (t : ℕ) (checked : IsCheckedPlan plan) (grows : Grows plan plan' t) (tables : HasTables plan') where
-  pub parent_entry : (u : ℕ) → u < length plan.parents → slice_get plan'.parents u ≡ slice_get plan.parents u
-  parent_entry u l = ap (λ xs. slice_get xs u) grows.parents.1 ∙ slice_get-append plan.parents grows.parents.0 u l
-
-  pub parents_same : (u : ℕ) → u < length plan.parents → parent_of plan' u ≡ parent_of plan u
-  unfolding parent_of
-  parents_same u l = ap number_or_zero (parent_entry u l)
-
-  pub other_at : (u : ℕ) → u ≢ t → action_at plan' u ≡ action_at plan u
-  unfolding action_at
-  other_at u n = ap slice_get (grows.others u n)
-
-  pub own_at : (k : ℕ) → k < length (actions plan t) → action_at plan' t k ≡ action_at plan t k
-  unfolding action_at
-  own_at k l = ap (λ xs. slice_get xs k) grows.own.1 ∙ slice_get-append (actions plan t) grows.own.0 k l
-
   pub new_at : (i : ℕ) → action_at plan' t (length (actions plan t) + i) ≡ slice_get grows.own.0 i
   unfolding action_at
   new_at i = ap (λ xs. slice_get xs (length (actions plan t) + i)) grows.own.1 ∙ slice_get-behind (actions plan t) grows.own.0 i
 
-  registered_same :
-      (u v : ℕ) → v ≢ t → first_phases plan' v ≡ first_phases plan v →
-      registered_by plan' v u (length (actions plan' v)) ≡ registered_by plan v u (length (actions plan v))
-  unfolding registered_by
-  registered_same u v n e =
-      ap (λ act. registered act (first_phases plan' v) u (length (actions plan' v))) (other_at v n)
-      ∙ ap (λ m. registered (action_at plan v) m u (length (actions plan' v))) e
-      ∙ ap (λ xs. registered (action_at plan v) (first_phases plan v) u (length xs)) (grows.others v n)
-
-  first_phases_root : first_phases plan' 0 ≡ first_phases plan 0
-  unfolding first_phases
-  first_phases_root = refl
-
-  -- the tasks up to t begin as before
-  first_phases_same : (d u : ℕ) → u ≤ d → u ≤ t → first_phases plan' u ≡ first_phases plan u
-  first_phases_same d zero h l = first_phases_root
-  first_phases_same zero (suc u) h l = absurd (omega arith)
-  first_phases_same (suc d) (suc u) h l =
-      let v = parent_of plan (suc u) in
-      let first : v < suc u = checked.tables.parents_first (suc u) (omega arith) in
-      let t_in = grows.here in
-      let other : v ≢ t = λ e. absurd (omega arith) in
-      first_phases_unfolds plan' tables.parents_first (suc u) (omega arith)
-      ∙ ap (λ w. registered_by plan' w (suc u) (length (actions plan' w))) (parents_same (suc u) (omega arith))
-      ∙ registered_same (suc u) v other (first_phases_same d v (omega arith) (omega arith))
-      ∙ sym (first_phases_is plan checked (suc u) (omega arith))
-
-  -- what the plan fixed of task t stays
-  pub own_before : (k : ℕ) → k ≤ length (actions plan t) → phases_after plan' t k ≡ phases_after plan t k
-  unfolding phases_after
-  own_before zero l = first_phases_same t t (omega arith) (omega arith)
-  own_before (suc k) l =
-      ap (λ o. own_step o (own_phases (action_at plan' t) (first_phases plan' t) k)) (own_at k (omega arith))
-      ∙ ap (own_step (action_at plan t k)) (own_before k (omega arith))
-
-  -- and so does what it has registered
+  -- what the task has registered stays
   registered_before : (c k : ℕ) → k ≤ length (actions plan t) → registered_by plan' t c k ≡ registered_by plan t c k
   unfolding registered_by phases_after
   registered_before c zero l = refl
   registered_before c (suc k) l =
-      ap (λ o. register_step o c (own_phases (action_at plan' t) (first_phases plan' t) k) (registered (action_at plan' t) (first_phases plan' t) c k)) (own_at k (omega arith))
-      ∙ ap (λ m. register_step (action_at plan t k) c m (registered (action_at plan' t) (first_phases plan' t) c k)) (own_before k (omega arith))
+      ap (λ o. register_step o c (own_phases (action_at plan' t) (first_phases plan' t) k) (registered (action_at plan' t) (first_phases plan' t) c k))
+          (own_at plan plan' t checked grows tables k (omega arith))
+      ∙ ap (λ m. register_step (action_at plan t k) c m (registered (action_at plan' t) (first_phases plan' t) c k))
+          (fixed_own plan plan' t checked grows tables k (omega arith))
       ∙ ap (register_step (action_at plan t k) c (own_phases (action_at plan t) (first_phases plan t) k)) (registered_before c k (omega arith))
 
   -- the current task's phases go on from those that it had
@@ -125,7 +70,7 @@ module _ (plan plan' : Plan) (t : ℕ) (checked : IsCheckedPlan plan) (grows : G
   last_grown =
       ap (phases_after plan' t) (ap length grows.own.1 ∙ length-append (actions plan t) grows.own.0)
       ∙ own_more (action_at plan' t) (first_phases plan' t) (length (actions plan t)) grows.own.0 new_at
-      ∙ ap (own_steps grows.own.0) (own_before (length (actions plan t)) (omega arith))
+      ∙ ap (own_steps grows.own.0) (fixed_own plan plan' t checked grows tables (length (actions plan t)) (omega arith))
 
   registered_grown :
       (c : ℕ) → registered_by plan' t c (length (actions plan' t))
@@ -134,7 +79,8 @@ module _ (plan plan' : Plan) (t : ℕ) (checked : IsCheckedPlan plan) (grows : G
   registered_grown c =
       ap (registered_by plan' t c) (ap length grows.own.1 ∙ length-append (actions plan t) grows.own.0)
       ∙ registered_more (action_at plan' t) (first_phases plan' t) c (length (actions plan t)) grows.own.0 new_at
-      ∙ ap (λ m. register_steps grows.own.0 c m (registered_by plan' t c (length (actions plan t)))) (own_before (length (actions plan t)) (omega arith))
+      ∙ ap (λ m. register_steps grows.own.0 c m (registered_by plan' t c (length (actions plan t))))
+          (fixed_own plan plan' t checked grows tables (length (actions plan t)) (omega arith))
       ∙ ap (register_steps grows.own.0 c (last_phases plan t)) (registered_before c (length (actions plan t)) (omega arith))
 
   -- a child of the current task begins with what it is registered with now
@@ -143,7 +89,7 @@ module _ (plan plan' : Plan) (t : ℕ) (checked : IsCheckedPlan plan) (grows : G
       first_phases plan' u ≡ register_steps grows.own.0 u (last_phases plan t) (first_phases plan u)
   first_grown u pos l e =
       first_phases_unfolds plan' tables.parents_first u pos
-      ∙ ap (λ w. registered_by plan' w u (length (actions plan' w))) (parents_same u l ∙ e)
+      ∙ ap (λ w. registered_by plan' w u (length (actions plan' w))) (parents_same plan plan' t checked grows tables u l ∙ e)
       ∙ registered_grown u
       ∙ ap (register_steps grows.own.0 u (last_phases plan t))
       (ap (λ w. registered_by plan w u (length (actions plan w))) (sym e) ∙ sym (first_phases_is plan checked u pos))
@@ -153,8 +99,9 @@ module _ (plan plan' : Plan) (t : ℕ) (checked : IsCheckedPlan plan) (grows : G
   first_kept u pos l before =
       let v = parent_of plan u in
       first_phases_unfolds plan' tables.parents_first u pos
-      ∙ ap (λ w. registered_by plan' w u (length (actions plan' w))) (parents_same u l)
-      ∙ registered_same u v (λ e. absurd (omega arith)) (first_phases_same v v (omega arith) (omega arith))
+      ∙ ap (λ w. registered_by plan' w u (length (actions plan' w))) (parents_same plan plan' t checked grows tables u l)
+      ∙ registered_same plan plan' t checked grows tables u v (λ e. absurd (omega arith))
+          (first_phases_same plan plan' t checked grows tables v v (omega arith) (omega arith))
       ∙ sym (first_phases_is plan checked u pos)
 
   -- a new task begins with nothing that there was
@@ -173,7 +120,8 @@ unfolding registered_by
 nobody_registers plan checked t c zero l p = refl
 nobody_registers plan checked t c (suc k) l p =
     ap (λ m. m p)
-    (register_step_keeps (action_at plan t k) c (own_phases (action_at plan t) (first_phases plan t) k) (registered (action_at plan t) (first_phases plan t) c k)
+    (register_step_keeps (action_at plan t k) c (own_phases (action_at plan t) (first_phases plan t) k)
+        (registered (action_at plan t) (first_phases plan t) c k)
     (λ q e. absurd (let w = child_within plan t c (checked.codes.well_formed t k (Registers c q) e).0 in omega arith)))
     ∙ nobody_registers plan checked t c k l p
 

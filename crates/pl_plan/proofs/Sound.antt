@@ -9,10 +9,10 @@ use Rattle.armus_base.specs.calls.CheckedPlans.{Grows, IsSoundGrowth}
 use Rattle.armus_base.specs.CheckedPlans.{HasFork, HasTables, IsCheckedPlan, IsWellFormed, IsWithinLimits}
 use Rattle.armus_base.proofs.Codes.{child_within, phaser_within}
 use Rattle.armus_base.proofs.Fixed.{action_within}
-use Rattle.armus_base.proofs.PlanGrows.{plan_grows}
+use Rattle.armus_base.proofs.PlanGrows.{plan_grows, parents_same, other_at, own_at}
 use Rattle.pl_syntax.specs.calls.Tree.{AreNear}
 use Rattle.pl_plan.specs.Unfolding.{UnfoldingState, Start}
-use Rattle.pl_plan.proofs.Growth.{own_steps, register_steps, last_phases, parents_same, other_at, own_at, new_at, last_grown, first_grown, first_kept}
+use Rattle.pl_plan.proofs.Growth.{own_steps, register_steps, last_phases, new_at, last_grown, first_grown, first_kept}
 
 -- no task above t has a code yet, and none of them has drawn a task or made a phaser
 pub record IsAt (t : ℕ) (plan : Plan) : Type 0 where

@@ -24,8 +24,10 @@ use Rattle.pl_syntax.specs.Tree.{Plain, new_task, new_phaser, reg, dereg, adv, a
 use Rattle.pl_syntax.specs.calls.Tree.{AreNear, PlainIsNear}
 use Rattle.pl_plan.proofs.Places.{at_set, at_more}
 use Rattle.armus_base.specs.Pieces.{times}
+use Rattle.armus_base.proofs.PlanGrows.{own_at, fixed_own}
+use Rattle.armus_base.proofs.RunTests.{some_is}
 use Rattle.pl_plan.specs.Unfolding.{Coming, a_plain, a_fork, a_loop, a_turn, Visit, come_to, make_visit, make_visits, UnfoldingState, Start, Names, Thing, a_task, a_phaser, Outcome, ◌>>=◌, fault_unless, as_task, as_phaser, is_parent, unforked_child, member_of, task, phaser, add_op, act, act_fork, count_visit, with_op, with_member, assigned, not_member, already_member, not_drawn_here, already_forked, has_cells, too_many_cells, too_many_tasks, too_many_phasers, too_many_ops, too_many_visits, visit, visits_of, leave, leave_below, ended, with_members}
-use Rattle.pl_plan.proofs.Growth.{own_steps, register_steps, last_phases, own_at, own_before, first_new, nobody_registers, stays_registered}
+use Rattle.pl_plan.proofs.Growth.{own_steps, register_steps, last_phases, first_new, nobody_registers, stays_registered}
 use Rattle.pl_plan.proofs.Tables.{own_actions, other_actions, one_more_op, op_tables, with_maker, maker_new, makers_at_most, maker_tables, with_task, parent_new, parents_at_most, task_actions, task_tables, slice_get-last}
 use Rattle.pl_plan.proofs.Sound.{IsAt, IsActing, IsNew, HasStarts, HasMembers, is_begun, idle_phases, acts_on, NearStart}
 
@@ -159,10 +161,6 @@ advanced_member m p q =
 register_here : (c p : ℕ) (m r : Phases) → register_step (Some (Registers c p)) c m r ≡ updated r p (m p)
 register_here c p m r = grind (arith, nat_tests)
 
-some_value : (o : Option ℕ) → is_some o ≡ true → (n : ℕ) × (o ≡ Some n)
-some_value None e = absurd (false≢true e)
-some_value (Some n) e = (n, refl)
-
 -- ---- one op more
 
 abbrev pub state_of : Plan → List (Option Start) → (ℕ → ℕ → Bool) → Names → ℕ → UnfoldingState
@@ -173,7 +171,7 @@ module _ (t : ℕ) (s : UnfoldingState) (a : IsActing t s) where
   members_own p = a.sound.members t p (omega arith) a.here
 
   is_member : (p : ℕ) → s.members t p ≡ true → IsMemberAfter s.plan t (length (actions s.plan t)) p
-  is_member p e = some_value (last_phases s.plan t p) (sym (members_own p) ∙ e)
+  is_member p e = some_is (last_phases s.plan t p) (sym (members_own p) ∙ e)
 
   has_code : t < length s.plan.codes
   has_code = omega (arith, a.here, a.sound.checked.tables.one_code_each)
@@ -219,7 +217,8 @@ module _ (t : ℕ) (s : UnfoldingState) (a : IsActing t s) where
         let h = is_member p e in (
           h.0,
           ap (λ m. m p)
-              (own_before s.plan (with_op t o s.plan) t a.sound.checked grows_op (op_tables s.plan t o a.sound.checked.tables) (length (actions s.plan t) + 0) (omega arith)
+              (fixed_own s.plan (with_op t o s.plan) t a.sound.checked grows_op (op_tables s.plan t o a.sound.checked.tables) (length (actions s.plan t) + 0)
+                  (omega arith)
               ∙ ap (phases_after s.plan t) (let z : length (actions s.plan t) + 0 ≡ length (actions s.plan t) = omega arith in z))
               ∙ h.1,
         )

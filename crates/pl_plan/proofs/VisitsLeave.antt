@@ -3,7 +3,7 @@ use Rattle.std.proofs.Common.{◌≡◌, ℕ, zero, suc, ◌+◌, ◌<◌, Bool,
 use Rattle.std.proofs.Common.{get_or, refl, sym, ap, subst, ◌∙◌, arith, append_assoc, append-nil, length-append}
 use Rattle.std.specs.Prelude.{nat_lt, sum_by}
 use Rattle.std.proofs.lemmas.List.{append_cancel_left, get_or-set_same, get_or_append_left, length-set}
-use Rattle.std.proofs.lemmas.Bool.{false≢true}
+use Rattle.std.proofs.lemmas.Bool.{false≢true, and_parts}
 use Rattle.armus_base.specs.declared.op.Op.{Op}
 use Rattle.armus_base.specs.declared.op.Op.TheVariants as op
 use Rattle.armus_base.specs.declared.piece.Piece.{Piece}
@@ -11,7 +11,6 @@ use Rattle.armus_base.specs.declared.piece.Piece.TheVariants.{Op as Single, Repe
 use Rattle.armus_base.specs.Limits.{max_tasks, max_phasers, max_ops}
 use Rattle.armus_base.specs.Pieces.{times}
 use Rattle.armus_base.specs.Plans.{Plan}
-use Rattle.armus_base.proofs.RunTests.{both}
 use Rattle.pl_syntax.specs.Tree.{Plain, Tree, adv, await, count, dereg, done, fork, loop, new_phaser, new_task, plain, reg, skip}
 use Rattle.pl_plan.specs.Limits.{max_visits}
 use Rattle.pl_plan.specs.Unfolding.{◌>>=◌, Names, Outcome, Thing, UnfoldingState, Visit}
@@ -244,7 +243,7 @@ pub steadily : (t n : ℕ) (b : Tree) (s r : UnfoldingState) → is_steady b ≡
     Steadily t s r (steady_ops s.names b)
 steadily t n done s r steady here e = steadily_nothing t s r here (no_visit t s r e)
 steadily t n (plain x rest) s r steady here e =
-    let tests = both (is_steady_plain x) (is_steady rest) steady in
+    let tests = and_parts (is_steady_plain x) (is_steady rest) steady in
     let b = first_visit t (visit n (a_plain x)) (visits_of (n + 1) rest) s r e in
     let c = counted t (visit n (a_plain x)) s b.0 b.1 in
     let first = steadily_from t s c.0 b.0 (plain_ops c.0.names x) c.1 c.2
@@ -254,7 +253,7 @@ steadily t n (plain x rest) s r steady here e =
     steadily_more t s b.0 r (plain_ops s.names x) (steady_ops s.names rest) one others
 steadily t n (fork x body rest) s r steady here e = absurd (false≢true steady)
 steadily t n (loop k body rest) s r steady here e =
-    let tests = both (is_steady body) (is_steady rest) steady in
+    let tests = and_parts (is_steady body) (is_steady rest) steady in
     let turns = times k (visit n a_turn ∷ visits_of (n + 1) body) in
     let b = first_visit t (visit n a_loop) (turns ++ visits_of (n + 1 + count body) rest) s r e in
     let c = counted t (visit n a_loop) s b.0 b.1 in

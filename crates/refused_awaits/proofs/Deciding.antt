@@ -8,10 +8,10 @@ use Rattle.armus_base.specs.declared.ids.TaskId.{TaskId}
 use Rattle.armus_base.specs.declared.status.Status.{Status}
 use Rattle.armus_base.specs.Deadlocks.{WouldBeDead}
 use Rattle.armus_base.specs.CheckedPlans.{IsCheckedPlan}
-use Rattle.armus_base.specs.Plans.{Action, Advances, Aim, Blocks, Drops, Forks, Makes, Passes, Plan, Refuses, Registers, code_of}
+use Rattle.armus_base.specs.Plans.{Aim, Blocks, Plan, Refuses, code_of}
 use Rattle.armus_base.specs.Runs.{Place, places, state_after}
 use Rattle.armus_base.specs.Serial.{IsDecided}
-use Rattle.armus_base.specs.States.{Phases, State, Step, awaited, if_published}
+use Rattle.armus_base.specs.States.{State, Step, awaited, if_published}
 use Rattle.armus_base.specs.Finals.{is_awaited}
 use Rattle.armus_base.proofs.Codes.{no_refusal}
 use Rattle.armus_base.proofs.StatusesAre.{listed_is}
@@ -29,7 +29,7 @@ use Rattle.avoider.specs.declared.decision.Decision.TheVariants.{Published, Refu
 use Rattle.avoider.specs.calls.Decisions.{ExplainsDeath, HasGoneOn, IsPublished, IsRefused, supposed_statuses}
 use Rattle.avoider.proofs.Supposing.{blocks_next}
 use Rattle.world_runs.specs.inside.AvoidedRounds.{LeadsTo}
-use Rattle.world_runs.proofs.AvoidedSteps.{leads_run, leads_state, refusal_goes_on}
+use Rattle.world_runs.proofs.AvoidedSteps.{leads_run, leads_state, refusal_goes_on, decided_else}
 use Rattle.refused_awaits.specs.Released.{AreReleased, when_left}
 use Rattle.refused_awaits.specs.RefusalWords.{refusal_words}
 use Rattle.refused_awaits.specs.Refusals.{AreRefusals, IsRefusalText}
@@ -37,17 +37,6 @@ use Rattle.refused_awaits.specs.declared.avoiding.Avoiding.{Avoiding}
 use Rattle.refused_awaits.specs.inside.SoFar.{RoundsGoTo, HasDecided, AreRefusalsSoFar, StandAt}
 use Rattle.refused_awaits.proofs.OpsKept.{at_op, op_at, stand_still}
 use Rattle.refused_awaits.proofs.Refusing.{refusal_told, refuses_next, step_told}
-
--- an action that neither blocks nor refuses needs no decision
-decided_else : (s : State) (t : ℕ) (x : Action) → ((aim : Aim) → x ≢ Blocks aim) → ((aim : Aim) → x ≢ Refuses aim) → IsDecided s t x
-decided_else s t (Blocks p) b r = absurd (b p refl)
-decided_else s t (Refuses p) b r = absurd (r p refl)
-decided_else s t (Makes p) b r = tt
-decided_else s t (Registers c p) b r = tt
-decided_else s t (Forks c) b r = tt
-decided_else s t (Advances p) b r = tt
-decided_else s t (Drops p) b r = tt
-decided_else s t (Passes p) b r = tt
 
 -- the cycle that explains a death is that of a report
 reported : (list : List Status) (t : ℕ) (c : Cycle) → ExplainsDeath list t c → IsReportedCycle list c.tasks

@@ -1,14 +1,12 @@
 -- A run has one explanation.
 use mathlib.Core.Path.{fun_ext}
-use Rattle.std.proofs.Common.{◌≡◌, ◌∙◌, ℕ, ◌≤◌, Bool, List, [], ◌∷◌, ◌++◌, Option, Some, ap, arith, subst, sym}
+use Rattle.std.proofs.Common.{◌≡◌, ◌∙◌, ℕ, List, [], ◌∷◌, ◌++◌, Option, Some, ap, subst, sym}
 use Rattle.armus_base.specs.declared.event.Event.{Event}
 use Rattle.armus_base.specs.declared.ids.TaskId.{TaskId}
-use Rattle.armus_base.specs.declared.status.Status.{Status}
 use Rattle.armus_base.specs.Deadlocks.{IsDeadBy}
 use Rattle.armus_base.specs.Finals.{final_of}
 use Rattle.armus_base.specs.Places.{state_at}
 use Rattle.armus_base.specs.Plans.{Action, Advances, Aim, Blocks, Drops, Forks, Makes, Passes, Plan, Refuses, Registers, code_of}
-use Rattle.armus_base.specs.Relations.{IsWalkCycle}
 use Rattle.armus_base.specs.Runs.{places, state_after}
 use Rattle.armus_base.specs.States.{Step, if_published}
 use Rattle.pl_core.specs.calls.Awaiting.{awaited_statuses}
@@ -16,33 +14,17 @@ use Rattle.pl_syntax.specs.declared.tree.Program.{Program}
 use Rattle.pl_syntax.proofs.Unique.{one_tree}
 use Rattle.accounts.specs.Accounts.{IsAccount, IsLayout, Layout}
 use Rattle.accounts.specs.declared.account.Account.{Account}
-use Rattle.accounts.proofs.OneAccount.{one_account}
+use Rattle.accounts.proofs.OneAccount.{one_account, one_op, one_layout}
 use Rattle.dep_state.proofs.SameDeadLists.{same_ascending}
 use Rattle.report.specs.Reports.{IsReportedCycle}
 use Rattle.report.specs.declared.standing.Standing.{Standing}
-use Rattle.report.proofs.OneReport.{one_standings}
+use Rattle.report.proofs.OneReport.{one_standings, one_reported_cycle}
 use Rattle.task_sayings.specs.Facts.{facts_of}
-use Rattle.verdict.specs.Cycles.{IsDeadStep}
-use Rattle.verdict.proofs.OneCycle.{one_cycle}
-use Rattle.step_lines.proofs.OneShowing.{one_layout, one_op}
 use Rattle.refused_awaits.specs.AvoidedExplanations.{AreRefusalsOf}
 use Rattle.refused_awaits.specs.AvoidedWords.{avoided_words, somebody_stays}
 use Rattle.refused_awaits.specs.RefusalWords.{refusal_words}
 use Rattle.refused_awaits.specs.Refusals.{AreRefusals, IsRefusalText, IsTold}
 use Rattle.refused_awaits.specs.calls.Laws.{OneAvoidedExplanation}
-
--- equal numbers are one task
-same_task : (t u : TaskId) → t.0 ≤ u.0 → u.0 ≤ t.0 → t ≡ u
-same_task t u a b = let e : t.0 ≡ u.0 = omega arith in let task : ℕ → TaskId = λ n. record { 0 = n } in ap task e
-
-one_step : (blocked : List Status) (a b c : TaskId) → IsDeadStep blocked a b → IsDeadStep blocked a c → b ≡ c
-one_step blocked a b c h k = same_task b c (h.least c k.waits k.dead) (k.least b h.waits h.dead)
-
--- a report has one cycle
-one_reported : (blocked : List Status) (a b : List TaskId) → IsReportedCycle blocked a → IsReportedCycle blocked b → a ≡ b
-one_reported blocked a b (t, h, w) (u, k, v) =
-    let e : t ≡ u = same_task t u (h.least u.0 k.dead) (k.least t.0 h.dead) in
-    one_cycle (IsDeadStep blocked) (one_step blocked) u a b (subst (λ s. IsWalkCycle (IsDeadStep blocked) s a) e w) v
 
 module _ (file : Option (List ℕ)) (l : Layout) (p : Program) (plan : Plan) where
   -- a refusal has one paragraph
@@ -52,7 +34,7 @@ module _ (file : Option (List ℕ)) (l : Layout) (p : Program) (plan : Plan) whe
       let events : a.event ≡ b.event = (let both : Some a.event ≡ Some b.event = sym a.awaits ∙ b.awaits in cc) in
       let closes : IsReportedCycle (awaited_statuses plan (if_published (state_after h) t b.event)) a.cycle =
       subst (λ (e : Event). IsReportedCycle (awaited_statuses plan (if_published (state_after h) t e)) a.cycle) events a.closes in
-      let cycles : a.cycle ≡ b.cycle = one_reported (awaited_statuses plan (if_published (state_after h) t b.event)) a.cycle b.cycle closes b.closes in
+      let cycles : a.cycle ≡ b.cycle = one_reported_cycle (awaited_statuses plan (if_published (state_after h) t b.event)) a.cycle b.cycle closes b.closes in
       let released : a.released ≡ b.released =
       same_ascending a.released b.released a.go_on.ascends b.go_on.ascends
       (λ u. (λ m. (b.go_on.exact u).1 ((a.go_on.exact u).0 m), λ m. (a.go_on.exact u).1 ((b.go_on.exact u).0 m))) in

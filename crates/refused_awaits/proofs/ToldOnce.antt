@@ -44,7 +44,7 @@ use Rattle.refused_awaits.proofs.RefusedOnce.{each_is_refused_once}
 use Rattle.refused_awaits.proofs.StaysTold.{task_has, task_with}
 
 -- who was refused, by its standing
-refused_end : (IsDead : Type 0) (end : TaskEnd) (s : Standing) → Stands IsDead end s → was_refused s ≡ true → (e : Event) × (end ≡ ends.Refused e)
+pub refused_end : (IsDead : Type 0) (end : TaskEnd) (s : Standing) → Stands IsDead end s → was_refused s ≡ true → (e : Event) × (end ≡ ends.Refused e)
 refused_end IsDead (ends.Refused e) s is on = (e, refl)
 refused_end IsDead ends.Done s is on = absurd (let off = subst (λ x. was_refused x ≡ true) is on in cc)
 refused_end IsDead ends.Unforked s is on = absurd (let off = subst (λ x. was_refused x ≡ true) is on in cc)

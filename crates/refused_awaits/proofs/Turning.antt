@@ -1,20 +1,19 @@
 -- The turns of a round.
-use Rattle.std.proofs.Common.{◌≡◌, ◌∙◌, ℕ, suc, ◌+◌, ◌<◌, Bool, true, false, List, [], ◌∷◌, ◌++◌, Option, add-one, append_assoc, ap, refl, subst, sym}
+use Rattle.std.proofs.Common.{◌≡◌, ◌∙◌, ℕ, suc, ◌+◌, Bool, true, false, List, [], ◌++◌, Option, add-one, append_assoc, ap, refl, subst, sym}
 use Rattle.std.specs.Prelude.{MatchBool}
 use Rattle.std.proofs.lemmas.Bool.{false≢true}
 use Rattle.armus_base.specs.CheckedPlans.{IsCheckedPlan}
 use Rattle.armus_base.specs.Plans.{Plan}
 use Rattle.armus_base.specs.Runs.{HasEnded, IsLegalRun, Place, places, state_after}
-use Rattle.armus_base.specs.Serial.{GoesOn, IsDecided, IsTurn, RoundBelow}
+use Rattle.armus_base.specs.Serial.{GoesOn, IsTurn}
 use Rattle.armus_base.specs.States.{State, Step}
 use Rattle.armus_base.proofs.Stepping.{acting_forked}
 use Rattle.pl_core.specs.calls.Stands.{IsEnabled}
 use Rattle.pl_core.specs.calls.Worlds.{WorldValue, places_of, state_of}
 use Rattle.pl_syntax.specs.declared.tree.Program.{Program}
 use Rattle.accounts.specs.Accounts.{Layout}
-use Rattle.world_runs.specs.inside.AvoidedRounds.{LeadsTo}
 use Rattle.world_runs.proofs.AvoidedEnds.{ended_here, reached_by}
-use Rattle.world_runs.proofs.AvoidedSteps.{leads_state}
+use Rattle.world_runs.proofs.AvoidedSteps.{leads_state, goes_append}
 use Rattle.world_runs.proofs.ForkedTasks.{forked_in_round, forked_later}
 use Rattle.refused_awaits.specs.declared.avoiding.Avoiding.{Avoiding}
 use Rattle.refused_awaits.specs.inside.SoFar.{RoundsGoTo, HasTurn, AreRefusalsSoFar, RoundTo}
@@ -22,15 +21,6 @@ use Rattle.refused_awaits.specs.inside.SoFar.{RoundsGoTo, HasTurn, AreRefusalsSo
 -- who may go on is forked
 pub unforked_stays : (w : WorldValue) (t : ℕ) → (state_of w).forked t ≡ false → IsEnabled w t → ⊥
 unforked_stays w t unforked enabled = absurd (false≢true (sym unforked ∙ acting_forked w.plan (state_of w) t enabled.0 enabled.2))
-
--- steps after steps
-goes_append : (plan : Plan) (t : ℕ) (h own more : List Step) → GoesOn plan t h own → GoesOn plan t (own ++ h) more → GoesOn plan t h (more ++ own)
-goes_append plan t h own [] first later = first
-goes_append plan t h own (e ∷ more) first later = (
-  goes_append plan t h own more first later.0,
-  later.1,
-  subst (λ v. IsDecided (state_after v) t e.action) (sym (append_assoc more own h)) later.2,
-)
 
 module _ (file : Option (List ℕ)) (l : Layout) (p : Program) where
   -- no step yet

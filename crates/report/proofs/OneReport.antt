@@ -48,7 +48,7 @@ one_step : (blocked : List Status) (a b c : TaskId) → IsDeadStep blocked a b �
 one_step blocked a b c h k = same_task b c (h.least c k.waits k.dead) (k.least b h.waits h.dead)
 
 -- there is one cycle
-one_reported_cycle : (blocked : List Status) (a b : List TaskId) → IsReportedCycle blocked a → IsReportedCycle blocked b → a ≡ b
+pub one_reported_cycle : (blocked : List Status) (a b : List TaskId) → IsReportedCycle blocked a → IsReportedCycle blocked b → a ≡ b
 one_reported_cycle blocked a b (t, h, w) (u, k, v) =
     let e : t ≡ u = same_task t u (h.least u.0 k.dead) (k.least t.0 h.dead) in
     one_cycle (IsDeadStep blocked) (one_step blocked) u a b (subst (λ s. IsWalkCycle (IsDeadStep blocked) s a) e w) v

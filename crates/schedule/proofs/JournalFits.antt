@@ -1,7 +1,6 @@
 -- A journal has no more steps than its plan has actions, and only tasks of the plan.
-use Rattle.std.proofs.Common.{◌≡◌, ◌≢◌, ◌<◌, ◌≤◌, ◌+◌, ◌*◌, ℕ, zero, suc, List, [], ◌∷◌, length, arith, sym, subst, ap, refl, inl, inr, length-append}
+use Rattle.std.proofs.Common.{◌≡◌, ◌<◌, ◌≤◌, ◌*◌, ℕ, zero, suc, List, [], ◌∷◌, length, arith, sym, subst, ap, refl, inl, inr, length-append}
 use Rattle.std.specs.Prelude.{Contains, slice_get, sum_by, unwrap_or}
-use Rattle.std.proofs.lemmas.Bool.{cases_eq}
 use Rattle.std.proofs.lemmas.List.Elements.{Contains-push_cases}
 use Rattle.std.proofs.lemmas.List.Sums.{sum_by-cons}
 use Rattle.armus_base.specs.declared.ids.TaskId.{TaskId}
@@ -16,45 +15,11 @@ use Rattle.armus_base.specs.States.{Step}
 use Rattle.armus_base.proofs.Elements.{nothing_in_nil}
 use Rattle.armus_base.proofs.Members.{plain_step, other_step}
 use Rattle.armus_base.proofs.Tasks.{action_of_task, done_within_code}
+use Rattle.armus_base.proofs.Sums.{sum_at_most, sum_below, sum_first, sum_more}
 use Rattle.locked_world.specs.Journals.{journal_of}
 use Rattle.locked_world.proofs.Journals.{last_goes_on}
 use Rattle.schedule.specs.calls.Records.{JournalFitsPlan}
 use Rattle.schedule.proofs.RecordIsRead.{steps_short}
-
--- the sum of the first n values
-sum_below : (ℕ → ℕ) → ℕ → ℕ
-sum_below f zero = 0
-sum_below f (suc n) = sum_below f n + f n
-
-sum_at_most : (f g : ℕ → ℕ) → ((u : ℕ) → f u ≤ g u) → (n : ℕ) → sum_below f n ≤ sum_below g n
-unfolding sum_below
-sum_at_most f g l zero = omega arith
-sum_at_most f g l (suc n) = (let a = sum_at_most f g l n in let b = l n in omega arith)
-
--- the first value apart
-sum_first : (f : ℕ → ℕ) (n : ℕ) → sum_below f (suc n) ≡ f 0 + sum_below (λ t. f (suc t)) n
-unfolding sum_below
-sum_first f zero = omega arith
-sum_first f (suc n) = let a = sum_first f n in omega arith
-
--- one more at t
-module _ (f g : ℕ → ℕ) (t : ℕ) (one : g t ≡ suc (f t)) (rest : (u : ℕ) → u ≢ t → g u ≡ f u) where
-  sum_same : (n : ℕ) → n ≤ t → sum_below g n ≡ sum_below f n
-  unfolding sum_below
-  sum_same zero l = refl
-  sum_same (suc n) l = (let a = sum_same n (omega arith) in let b = rest n (λ e. absurd (omega arith)) in omega arith)
-
-  sum_more : (n : ℕ) → t < n → sum_below g n ≡ suc (sum_below f n)
-  unfolding sum_below
-  sum_more zero l = absurd (omega arith)
-  sum_more (suc n) l =
-      elim (cases_eq n t) [
-        | inl e ↦
-            (let a = sum_same n (omega arith) in
-            let b : g n ≡ suc (f n) = subst (λ v. g v ≡ suc (f v)) (sym e) one in
-            omega arith)
-        | inr other ↦ (let a = sum_more n (omega arith) in let b = rest n other in omega arith)
-      ]
 
 -- a code has two actions for each op at most
 two_each : (ops : List Op) → length (actions_of ops) ≤ 2 * length ops

@@ -15,12 +15,11 @@ use Rattle.armus_base.specs.Places.{done_by, kept, published_after}
 use Rattle.armus_base.specs.calls.Places.{phases_at_place}
 use Rattle.armus_base.specs.calls.FinalLaws.{AreStatuses}
 use Rattle.armus_base.proofs.StatusesAre.{statuses_are}
-use Rattle.armus_base.proofs.Fixed.{phases_forked, some_before_from, some_before_is, makes_is}
+use Rattle.armus_base.proofs.Fixed.{phases_forked, some_before_from}
 use Rattle.armus_base.proofs.Stepping.{places_fix}
 use Rattle.armus_base.proofs.Published.{published_after_is}
 use Rattle.armus_base.proofs.FoundArePublished.{published_within}
 use Rattle.armus_base.proofs.Members.{published_member, member_made, plain_undropped}
-use Rattle.armus_base.proofs.Codes.{phaser_within}
 use Rattle.armus_base.specs.Plans.{Makes, action_at, maker_of}
 use Rattle.armus_base.specs.Places.{made_at, makes}
 use Rattle.armus_base.proofs.ReachedLater.{later_done}
@@ -34,6 +33,7 @@ use Rattle.armus_base.specs.Runs.{IsByCode, IsPlainRun}
 use Rattle.armus_base.proofs.Again.{in_code_plain}
 use Rattle.armus_base.proofs.Codes.{no_refusal}
 use Rattle.armus_base.proofs.Elements.{nothing_in_nil, Contains-cons_cases}
+use Rattle.armus_base.proofs.LawfulPlaces.{made_within}
 use Rattle.schedule.specs.declared.lines.Line.{Line}
 use Rattle.schedule.specs.declared.lines.Line.TheVariants as line
 use Rattle.schedule.specs.Replays.{Progress, at_start, IsOwnNextStep, Takes, LinesLead, no_line, one_more}
@@ -43,15 +43,6 @@ use Rattle.schedule.proofs.Counts.{count_below_less, cell_within}
 use Rattle.schedule.proofs.Moments.{AreMoments, no_moments, more_moments, moments_stay}
 
 module _ (plan : Plan) (checked : IsCheckedPlan plan) where
-  -- a phaser that is made is one of the plan
-  made_one : (a : ℕ → Place) (p : ℕ) → made_at plan (done_by a) p ≡ true → p < length plan.makers
-  unfolding made_at
-  made_one a p made =
-      let maker = maker_of plan p in
-      let r = some_before_is (λ j. makes (action_at plan maker j) p) (done_by a maker) made in
-      let w = checked.codes.well_formed maker r.0 (Makes p) (makes_is (action_at plan maker r.0) p r.2) in
-      phaser_within plan maker p w.0
-
   -- a published task has the phases that its code gives it at its place
   published_fixed : (h : List Step) → IsLegalRun plan h → (t : ℕ) (e : Event) → (state_after h).published t ≡ Some e → published_after plan t (places h t).done ≡ Some e
   published_fixed h run t e p = ap (λ s. s.published t) (sym (places_fix plan checked h run).0) ∙ p
@@ -90,7 +81,7 @@ module _ (plan : Plan) (checked : IsCheckedPlan plan) where
   pub published_phaser : (h : List Step) → IsLegalRun plan h → (t : ℕ) (e : Event) → (state_after h).published t ≡ Some e → e.p.0 < length plan.makers
   published_phaser h run t e p =
       let (n, member) = published_member plan h run t e p in
-      made_one (places h) e.p.0 (ap (λ s. s.made e.p.0) (sym (places_fix plan checked h run).0) ∙ member_made plan h run t e.p.0 n member)
+      made_within plan checked (places h) e.p.0 (ap (λ s. s.made e.p.0) (sym (places_fix plan checked h run).0) ∙ member_made plan h run t e.p.0 n member)
 
   -- a pass with all its loads
   module _ (loads : Loads) (now : List Step) (moments : AreMoments plan loads now) (full : length loads ≡ loads_of plan loads) where

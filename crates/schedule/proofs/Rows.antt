@@ -9,6 +9,7 @@ use Rattle.std.proofs.lemmas.List.Folds.{list_any-append}
 use Rattle.std.proofs.lemmas.Option.{slice_get_within}
 use Rattle.armus_base.specs.Finals.{given_below}
 use Rattle.armus_base.specs.Places.{some_before}
+use Rattle.armus_base.proofs.Lists.{slice_get-append}
 use Rattle.schedule.specs.Passes.{count_below}
 
 one_more : {A : Type 0} (o : Option A) (l c : ℕ) → l ≡ c → l + length (option_to_list o) ≡ (if is_some o then c + 1 else c)
@@ -56,11 +57,6 @@ any_given test f is (suc n) each =
     or_comm false true = refl
     or_comm false false = refl
 
-get_append_left : {A : Type 0} (xs ys : List A) (k : ℕ) → k < length xs → slice_get (xs ++ ys) k ≡ slice_get xs k
-get_append_left [] ys k l = absurd (omega arith)
-get_append_left (x ∷ xs) ys zero l = refl
-get_append_left (x ∷ xs) ys (suc k) l = get_append_left xs ys k (omega arith)
-
 shift : (n k : ℕ) → suc n + k ≡ suc (n + k)
 shift n k = omega arith
 
@@ -74,7 +70,8 @@ pub at_place : {A : Type 0} (f : ℕ → Option A) (n k : ℕ) (x : A) → slice
 at_place f zero k x e = absurd (cc)
 at_place f (suc n) k x e =
     elim (cases_lt k (length (given_below f n))) [
-      | inl before ↦ (let (t, l, is, counted) = at_place f n k x (sym (get_append_left (given_below f n) (option_to_list (f n)) k before) ∙ e) in (t, omega arith, is, counted))
+      | inl before ↦ (let (t, l, is, counted) = at_place f n k x (sym (slice_get-append (given_below f n) (option_to_list (f n)) k before) ∙ e) in
+          (t, omega arith, is, counted))
       | inr past ↦ here (f n) refl past
     ]
   where

@@ -7,9 +7,9 @@ use Rattle.std.proofs.lemmas.List.{length-set, map-id}
 use Rattle.std.proofs.lemmas.Option.{slice_get_within}
 use Rattle.armus_base.specs.declared.status.Status.{Status}
 use Rattle.armus_base.specs.Plans.{Plan}
+use Rattle.armus_base.proofs.Lists.{slice_get-set_other, slice_get-set_same}
 use Rattle.board.specs.calls.Seats.{Frame, IsOf, Known}
 use Rattle.board.specs.calls.Views.{seen}
-use Rattle.phase_scan.proofs.Tables.{slice_get-set_other, slice_get-set_same}
 use Rattle.phase_scan.proofs.Loads.{prefix_both}
 use Rattle.sites.specs.calls.Keeping.{held}
 use Rattle.sites.specs.calls.Passes.{AreBacked, ChangesRows, HasSnapped, HaveLookedOn, IsBackedRow}

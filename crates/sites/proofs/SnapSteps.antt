@@ -13,6 +13,7 @@ use Rattle.armus_base.specs.States.{Phases, State, opening, updated, with_phase}
 use Rattle.armus_base.specs.calls.Boards.{IsLawful}
 use Rattle.armus_base.specs.calls.Seats.{Found, IsAsFarOn}
 use Rattle.armus_base.proofs.Steps.{updated_other, updated_same, with_phase_other, with_phase_same}
+use Rattle.armus_base.proofs.Below.{given_below_same}
 use Rattle.board.specs.declared.mode.Mode.{Mode}
 use Rattle.board.specs.calls.Seats.{AnswersAwait, AnswersPhase, Frame, IsOf, Known}
 use Rattle.board.specs.calls.Steps.{IsSameSeat, WasSo}
@@ -24,7 +25,6 @@ use Rattle.phase_scan.specs.calls.Tables.{event_for}
 use Rattle.phase_scan.proofs.ChosenLoads.{chosen_same}
 use Rattle.phase_scan.proofs.Keeping.{row_more, rows_more, rows_skip}
 use Rattle.phase_scan.proofs.Loads.{await_load, goes_both, phase_load}
-use Rattle.phase_scan.proofs.Tables.{given_below_same}
 use Rattle.sites.specs.calls.Rows.{HasNumbers, HasPhaseNumbers}
 use Rattle.sites.specs.calls.Snaps.{HasLookedOn, HasSeenLawful}
 use Rattle.phase_scan.proofs.Farther.{far_of_viewer}

@@ -55,7 +55,7 @@ module _ (plan : Plan) (checked : IsCheckedPlan plan) where
   refuses_next a t aim (d ∷ drops) b leads = refuses_next a t aim drops leads.0 leads.1
 
 -- an action that neither blocks nor refuses needs no decision
-decided_else : (s : State) (t : ℕ) (x : Action) → ((aim : Aim) → x ≢ Blocks aim) → ((aim : Aim) → x ≢ Refuses aim) → IsDecided s t x
+pub decided_else : (s : State) (t : ℕ) (x : Action) → ((aim : Aim) → x ≢ Blocks aim) → ((aim : Aim) → x ≢ Refuses aim) → IsDecided s t x
 decided_else s t (Blocks p) b r = absurd (b p refl)
 decided_else s t (Refuses p) b r = absurd (r p refl)
 decided_else s t (Makes p) b r = tt
@@ -73,7 +73,7 @@ refusal_goes_on plan t p [] h decided = (tt, refl, decided)
 refusal_goes_on plan t p (d ∷ drops) h decided = (refusal_goes_on plan t p drops h decided, refl, tt)
 
 -- steps after steps
-goes_append : (plan : Plan) (t : ℕ) (h own more : List Step) → GoesOn plan t h own → GoesOn plan t (own ++ h) more → GoesOn plan t h (more ++ own)
+pub goes_append : (plan : Plan) (t : ℕ) (h own more : List Step) → GoesOn plan t h own → GoesOn plan t (own ++ h) more → GoesOn plan t h (more ++ own)
 goes_append plan t h own [] first later = first
 goes_append plan t h own (e ∷ more) first later = (
   goes_append plan t h own more first later.0,

@@ -1,5 +1,5 @@
 -- The ops of a code, and the children that they fork.
-use Rattle.std.proofs.Common.{◌≡◌, ◌+◌, ◌<◌, ◌*◌, ◌∷◌, ℕ, List, [], Some, add-one, length, arith, drop, sym, ◌∙◌, ap}
+use Rattle.std.proofs.Common.{◌≡◌, ◌+◌, ◌<◌, ◌*◌, ◌∷◌, ℕ, List, Some, add-one, length, arith, drop, sym, ◌∙◌, ap}
 use Rattle.std.specs.Prelude.{slice_get, option_map}
 use Rattle.std.proofs.lemmas.Option.{slice_get_within}
 use Rattle.armus_base.specs.declared.ids.TaskId.{TaskId}
@@ -33,11 +33,6 @@ next_there plan t k ops rest op left is = sym (first_left (code_of plan t) k) �
 pub next_behind : (plan : Plan) (t k : ℕ) (ops rest : List Op) (op : Op) → ops ≡ drop k (code_of plan t) → ops ≡ op ∷ rest → rest ≡ drop (k + 1) (code_of plan t)
 next_behind plan t k ops rest op left is =
     sym (ap (drop 1) (sym left ∙ is)) ∙ one_less_left (code_of plan t) k ∙ sym (ap (λ n. drop n (code_of plan t)) (add-one k))
-
--- the first of what is left
-pub next_left : (ops : List Op) (op : Op) → slice_get ops 0 ≡ Some op → ops ≡ op ∷ drop 1 ops
-next_left [] op e = absurd (cc)
-next_left (x ∷ ops) op e = cc
 
 -- few ops come before one that is there
 pub few_before : (plan : Plan) (t k : ℕ) (op : Op) → IsCheckedPlan plan → slice_get (code_of plan t) k ≡ Some op → k < 2 * max_ops

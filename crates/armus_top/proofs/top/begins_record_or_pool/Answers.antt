@@ -1,41 +1,28 @@
-use Rattle.std.proofs.Common.{◌≡◌, ◌∙◌, ◌≤◌, ◌⊎◌, ◌||◌, length, Bool, true, false, List, [], ◌∷◌, inl, inr, ap, sym, refl, arith, get_or, drop, map, string_bytes}
+use Rattle.std.proofs.Common.{◌≡◌, ◌∙◌, ◌⊎◌, ◌||◌, Bool, true, List, ◌∷◌, inl, inr, ap, sym, drop, map, string_bytes}
 use Rattle.std.specs.Str.{bytes_eq}
 use Rattle.std.proofs.lemmas.Slice.Eq.{bytes_eq-Decides}
+use Rattle.std.proofs.lemmas.Bool.{or_cases, or_left, or_right}
+use Rattle.armus_base.proofs.Lists.{headed}
 use Rattle.armus_words.specs.declared.table.TheConstants.{POOL, RECORD}
 use Rattle.armus_words.specs.Words.{Text}
 use Rattle.armus_top.proofs.top.begins_record_or_pool.Goals as goal
 
-headed : {A : Type 0} (xs : List A) (x : A) → 1 ≤ length xs → x ≡ get_or xs 0 x → xs ≡ x ∷ drop 1 xs
-headed [] x some is = absurd (omega arith)
-headed (y ∷ ys) x some is = ap (λ z. z ∷ ys) (sym is)
-
 first_of : {x y : Text} {xs ys : List Text} → x ∷ xs ≡ y ∷ ys → x ≡ y
 first_of e = cc
-
-either : (a b : Bool) → (a || b) ≡ true → (a ≡ true) ⊎ (b ≡ true)
-either true b e = inl refl
-either false b e = inr e
-
-or_first : (a b : Bool) → a ≡ true → (a || b) ≡ true
-or_first a b e = rw e refl
-
-or_second : (a b : Bool) → b ≡ true → (a || b) ≡ true
-or_second true b e = refl
-or_second false b e = e
 
 -- the test of a word
 abbrev test : Text → Bool
 test word = bytes_eq word RECORD.now || bytes_eq word POOL.now
 
 passes : (word : Text) → test word ≡ true → (word ≡ RECORD.now) ⊎ (word ≡ POOL.now)
-passes word e = elim (either (bytes_eq word RECORD.now) (bytes_eq word POOL.now) e) [
+passes word e = elim (or_cases (bytes_eq word RECORD.now) (bytes_eq word POOL.now) e) [
   | inl same ↦ inl ((bytes_eq-Decides word RECORD.now).0 same)
   | inr same ↦ inr ((bytes_eq-Decides word POOL.now).0 same)
 ]
 
 passed : (word : Text) → (word ≡ RECORD.now) ⊎ (word ≡ POOL.now) → test word ≡ true
-passed word (inl e) = or_first (bytes_eq word RECORD.now) (bytes_eq word POOL.now) ((bytes_eq-Decides word RECORD.now).1 e)
-passed word (inr e) = or_second (bytes_eq word RECORD.now) (bytes_eq word POOL.now) ((bytes_eq-Decides word POOL.now).1 e)
+passed word (inl e) = or_left (bytes_eq word RECORD.now) (bytes_eq word POOL.now) ((bytes_eq-Decides word RECORD.now).1 e)
+passed word (inr e) = or_right (bytes_eq word RECORD.now) (bytes_eq word POOL.now) ((bytes_eq-Decides word POOL.now).1 e)
 
 pub returns-in-len1-up : goal.returns-in-len1-up
 returns-in-len1-up c =

@@ -1,16 +1,13 @@
-use Rattle.std.proofs.Common.{◌≡◌, ◌∙◌, ◌≤◌, length, Bool, true, false, List, [], ◌∷◌, ap, sym, refl, subst, arith, get_or, drop, map, string_bytes}
+use Rattle.std.proofs.Common.{◌≡◌, ◌∙◌, Bool, true, false, List, ◌∷◌, ap, sym, refl, subst, drop, map, string_bytes}
 use Rattle.std.specs.Prelude.{Option, Some}
 use Rattle.std.proofs.lemmas.List.{take_rest}
+use Rattle.armus_base.proofs.Lists.{headed}
 use Rattle.armus_words.specs.Words.{Text, Use, AreWords, has_value_alone}
 use Rattle.armus_words.specs.inside.Form.{first_named, fits, free_at}
 use Rattle.armus_words.specs.declared.forms.Free.{Free}
 use Rattle.armus_words.specs.declared.table.FirstWord.{FirstWord}
 use Rattle.armus_words.proofs.FormLemmas.{form_fits, form_from}
 use Rattle.armus_words.proofs.forms.first_word_in.Goals as goal
-
-headed : {A : Type 0} (xs : List A) (x : A) → 1 ≤ length xs → x ≡ get_or xs 0 x → xs ≡ x ∷ drop 1 xs
-headed [] x some is = absurd (omega arith)
-headed (y ∷ ys) x some is = ap (λ z. z ∷ ys) (sym is)
 
 same_fit : (a b : Free) (m n : Bool) (xs ys : List Text) → a ≡ b → m ≡ n → xs ≡ ys → fits false a m xs ≡ fits false b n ys
 same_fit a b m n xs ys p q r = rw (p, q, r) refl

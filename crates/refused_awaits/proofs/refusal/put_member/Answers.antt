@@ -5,10 +5,10 @@ use Rattle.pl_core.specs.calls.Worlds.{places_of}
 use Rattle.task_sayings.specs.Places.{said_of}
 use Rattle.step_lines.specs.StepWords.{drawn_task_words}
 use Rattle.step_lines.specs.calls.Known.{kept_layout}
-use Rattle.step_lines.proofs.OneShowing.{one_op}
 use Rattle.refused_awaits.specs.RefusalWords.{place_of}
 use Rattle.refused_awaits.proofs.Pieces.{three_pieces}
 use Rattle.refused_awaits.proofs.refusal.put_member.Goals as goal
+use Rattle.accounts.proofs.OneAccount.{one_op}
 
 pub returns : goal.returns
 returns c = λ ops stand.

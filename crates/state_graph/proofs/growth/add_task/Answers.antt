@@ -4,9 +4,10 @@ use Rattle.std.proofs.lemmas.List.{get_or_default, length-map}
 use Rattle.std.proofs.lemmas.List.Elements.{Contains-push, Contains-push_cases, Contains-append_left}
 use Rattle.std.specs.Prelude.{Vec}
 use Rattle.std.specs.Global.{Global}
+use Rattle.armus_base.proofs.Lists.{set_flag}
 use Rattle.digraph.specs.calls.Graph.{graph_of, HasEdge}
 use Rattle.dep_state.proofs.TaskPlaces.{row_at}
-use Rattle.state_graph.proofs.ComingTask.{growing, set_flag}
+use Rattle.state_graph.proofs.ComingTask.{growing}
 use Rattle.state_graph.proofs.growth.add_task.Goals as goal
 use Rattle.state_graph.proofs.growth.add_task.Goals.{then-not-index+in_ok-push, else-not-index}
 
