@@ -40,7 +40,6 @@ pub mod PlanGrows
 pub mod CheckedByCodes
 pub mod PhasesFit
 pub mod TwoTasksChecked
-pub mod LoopChecked
 pub mod TwoTasksAvoided
 pub mod Excluded
 pub mod Fronts

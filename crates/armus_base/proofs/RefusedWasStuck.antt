@@ -305,9 +305,6 @@ module _ (plan : Plan) (checked : IsCheckedPlan plan) (g : List Step) (run_g : I
   far_refused : (x q : ℕ) → (places h x).dropped ≡ Some q → done_by (places g) x ≤ suc (done_by (places h) x)
   far_refused x q is = subst (λ o. done_by (places g) x ≤ furthest (places h x).done o) is (far x)
 
-  far_unrefused : (x : ℕ) → (places h x).dropped ≡ None → done_by (places g) x ≤ done_by (places h) x
-  far_unrefused x is = subst (λ o. done_by (places g) x ≤ furthest (places h x).done o) is (far x)
-
   -- a refused task is not done in g
   refused_goes_on : (x q : ℕ) → (places h x).dropped ≡ Some q → action_at plan x (places g x).done ≡ None → ⊥
   refused_goes_on x q is none =
