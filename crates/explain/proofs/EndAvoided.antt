@@ -22,7 +22,6 @@ end_avoided file text p plan r run reads unfolds account x status is_account is 
   plan = plan;
   plan_is = (p, record { reads = reads; unfolds = unfolds });
   steps = run.steps;
-  ended = run.ended;
   stays = x.somebody_stays;
   explains = avoided_explained file text p plan r run account x is_account is;
   status_is = status_is;

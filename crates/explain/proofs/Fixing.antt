@@ -114,7 +114,7 @@ one_avoided_state text Holds plan h plan_is ended is =
 
 module _ (file : Option Text) (text : Text) (number : ℕ) (lines : Text) where
   abbrev here : (is : IsAvoidedOf file text number lines) → (Holds : State → Type 0) → Holds (state_after is.steps) → AvoidsSo text Holds
-  here is Holds holds = record { plan = is.plan; plan_is = is.plan_is; steps = is.steps; ended = is.ended; holds = holds }
+  here is Holds holds = record { plan = is.plan; plan_is = is.plan_is; steps = is.steps; ended = is.explains.ended; holds = holds }
 
   avoided_status : (is : IsAvoidedOf file text number lines) → (stays : Bool) → number ≡ (if stays then 1 else 0)
       → ((stays ≡ true) ↔ SomeStays (state_after is.steps)) → IsAvoidedStatusOf text number
@@ -126,7 +126,7 @@ module _ (file : Option Text) (text : Text) (number : ℕ) (lines : Text) where
     somebody = (λ _. here is SomeStays (tells.0 refl), λ _. one);
     nobody = (
       λ zero. absurd (omega (arith, one, zero)),
-      λ none. absurd (one_avoided_state text (λ state. SomeStays state → ⊥) is.plan is.steps is.plan_is is.ended none (tells.0 refl)),
+      λ none. absurd (one_avoided_state text (λ state. SomeStays state → ⊥) is.plan is.steps is.plan_is is.explains.ended none (tells.0 refl)),
     );
   }
   avoided_status is false zero tells =
@@ -138,13 +138,13 @@ module _ (file : Option Text) (text : Text) (number : ℕ) (lines : Text) where
         );
         somebody = (
           λ one. absurd (omega (arith, one, zero)),
-          λ some. absurd (nobody (one_avoided_state text SomeStays is.plan is.steps is.plan_is is.ended some)),
+          λ some. absurd (nobody (one_avoided_state text SomeStays is.plan is.steps is.plan_is is.explains.ended some)),
         );
         nobody = (λ _. here is (λ state. SomeStays state → ⊥) nobody, λ _. zero);
       }
 
   status_of_avoided : AnswersAvoided file text number lines → IsAvoidedStatusOf text number
-  status_of_avoided (inl is) = avoided_status is is.stays is.status_is (tells_staying file text is.plan is.steps lines is.stays is.plan_is is.ended is.explains)
+  status_of_avoided (inl is) = avoided_status is is.stays is.status_is (tells_staying file text is.plan is.steps lines is.stays is.plan_is is.explains.ended is.explains)
   status_of_avoided (inr (three, refused)) =
       let fault = refused_has file text lines refused in
       record {

@@ -26,8 +26,8 @@ module _ (file : Option Text) (text : Text) where
       → (status ≡ other) × (lines ≡ others)
   one_avoided status other lines others a b =
       let plans : b.plan ≡ a.plan = one_plan text b.plan a.plan b.plan_is a.plan_is in
-      let ended : IsSerialAvoidedEnd a.plan b.steps = subst (λ (q : Plan). IsSerialAvoidedEnd q b.steps) plans b.ended in
-      let steps : b.steps ≡ a.steps = one_serial_end a.plan b.steps a.steps (checked_plan text a.plan a.plan_is) ended a.ended in
+      let ended : IsSerialAvoidedEnd a.plan b.steps = subst (λ (q : Plan). IsSerialAvoidedEnd q b.steps) plans b.explains.ended in
+      let steps : b.steps ≡ a.steps = one_serial_end a.plan b.steps a.steps (checked_plan text a.plan a.plan_is) ended a.explains.ended in
       let by_plan : IsAvoidedExplanation file text a.plan b.steps others b.stays =
       subst (λ (q : Plan). IsAvoidedExplanation file text q b.steps others b.stays) plans b.explains in
       let by_steps : IsAvoidedExplanation file text a.plan a.steps others b.stays =
@@ -38,7 +38,7 @@ module _ (file : Option Text) (text : Text) where
   no_fault : (status : ℕ) (lines others : Text) → IsAvoidedOf file text status lines → IsRefusedWith file text others → ⊥
   no_fault status lines others is refused =
       avoided_or_fault text (λ state. Unit {0})
-      (record { plan = is.plan; plan_is = is.plan_is; steps = is.steps; ended = is.ended; holds = tt }) (refused_has file text others refused)
+      (record { plan = is.plan; plan_is = is.plan_is; steps = is.steps; ended = is.explains.ended; holds = tt }) (refused_has file text others refused)
 
   avoided : (plan : Plan) → IsPlanOf text plan → (status : ℕ) × (lines : Text) × AnswersAvoided file text status lines
   avoided plan (program, is) =
@@ -51,7 +51,6 @@ module _ (file : Option Text) (text : Text) where
           plan = plan;
           plan_is = (program, is);
           steps = final.steps;
-          ended = final.ended;
           stays = stays;
           explains = explains;
           status_is = refl;

@@ -16,7 +16,6 @@ pub record IsAvoidedOf (file : Option Text) (text : Text) (status : ℕ) (lines 
   pub plan : Plan
   pub plan_is : IsPlanOf text plan
   pub steps : List Step
-  pub ended : IsSerialAvoidedEnd plan steps
   pub stays : Bool
   pub explains : IsAvoidedExplanation file text plan steps lines stays
   pub status_is : status ≡ (if stays then 1 else 0)
