@@ -5,7 +5,7 @@ use Rattle.std.specs.List.{zip}
 use Rattle.std.proofs.lemmas.List.{length-map, take_all}
 use Rattle.armus_base.specs.Limits.{max_tasks}
 use Rattle.armus_base.specs.Plans.{Plan, code_of}
-use Rattle.armus_base.proofs.Lists.{some_at}
+use Rattle.armus_base.proofs.Lists.{some_at, past_end}
 use Rattle.clock_syntax.specs.Trees.{ClockTree}
 use Rattle.clock_moves.specs.Moves.{Move, code_of_moves}
 use Rattle.clock_moves.specs.Unfolding.{ClockUnfolding, clock_plan_of, clock_unfolded, plan_of_moves}
@@ -56,15 +56,10 @@ module _ (p : ClockTree) (u : ClockUnfolding) (is : clock_unfolded p ≡ Ok u) w
   things_many (suc n) t begun things waits walked enough =
       by (slice_get begun t) refl (λ b. things_many n (t + 1) (begun ++ begun_in (comings_by b)) (things ++ things_in (comings_by b)) (waits ++ waits_in (comings_by b) ∷ []))
     where
-      past : (xs : List Begun) (k : ℕ) → slice_get xs k ≡ None → length xs ≤ k
-      past [] k none = omega arith
-      past (x ∷ xs) zero none = absurd cc
-      past (x ∷ xs) (suc k) none = (let h = past xs k none in omega arith)
-
       by : (o : Option Begun) → slice_get begun t ≡ o →
           ((b : Begun) → Walked u (t + 1) (begun ++ begun_in (comings_by b)) (things ++ things_in (comings_by b)) (waits ++ waits_in (comings_by b) ∷ []) →
           max_tasks ≤ t + 1 + n → length (all_things u) ≡ length u.makers) → length (all_things u) ≡ length u.makers
-      by None none rest = walked_made u t begun things waits walked (past begun t none)
+      by None none rest = walked_made u t begun things waits walked (past_end begun t none)
       by (Some b) some rest = rest b (walked_next u t begun _ things _ waits _ b walked some refl refl refl) (omega (arith, enough))
 
 pub tasks_and_phasers_have_statements : TasksAndPhasersHaveStatements
@@ -77,7 +72,7 @@ tasks_and_phasers_have_statements p u is =
 
 -- ---- the program
 
-pair_at :
+pub pair_at :
     (bs : List Begun) (mss : List (List Move)) (t : ℕ) (b : Begun) (moves : List Move) → slice_get bs t ≡ Some b → slice_get mss t ≡ Some moves →
     slice_get (map (λ (a : Begun × List Move). op_origins_of a.0 a.1) (zip bs mss)) t ≡ Some (op_origins_of b moves)
 pair_at [] mss t b moves is are = absurd cc
@@ -90,7 +85,7 @@ pair_at (x ∷ bs) (ms ∷ mss) zero b moves is are =
     ap (λ z. Some (op_origins_of z ms)) same ∙ ap (λ z. Some (op_origins_of b z)) alike
 pair_at (x ∷ bs) (ms ∷ mss) (suc t) b moves is are = pair_at bs mss t b moves is are
 
-code_at : (mss : List (List Move)) (t : ℕ) (moves : List Move) → slice_get mss t ≡ Some moves → slice_get (map code_of_moves mss) t ≡ Some (code_of_moves moves)
+pub code_at : (mss : List (List Move)) (t : ℕ) (moves : List Move) → slice_get mss t ≡ Some moves → slice_get (map code_of_moves mss) t ≡ Some (code_of_moves moves)
 code_at [] t moves is = absurd cc
 code_at (ms ∷ mss) zero moves is = (let one : ◌≡◌ {A = Option (List Move)} (Some ms) (Some moves) = is in let same : ms ≡ moves = cc in ap (λ z. Some (code_of_moves z)) same)
 code_at (ms ∷ mss) (suc t) moves is = code_at mss t moves is

@@ -6,4 +6,5 @@ pub mod Walked
 pub mod MovesOf
 pub mod NotedMoves
 pub mod AllOrigins
+pub mod AwaitOrigins
 pub mod OffsetsMany

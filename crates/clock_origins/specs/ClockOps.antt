@@ -1,10 +1,17 @@
 -- From which statement of a clock text each op of the code of each activity comes. Each coming makes one move or none, and the ops of a move stand together.
 use Rattle.std.specs.Prelude.{ℕ, Bool, true, false, List, [], ◌∷◌, ◌++◌, length, map, replicate, Option, Some, None}
 use Rattle.std.specs.List.{filter, zip}
+use Rattle.armus_base.specs.declared.op.Op.{Op}
+use Rattle.armus_base.specs.declared.op.Op.TheVariants.{Await}
 use Rattle.clock_syntax.specs.Trees.{skip}
 use Rattle.clock_moves.specs.Moves.{Move, Standing, after_move, no_standing, ops_of}
 use Rattle.clock_moves.specs.Unfolding.{ClockComing, ClockPart, ClockUnfolding, a_loop, a_plain, a_turn}
 use Rattle.clock_origins.specs.ClockOrigins.{Begun, all_begun, comings_by}
+
+-- the op waits
+abbrev pub is_await : Op → Bool
+is_await (Await p off) = true
+is_await op = false
 
 -- a move is made there: a skip, a loop and a turn of a loop make none
 abbrev pub makes_move : ClockPart → Bool

@@ -1,5 +1,5 @@
 // The laws of origins of clock programs: each is the contract of a function with an empty body.
-ghost use Rattle.clock_origins.specs.calls.Laws.{MovesComeFromStatements, OpsHaveStatements, StatementsHaveOffsets, TasksAndPhasersHaveStatements};
+ghost use Rattle.clock_origins.specs.calls.Laws.{AwaitsComeFromWaits, MovesComeFromStatements, OpsHaveStatements, StatementsHaveOffsets, TasksAndPhasersHaveStatements};
 
 /// The text of a clock program has an offset for each of its statements.
 pub fn statements_have_offsets()
@@ -7,9 +7,10 @@ pub fn statements_have_offsets()
 {}
 
 /// Each activity, clock and finish of a clock program is a task or a phaser of its plan, each op has an origin, and each move of an activity is one of the
-/// kind of the statement from which it comes.
+/// kind of the statement from which it comes. An op that waits comes from the statement at which its activity is said to wait there.
 pub fn ops_have_statements()
     ensures moves { MovesComeFromStatements }
     ensures ops { OpsHaveStatements }
+    ensures waits { AwaitsComeFromWaits }
     ensures all { TasksAndPhasersHaveStatements }
 {}

@@ -14,8 +14,9 @@ use Rattle.clock_syntax.specs.Trees.{ClockTree}
 use Rattle.clock_moves.specs.Unfolding.{ClockUnfolding}
 use Rattle.clock_origins.specs.ClockOffsets.{clock_offsets}
 use Rattle.clock_origins.specs.ClockOrigins.{Begun, MadeThing, all_begun, all_things, all_waits}
+use Rattle.clock_origins.specs.ClockOps.{is_await}
 use Rattle.clock_sayings.specs.ClockExplanations.{clock_lines, some_activity_waits}
-use Rattle.clock_sayings.specs.ClockFacts.{AreClockFacts, AreTextFacts, ClockFacts, ClockWait, IsWaitBy, TextFacts, is_await, is_pending}
+use Rattle.clock_sayings.specs.ClockFacts.{AreClockFacts, AreTextFacts, ClockFacts, ClockWait, IsWaitBy, TextFacts, is_pending}
 use Rattle.clock_sayings.specs.calls.Laws.{ClockExplanationExists, OneClockExplanation}
 use Rattle.clock_sayings.proofs.Told.{AreTold, one_list, told_all, told_more, told_none}
 

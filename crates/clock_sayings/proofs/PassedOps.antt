@@ -6,10 +6,11 @@ use Rattle.std.proofs.lemmas.List.{drop_more, length-drop, reverse-append, take_
 use Rattle.std.proofs.lemmas.List.Sums.{sum_by-append}
 use Rattle.armus_base.specs.declared.op.Op.{Op}
 use Rattle.armus_base.specs.declared.op.Op.TheVariants as op
-use Rattle.clock_sayings.specs.ClockFacts.{is_await, is_pending, is_signalled}
+use Rattle.clock_sayings.specs.ClockFacts.{is_pending, is_signalled}
 use Rattle.clock_sayings.specs.inside.Passing.{pending_by}
 use Rattle.pl_plan.specs.calls.MemberRows.{marked}
 use Rattle.pl_plan.proofs.MemberRows.{marked_other, marked_same}
+use Rattle.clock_origins.specs.ClockOps.{is_await}
 
 count_by-append : (xs ys : List Op) → count_by is_await (xs ++ ys) ≡ count_by is_await xs + count_by is_await ys
 count_by-append xs ys = sum_by-append (λ x. cond (is_await x) 1 0) xs ys

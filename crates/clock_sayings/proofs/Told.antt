@@ -13,8 +13,9 @@ use Rattle.armus_base.specs.declared.ending.TaskEnd.{TaskEnd}
 use Rattle.armus_base.specs.declared.ending.TaskEnd.TheVariants.{Blocked, Done, Refused, Unforked}
 use Rattle.armus_base.specs.declared.op.Op.{Op}
 use Rattle.armus_base.proofs.Below.{list_below-at}
-use Rattle.clock_sayings.specs.ClockFacts.{AreWaitsAt, ClockWait, IsWaitBy, is_await, is_pending}
+use Rattle.clock_sayings.specs.ClockFacts.{AreWaitsAt, ClockWait, IsWaitBy, is_pending}
 use Rattle.accounts.proofs.OneAccount.{one_op}
+use Rattle.clock_origins.specs.ClockOps.{is_await}
 
 -- what f gives for a number
 pub list_at : {A : Type 0} (f : ℕ → A) (n t : ℕ) (xs : List A) (d : A) → xs ≡ list_below f n → t < n → slice_index_or xs t d ≡ f t

@@ -1,5 +1,5 @@
 -- What is known of a clock text, and of its activities where a run of its plan has ended.
-use Rattle.std.specs.Prelude.{◌≡◌, ℕ, ◌<◌, ◌==◌, ◌&&◌, ◌||◌, not, reverse, Bool, true, false, List, [], ◌∷◌, Option, None, count_by, length, slice_get, slice_index_or, take}
+use Rattle.std.specs.Prelude.{◌≡◌, ℕ, ◌<◌, ◌==◌, ◌&&◌, ◌||◌, not, reverse, Bool, false, List, [], ◌∷◌, Option, None, count_by, length, slice_get, slice_index_or, take}
 use Rattle.armus_base.specs.declared.ending.TaskEnd.{TaskEnd}
 use Rattle.armus_base.specs.declared.ending.TaskEnd.TheVariants.{Blocked, Done, Refused, Unforked}
 use Rattle.armus_base.specs.declared.op.Op.{Op}
@@ -14,6 +14,7 @@ use Rattle.clock_syntax.specs.Trees.{ClockTree}
 use Rattle.clock_moves.specs.Unfolding.{ClockUnfolding}
 use Rattle.clock_origins.specs.ClockOffsets.{clock_offsets}
 use Rattle.clock_origins.specs.ClockOrigins.{Begun, MadeThing, all_begun, all_things, all_waits}
+use Rattle.clock_origins.specs.ClockOps.{is_await}
 
 -- where an activity waits: the statement; and for each clock and finish, in order of number, whether it is pending there: the activity has signalled on it, and not
 -- waited since
@@ -38,11 +39,6 @@ pub record ClockFacts : Type 0 where
   pub waits : List ClockWait
 
 -- ---- waits
-
--- the op waits
-abbrev pub is_await : Op → Bool
-is_await (Await p off) = true
-is_await op = false
 
 -- of these ops, the last one standing first: the first one that signals on p, waits on it or leaves it, is a signal
 abbrev pub is_signalled : ℕ → List Op → Bool

@@ -3,8 +3,9 @@ ghost use Rattle.std.specs.Prelude.{◌≡◌, ◌<◌, ◌≤◌, ℕ, false, I
 ghost use Rattle.armus_base.specs.Finals.{end_of, list_below};
 ghost use Rattle.armus_base.specs.Plans.{code_of};
 ghost use Rattle.pl_core.specs.calls.Worlds.{places_of, state_of};
-ghost use Rattle.clock_sayings.specs.ClockFacts.{AreWaitsAt, IsWaitBy, IsWaitOf, is_await, is_pending};
+ghost use Rattle.clock_sayings.specs.ClockFacts.{AreWaitsAt, IsWaitBy, IsWaitOf, is_pending};
 ghost use Rattle.clock_sayings.specs.inside.Passing.{pending_by};
+ghost use Rattle.clock_origins.specs.ClockOps.{is_await};
 
 use crate::facts::Wait;
 use armus_base::{NoMemory, Op, TaskEnd, TaskId};

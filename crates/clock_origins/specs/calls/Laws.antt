@@ -1,12 +1,13 @@
 -- What is proved of the origins of a clock program.
-use Rattle.std.specs.Prelude.{◌≡◌, ℕ, List, [], ◌∷◌, length, map, slice_get, Ok, Some}
-use Rattle.armus_base.specs.Plans.{Plan}
+use Rattle.std.specs.Prelude.{◌≡◌, ℕ, true, List, [], ◌∷◌, count_by, length, map, slice_get, take, Ok, Option, Some}
+use Rattle.armus_base.specs.declared.op.Op.{Op}
+use Rattle.armus_base.specs.Plans.{Plan, code_of}
 use Rattle.clock_syntax.specs.Grammar.{IsClockText}
 use Rattle.clock_syntax.specs.Trees.{ClockTree, advance, clock, clock_count, drop, resume}
 use Rattle.clock_moves.specs.Moves.{Move, advances, begins, drops, ends, opens, resumes, starts, stops}
 use Rattle.clock_moves.specs.Unfolding.{ClockComing, ClockPart, ClockUnfolding, a_close, a_finish, a_plain, an_async, clock_unfolded, plan_of_moves}
 use Rattle.clock_origins.specs.ClockOffsets.{clock_offsets}
-use Rattle.clock_origins.specs.ClockOps.{all_op_origins, moving_comings}
+use Rattle.clock_origins.specs.ClockOps.{all_op_origins, is_await, moving_comings}
 use Rattle.clock_origins.specs.ClockOrigins.{Begun, all_begun, all_things, all_waits, comings_by}
 
 -- the text of a program has an offset for each statement
@@ -42,6 +43,20 @@ MovesComeFromStatements =
 abbrev pub OpsHaveStatements : Type 0
 OpsHaveStatements =
     (p : ClockTree) (u : ClockUnfolding) → clock_unfolded p ≡ Ok u → map length (all_op_origins u) ≡ map length (plan_of_moves u).codes
+
+-- ---- waits
+
+-- of these ops, with these origins, each that waits comes from a statement: that of the wait behind as many of these as there are ops before it that wait
+abbrev pub ComeFromWaits : List Op → List (Option ℕ) → List ℕ → Type 0
+ComeFromWaits ops origins waits =
+    (k : ℕ) (op : Op) → slice_get ops k ≡ Some op → is_await op ≡ true →
+    (n : ℕ) × (slice_get waits (count_by is_await (take k ops)) ≡ Some n) × (slice_get origins k ≡ Some (Some n))
+
+-- each op that waits comes from the statement at which its activity is said to wait there
+abbrev pub AwaitsComeFromWaits : Type 0
+AwaitsComeFromWaits =
+    (p : ClockTree) (u : ClockUnfolding) (t : ℕ) (origins : List (Option ℕ)) (waits : List ℕ) → clock_unfolded p ≡ Ok u →
+    slice_get (all_op_origins u) t ≡ Some origins → slice_get (all_waits u) t ≡ Some waits → ComeFromWaits (code_of (plan_of_moves u) t) origins waits
 
 -- ---- tasks and phasers
 
