@@ -9,7 +9,8 @@ use std::test::Fail;
 // First the empty text; two tasks that wait for each other; one that waits for a task that has ended; a text in which nobody waits; one with a syntax fault,
 // of a file whose name is `run`; and one with a check fault. Then steps: of the two tasks that wait for each other, of a text of PL 2, of the empty text,
 // and of one with a syntax fault, of a file whose name is `steps`. Then texts of clocks: three whose language the name of the file or the first token tells,
-// and three that are read as such by their word. Then two of which the run that avoids deadlock is asked for. Then words that read nothing: those of help
+// and three that are read as such by their word; and one for each limit of such a text: of activities, of clocks and finishes, of both, of ops and of visits.
+// Then two of which the run that avoids deadlock is asked for. Then words that read nothing: those of help
 // and of the version, and those of none. Then a source and a sink that fail, and a text that is too long, of no file and of one.
 const ROWS: &str = "\
 $$0$0$tasks 1 done 1 dead 0 held 0 refused 0 unforked 0~nobody waits for ever~$0\n\
@@ -28,6 +29,11 @@ steps k.clock.pl$drop = newPhaser();~$0$0$1: t0 at 1:1: drop = newPhaser(): make
 clock k.clock$clock c;~finish {~  async(c) {~    resume(c);~    advance(c);~    advance(c);~  }~  resume(c);~}~advance(c);~drop(c);~$0$0$activities 2 ended 0 waiting 2 unstarted 0~k.clock:2:1: activity 0 waits at the end of the finish at 2:1~  activity 1 (async at 3:3) has not ended: it waits at 6:5~  resume left clock c made at 1:1 pending~k.clock:6:5: activity 1 (async at 3:3) waits at its advance for phase 2 of clock c made at 1:1~  the signal of activity 0 is missing: it waits at 2:1~$1\n\
 clock clock$finish { }~drop~$0$0$clock:3:1: this token cannot stand here (syntax 2, byte 16)~$3\n\
 clock$skip;~$0$0$activities 1 ended 1 waiting 0 unstarted 0~nobody waits for ever~$0\n\
+clock$loop 4096 { async() { } }~$0$0$1:13: 4096 activities are there already: no more may be (clock 5, statement 2)~    loop 4096 { async() { } }~                ^~$3\n\
+clock$loop 1025 { clock c; }~$0$0$1:13: 1024 clocks and finishes are there already: no more may be (clock 6, statement 2)~    loop 1025 { clock c; }~                ^~$3\n\
+clock$loop 256 { clock c; } loop 4095 { async() { } }~$0$0$1:35: the activities times one more than the clocks and finishes may be at most 1048576 (clock 7, statement 4)~    loop 256 { clock c; } loop 4095 { async() { } }~                                      ^~$3\n\
+clock$clock c; loop 9 { loop 65535 { advance(c); } }~$0$0$1:32: 1048576 ops are there already: no more may be (clock 8, statement 4)~    clock c; loop 9 { loop 65535 { advance(c); } }~                                   ^~$3\n\
+clock$loop 65535 { loop 63 { } }~$0$0$1:14: 4194304 visits were made already: no more may be (clock 9, statement 2)~    loop 65535 { loop 63 { } }~                 ^~$3\n\
 avoid$skip;~$0$0$tasks 1 done 1 dead 0 held 0 refused 0 unforked 0~nobody was refused~nobody waits for ever~$0\n\
 avoid avoid$b = newPhaser()~adv(b);~$0$0$avoid:2:1: ';' is wanted here, not 'adv' (syntax 2, byte 16)~    adv(b);~    ^~$3\n\
 --help$skip;~$1$0$usage: armus_explain [run|steps|avoid|clock] [FILE]~Reads a PL text from FILE, or from standard input where there is none, and tells~which of its tasks wait for ever, where, for whom, and why.~With steps it first shows the run in which the task with the least number that may~go on makes the next step: a line for each step, and at most 10000 of them. A text~that begins with a word of clocks, or whose FILE ends with .clock, is one of clocks.~With avoid it tells which tasks are refused in the run that avoids deadlock, where,~and which deadlock each of them would have closed.~With clock it reads a clock text, and tells the same of its activities.~A text that is refused gets the place of its first fault and what is wrong there.~Status: 0 nobody waits for ever, 1 somebody does or is refused, 2 other words,~3 the text is refused, 4 it cannot be read, 5 it cannot be written, 6 no memory.~$0\n\

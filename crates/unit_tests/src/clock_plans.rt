@@ -33,6 +33,7 @@ loop 256 { clock c; } loop 4095 { async() { } }|fault 7 4\n\
 loop 4095 { async() { } } loop 256 { clock c; }|fault 7 4\n\
 loop 255 { clock c; } loop 4096 { async() { } }|fault 5 4\n\
 loop 255 { clock c; } loop 4095 { async() { } }|plan 4096 255 4605\n\
+clock c; loop 9 { loop 65535 { advance(c); } }|fault 8 4\n\
 loop 65535 { loop 63 { } }|fault 9 2\n\
 loop 65535 { loop 62 { } }|plan 1 0 0\n\
 loop 65535 { loop 62 { } } loop 31 { finish { } }|plan 1 31 124\n\
