@@ -1,10 +1,10 @@
 -- Noting statements one after the other, and finding them by their numbers.
-use Rattle.std.proofs.Common.{◌≡◌, ℕ, zero, suc, ◌+◌, ◌-◌, ◌<◌, ◌≤◌, List, ◌++◌, Some, None, length, drop, get_or, sym, ap, refl, ◌∙◌, append_assoc, append-nil, arith}
+use Rattle.std.proofs.Common.{◌≡◌, ℕ, zero, suc, ◌+◌, ◌-◌, ◌<◌, ◌≤◌, List, ◌++◌, Some, length, drop, get_or, sym, ap, refl, ◌∙◌, append_assoc, append-nil, arith}
 use Rattle.std.specs.Prelude.{option_map}
 use Rattle.std.specs.Borrow.{Bor}
 use Rattle.std.specs.List.{slice_get}
-use Rattle.std.proofs.lemmas.List.{drop_all, drop_more, length-map}
-use Rattle.std.proofs.lemmas.Option.{slice_get-get_or, slice_get-map, slice_get_past}
+use Rattle.std.proofs.lemmas.List.{drop_all, drop_more}
+use Rattle.std.proofs.lemmas.Option.{slice_get-get_or, slice_get-map}
 use Rattle.accounts.specs.Accounts.{numbered}
 use Rattle.clock_syntax.specs.declared.tree.ClockStmt.{ClockStmt}
 use Rattle.clock_syntax.specs.declared.tree.ClockStmt.TheVariants as s
@@ -64,7 +64,3 @@ module _ (rows : List (Bor ClockStmt)) where
   part_is (suc i) row some few is =
       let there : slice_get rows i ≡ Some row = slice_get-get_or rows i row (omega (arith, few)) ∙ ap Some (ap (λ j. get_or rows j row) (let e : i ≡ suc i - 1 = omega arith in e) ∙ sym is) in
       sym (slice_get-map (λ (r : Bor ClockStmt). clock_part_of r.now) rows i ∙ ap (option_map (λ (r : Bor ClockStmt). clock_part_of r.now)) there)
-
-  pub no_part : (n : ℕ) → length rows < n → None ≡ numbered (kept_parts rows) n
-  no_part zero past = absurd (omega arith)
-  no_part (suc i) past = sym (slice_get_past (kept_parts rows) i (let e = length-map rows (λ (r : Bor ClockStmt). clock_part_of r.now) in omega (arith, e, past)))

@@ -50,14 +50,6 @@ module _ {A : Type 0} where
     distinct_both xs ys a.1 b (λ y l r. apart y (Contains-tail x xs y l) r),
   )
 
-  distinct_filter : (p : A → Bool) (xs : List A) → IsDistinct xs → IsDistinct (filter p xs)
-  distinct_filter p [] d = tt
-  distinct_filter p (x ∷ xs) d = by (cases_Bool (p x)) (distinct_filter p xs d.1)
-    where
-      by : ((p x ≡ true) ⊎ (p x ≡ false)) → IsDistinct (filter p xs) → IsDistinct (filter p (x ∷ xs))
-      by (inl on) rest = subst IsDistinct (sym (ap (λ b. if b then x ∷ filter p xs else filter p xs) on)) ((λ m. d.0 (passed_is p xs x m).0), rest)
-      by (inr off) rest = subst IsDistinct (sym (ap (λ b. if b then x ∷ filter p xs else filter p xs) off)) rest
-
 -- who stands in the list of tasks is the task of an impeder
 of_task : (is : List Impeder) (t : TaskId) → Contains (map (λ (i : Impeder). i.t) is) t → (i : Impeder) × Contains is i × (i.t ≡ t)
 of_task [] t m = absurd (nothing_in_nil t m)
