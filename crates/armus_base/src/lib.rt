@@ -1,4 +1,5 @@
-//! The types that every other crate names, the definitions of plans, runs and deadlock with the laws over them, and the outside of the program: sources, sinks and the gate.
+//! The types that every other crate names, the definitions of plans, runs and deadlock with the laws over them, and the outside of the program: sources,
+//! sinks and the gate.
 #![tactic(auto)]
 
 mod code;

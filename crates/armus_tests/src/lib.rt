@@ -1,4 +1,5 @@
-//! Tests of the program: its worked rows, sources and sinks that fail, records that are replayed, and tasks that a gate holds; and of the program that explains.
+//! Tests of the program: its worked rows, sources and sinks that fail, records that are replayed, and tasks that a gate holds; and of the program that
+//! explains.
 #![tactic(auto)]
 
 #[cfg(test)]

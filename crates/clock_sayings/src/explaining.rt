@@ -90,8 +90,8 @@ fn explain_layout(
 }
 
 /// Explains where a run of the plan of a clock text has ended: `world` is that of its end, and `end` the value of its state. `places` are those of the
-/// text, which is this program and unfolds to the plan of the world, and `file` is the name of its file, if it comes from one. The only error is want of memory. The time is linear in the visits
-/// of the unfolding, and in the pairs of an activity that waits with another one or with a clock or finish.
+/// text, which is this program and unfolds to the plan of the world, and `file` is the name of its file, if it comes from one. The only error is want of
+/// memory. The time is linear in the visits of the unfolding, and in the pairs of an activity that waits with another one or with a clock or finish.
 pub fn clock_explanation_of(
     alloc: Global,
     places: &TextPlaces<'_>,

@@ -18,8 +18,9 @@ pub fn numbers_are_named()
     ensures made { MadeHaveOneName }
 {}
 
-/// For each run of the machine on the text of a program without fault there is one of the machine on moves, by some of the same steps: the same activities are started, and each clock and finish has the same phase and the same sets. No run comes to a statement at fault; each is bounded by the text,
-/// and can be continued until no activity goes.
+/// For each run of the machine on the text of a program without fault there is one of the machine on moves, by some of the same steps: the same activities
+/// are started, and each clock and finish has the same phase and the same sets. No run comes to a statement at fault; each is bounded by the text, and can be
+/// continued until no activity goes.
 pub fn clock_text_runs()
     ensures direct { TextRunsAreDirect }
     ensures fails { NoRunFails }
@@ -27,10 +28,10 @@ pub fn clock_text_runs()
     ensures end { TextRunsEnd }
 {}
 
-/// Where no activity of the machine on the text goes, each stands as its task has ended in the final state of the program's plan: it has ended where the task is
-/// done; it waits at an advance of a clock of the unfolding and remembers phase k where the task is blocked on phase k + 1 of its phaser; it waits at the end of
-/// a finish of the unfolding where the task is blocked on phase 1 of that; and it is not started where the task is unforked. So all these ends are alike; and
-/// there is one.
+/// Where no activity of the machine on the text goes, each stands as its task has ended in the final state of the program's plan: it has ended where the task
+/// is done; it waits at an advance of a clock of the unfolding and remembers phase k where the task is blocked on phase k + 1 of its phaser; it waits at the
+/// end of a finish of the unfolding where the task is blocked on phase 1 of that; and it is not started where the task is unforked. So all these ends are
+/// alike; and there is one.
 pub fn clock_text_ends()
     ensures of_tasks { TextEndsAreThoseOfTasks }
     ensures told { TextEndsAreTold }

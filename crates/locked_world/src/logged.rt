@@ -10,7 +10,8 @@ use pl_core::World;
 use std::alloc::Global;
 use std::marker::{Model, PhantomData};
 
-/// A world of N's plan and the journal of its steps: contracts see it as these two, and it keeps that the world is the replay of the journal from the opening state.
+/// A world of N's plan and the journal of its steps: contracts see it as these two, and it keeps that the world is the replay of the journal from the opening
+/// state.
 #[derive(Drop)]
 pub struct Logged<'p, N: PlanName> {
     world: World<'p>,

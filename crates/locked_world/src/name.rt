@@ -1,7 +1,8 @@
 // Which plan a recorded run is of.
 use std::marker::Brand;
 
-/// A name of one plan, which contracts alone see: the types of a recorded run keep that they are of this plan. A caller passes `Brand`, and its proof picks the plan.
+/// A name of one plan, which contracts alone see: the types of a recorded run keep that they are of this plan. A caller passes `Brand`, and its proof picks
+/// the plan.
 pub trait PlanName: Send + Sync {
     ghost use Rattle.armus_base.specs.Plans.{Plan};
 

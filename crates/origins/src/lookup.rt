@@ -111,8 +111,8 @@ impl<'p> Origins<'p> {
         })
     }
 
-    /// The number of the statement from which op i of a task comes, counted from 0: none for an op with which the task leaves a phaser at its end, as it does in
-    /// PL 2, and where there is no such op.
+    /// The number of the statement from which op i of a task comes, counted from 0: none for an op with which the task leaves a phaser at its end, as it does
+    /// in PL 2, and where there is no such op.
     pub fn op(&self, program: &Program, t: TaskId, i: u32) -> Option<u32>
         requires few { count program.now.body + 1 < 2 ^ 32 }
         requires origins { AreOrigins program.now self.now }
@@ -171,8 +171,8 @@ impl<'p> Origins<'p> {
         let body = body_at(program, &self.statements, fork)?;
         Some(last_of_body(body, fork + 1, fork))
     }
-    /// The number of the statement of a task's last visit: none for a task that makes no visit, and where there is no such task. For a turn of a loop it is that
-    /// of the loop.
+    /// The number of the statement of a task's last visit: none for a task that makes no visit, and where there is no such task. For a turn of a loop it is
+    /// that of the loop.
     pub fn last(&self, program: &Program, t: TaskId) -> Option<u32>
         requires few { count program.now.body + 1 < 2 ^ 32 }
         requires origins { AreOrigins program.now self.now }
@@ -192,8 +192,8 @@ impl<'p> Origins<'p> {
     {
         statement_at(&self.statements, n)
     }
-    /// In which turns of loops op i of a task is made, counted from 0: one turn for each loop around its statement within the task's code, from outside in; none
-    /// for an op with which the task leaves a phaser at its end, and where there is no such op.
+    /// In which turns of loops op i of a task is made, counted from 0: one turn for each loop around its statement within the task's code, from outside in;
+    /// none for an op with which the task leaves a phaser at its end, and where there is no such op.
     pub fn turns(
         &self,
         alloc: Global,

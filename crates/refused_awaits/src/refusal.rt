@@ -472,7 +472,8 @@ pub(crate) fn put_freed(
     Ok(())
 }
 
-/// Appends the paragraph but for its last line of a task whose await, which stood so when it was decided on, was refused, since it would have closed this deadlock.
+/// Appends the paragraph but for its last line of a task whose await, which stood so when it was decided on, was refused, since it would have closed this
+/// deadlock.
 pub(crate) fn put_refusal(
     facts: &StepFacts<'_>,
     file: Option<&[u8]>,

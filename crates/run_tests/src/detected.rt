@@ -1,4 +1,5 @@
-// A run on a board that detects deadlock: where its tasks stand at the end of its rounds, and what the words of the board say there, before it goes on in a world.
+// A run on a board that detects deadlock: where its tasks stand at the end of its rounds, and what the words of the board say there, before it goes on in a
+// world.
 ghost use Rattle.std.specs.Prelude.{◌≡◌, ◌<◌, IfOk, length};
 
 use crate::plans::named_plan;

@@ -8,8 +8,8 @@ use sites::{DecodeEnd, Snapshot, decode, encode};
 use std::alloc::Global;
 use std::test::Fail;
 
-// A kind, a site and how many there are, bytes, and the answer. `row`: the statuses of which the bytes are the row, or that they are bad; `cut`: a mark for each
-// proper prefix of the bytes; `turned`: a mark for each byte, of the bytes with this one changed. A mark is b where those are bad.
+// A kind, a site and how many there are, bytes, and the answer. `row`: the statuses of which the bytes are the row, or that they are bad; `cut`: a mark for
+// each proper prefix of the bytes; `turned`: a mark for each byte, of the bytes with this one changed. A mark is b where those are bad.
 const ROWS: &str = "\
 row | 0 2 | 0 0 0 1 0 0 0 0 0 0 0 0 0 0 0 1 0 0 0 2 0 0 0 0 0 0 0 1 0 0 0 1 0 0 0 0 | t0 p0@1 p0:1 p1:0;\n\
 cut | 0 2 | 0 0 0 1 0 0 0 0 0 0 0 0 0 0 0 1 0 0 0 2 0 0 0 0 0 0 0 1 0 0 0 1 0 0 0 0 | bbbbbbbbbbbbbbbbbbbbbbbbbbbbbbbbbbbb\n\

@@ -14,8 +14,8 @@ use sites::{Keeper, MemKeeper, SafeKeeper, encode, site_pass, snap};
 use std::alloc::Global;
 use std::test::Fail;
 
-// Which calls of the keeper fail, and what its calls tell: site 0 puts when its task waits and the other one does not yet, and then both rows are checked; site 1
-// puts once the other one waits too, and then the row of site 0 is got and both are checked.
+// Which calls of the keeper fail, and what its calls tell: site 0 puts when its task waits and the other one does not yet, and then both rows are checked;
+// site 1 puts once the other one waits too, and then the row of site 0 is got and both are checked.
 const ROWS: &str = "\
 | ok; nobody; ok; 0 0 0 1 0 0 0 0 0 0 0 0 0 0 0 1 0 0 0 2 0 0 0 0 0 0 0 1 0 0 0 1 0 0 0 0; sg 2 t0 t1;\n\
 4 | ok; nobody; fault; 0 0 0 1 0 0 0 0 0 0 0 0 0 0 0 1 0 0 0 2 0 0 0 0 0 0 0 1 0 0 0 1 0 0 0 0; nobody;\n\

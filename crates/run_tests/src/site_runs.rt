@@ -11,8 +11,8 @@ use std::test::Fail;
 use std::thread::Threads;
 use task_runner::run_sites;
 
-// How each task has ended and how many are blocked; then, for each site, the row at the end: for site 0 one status, of task 0 on p0@1, with two phases, 1 of p0 and
-// 0 of p1, and for site 1 one of task 1 on p1@1, with 0 of p0 and 1 of p1.
+// How each task has ended and how many are blocked; then, for each site, the row at the end: for site 0 one status, of task 0 on p0@1, with two phases, 1 of
+// p0 and 0 of p1, and for site 1 one of task 1 on p1@1, with 0 of p0 and 1 of p1.
 const ENDS: &str = "blocked p0@1, blocked p1@1, 2 blocked";
 
 const LAST_ROWS: &str = "\

@@ -10,8 +10,8 @@ use pl_core::{Place, Stand, World};
 use std::alloc::Global;
 use std::test::Fail;
 
-// A plan, its turns, and each task of the state after them, its statuses and, where no task may go on, how they have ended. A digit is a turn of its task, and r
-// refuses the await of task 1.
+// A plan, its turns, and each task of the state after them, its statuses and, where no task may go on, how they have ended. A digit is a turn of its task,
+// and r refuses the await of task 1.
 const ROWS: &str = "\
 two | | t0 ready op 0 + - -;t1 unforked op 0 . - -; /  /\n\
 two | 00000 | t0 ready op 5 + 0 0;t1 ready op 0 + 0 0; /  /\n\

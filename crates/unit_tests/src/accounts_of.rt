@@ -19,10 +19,10 @@ use std::alloc::Global;
 use std::test::Fail;
 use text_places::{TextPlace, TextPlaces, line_names_one_place};
 
-// Of each phaser where it is made, and of each task where and by which name it is drawn, where and by whom it is forked, where its code ends, with the statement of
-// its last visit, and where it waits: at what, for which event, at which phase, and in which turns of loops. The rows: nobody waits; loops in a fork in a loop,
-// with tabs and CRs; loops in loops, of which one has no turn, an offset, an empty body and one on one line, and a task that no op forks; places of another
-// program, some that are none, and braces that close on such a line.
+// Of each phaser where it is made, and of each task where and by which name it is drawn, where and by whom it is forked, where its code ends, with the
+// statement of its last visit, and where it waits: at what, for which event, at which phase, and in which turns of loops. The rows: nobody waits; loops in a
+// fork in a loop, with tabs and CRs; loops in loops, of which one has no turn, an offset, an empty body and one on one line, and a task that no op forks;
+// places of another program, some that are none, and braces that close on such a line.
 const ROWS: &str = "\
 skip;~|t0: end 2:1 last 1:1~\n\
 pc = newPhaser();\r~pb = newPhaser();\r~loop 3 {\r~\tt = newTid();\r~\treg(t, pc);\r~\treg(t, pb);\r~\tfork(t) {\r~\t\tloop 2 {\r~\t\t\tadv(pc); await(pc);\r~\t\t}\r~\t\tdereg(pc); dereg(pb);\r~\t}\r~}\r~adv(pb);\r~await(pb);\r~|p0: 1:1~p1: 2:1~t0: end 16:1 last 15:1 wait 15:1 await(pb) p1@1 1~t1: t 4:2 fork 7:2 t0 end 12:2 last 11:14 wait 9:13 await(pc) p0@1 1 1@8:3~t2: t 4:2 fork 7:2 t0 end 12:2 last 11:14 wait 9:13 await(pc) p0@1 1 1@8:3~t3: t 4:2 fork 7:2 t0 end 12:2 last 11:14 wait 9:13 await(pc) p0@1 1 1@8:3~\n\

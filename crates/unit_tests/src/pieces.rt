@@ -1,5 +1,5 @@
-// Pieces: a line for each text, with how many ops its plan has, a task and its pieces. `repeat:3x2` runs the two pieces behind it three times, `await:0+1` looks
-// one phase ahead, and `reg:1,0` makes task 1 a member of phaser 0.
+// Pieces: a line for each text, with how many ops its plan has, a task and its pieces. `repeat:3x2` runs the two pieces behind it three times, `await:0+1`
+// looks one phase ahead, and `reg:1,0` makes task 1 a member of phaser 0.
 use crate::program_texts::program_of;
 use crate::row_texts::number;
 use armus_base::{Offset, Op, PhaserId, Piece, Plan, TaskId};

@@ -1,4 +1,5 @@
-// Numbers and bytes in rows: ~ stands for LF and ! for the byte 255, and where a text has #, it is pieces, each behind the number of times that it stands there.
+// Numbers and bytes in rows: ~ stands for LF and ! for the byte 255, and where a text has #, it is pieces, each behind the number of times that it stands
+// there.
 use std::alloc::{AllocError, Global};
 
 pub(crate) fn number(text: &str) -> u32 {

@@ -5,8 +5,8 @@ use pl_syntax::{MAX_PARSED_BYTES, ParseEnd, parse};
 use std::alloc::Global;
 use std::test::Fail;
 
-// 64 braces may be open; a token that cannot stand there is so before a brace is one too many. A name has 32 bytes at most, and a capital letter comes before its
-// length. The last rows are one statement, cut to its first bytes.
+// 64 braces may be open; a token that cannot stand there is so before a brace is one too many. A name has 32 bytes at most, and a capital letter comes before
+// its length. The last rows are one statement, cut to its first bytes.
 const ROWS: &str = "\
 $none\n\
 p = newPhaser();~adv(p$2 at 22\n\

@@ -1,13 +1,15 @@
 // Laws of runs.
 ghost use Rattle.armus_base.specs.calls.RunLaws.{MaximalExists, NextIsLegal, OneEnd, OneSerialEnd, PlacesFixState, ReachedStays, ReachedStaysInRun, SamePlacesSameState, SerialFinalIsAvoided, SerialIsAvoided};
 
-/// The places fix the state: after each legal run of a checked plan the state is the one that its places fix, and two runs to the same places end in the same state.
+/// The places fix the state: after each legal run of a checked plan the state is the one that its places fix, and two runs to the same places end in the same
+/// state.
 pub fn places_fix_state()
     ensures fixed { PlacesFixState }
     ensures same { SamePlacesSameState }
 {}
 
-/// What is reached stays reached: an event of a phaser that has been made, once reached, is reached after each run whose places are all at or after, and when the run goes on.
+/// What is reached stays reached: an event of a phaser that has been made, once reached, is reached after each run whose places are all at or after, and when
+/// the run goes on.
 pub fn reached_stays()
     ensures later { ReachedStays }
     ensures longer { ReachedStaysInRun }
