@@ -5,6 +5,7 @@ use Rattle.armus_base.specs.CheckedPlans.{IsCheckedPlan}
 use Rattle.armus_base.specs.Finals.{final_of}
 use Rattle.armus_base.specs.Plans.{Plan}
 use Rattle.armus_base.specs.Serial.{IsSerialAvoidedFinal}
+use Rattle.armus_base.proofs.Lists.{same_ends}
 use Rattle.adaptive.specs.declared.analysis.Wanted.{Wanted}
 use Rattle.pl_syntax.specs.Printed.{line, printed_of}
 use Rattle.pl_syntax.proofs.Unique.{one_tree}
@@ -32,7 +33,6 @@ use Rattle.schedule.proofs.OneSchedule.{one_cut}
 use Rattle.clock_syntax.specs.Trees.{ClockTree}
 use Rattle.clock_syntax.proofs.ClockUnique.{one_clock_tree}
 use Rattle.clock_moves.specs.Unfolding.{clock_plan_of}
-use Rattle.answer_laws.proofs.OneReplay.{same_ends}
 use Rattle.answer_laws.specs.OneAnswer.{FixesAnswer, OneAnswer, RunsReportAlike}
 use Rattle.answer_laws.specs.Outputs.{AreAlike}
 use Rattle.answer_laws.specs.ReportedRuns.{ReportsRun}

@@ -6,6 +6,7 @@ use Rattle.armus_base.specs.DeadLists.{IsDeadList}
 use Rattle.armus_base.specs.Plans.{Plan}
 use Rattle.armus_base.specs.Runs.{state_after}
 use Rattle.armus_base.specs.States.{State}
+use Rattle.armus_base.proofs.Lists.{ends_some, same_ends}
 use Rattle.dep_state.proofs.SameDeadLists.{same_ascending}
 use Rattle.schedule.specs.declared.lines.Line.{Line}
 use Rattle.schedule.specs.declared.verdict.PassVerdict.{PassVerdict}
@@ -21,23 +22,6 @@ use Rattle.armus_top.specs.Programs.{TellsDead}
 use Rattle.armus_top.specs.Replays.{IsReplayOf, IsReplayedBy}
 use Rattle.armus_top.proofs.OnePlan.{one_plan}
 use Rattle.armus_top.proofs.OneRefusal.{one_status}
-
--- ---- lists with a last element
-
-ends_some : {A : Type 0} (xs : List A) (x : A) → [] ≡ xs ++ x ∷ [] → ⊥
-ends_some [] x e = absurd (cc)
-ends_some (y ∷ ys) x e = absurd (cc)
-
-pub same_ends : {A : Type 0} (xs ys : List A) (x y : A) → xs ++ x ∷ [] ≡ ys ++ y ∷ [] → (xs ≡ ys) × (x ≡ y)
-same_ends [] [] x y e = (refl, cc)
-same_ends [] (w ∷ ws) x y e = absurd (let rest : [] ≡ ws ++ y ∷ [] = cc in ends_some ws y rest)
-same_ends (z ∷ zs) [] x y e = absurd (let rest : [] ≡ zs ++ x ∷ [] = cc in ends_some zs x rest)
-same_ends (z ∷ zs) (w ∷ ws) x y e =
-    let first : z ≡ w = cc in
-    let rest : zs ++ x ∷ [] ≡ ws ++ y ∷ [] = cc in
-    let later = same_ends zs ws x y rest in
-    let same : zs ≡ ws = later.0 in
-    (cc, later.1)
 
 -- ---- verdicts
 

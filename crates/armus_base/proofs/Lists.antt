@@ -57,3 +57,19 @@ first_and_rest (y ∷ ys) x e = cc
 pub none_first : {A : Type 0} (xs : List A) → slice_get xs 0 ≡ None → xs ≡ []
 none_first [] e = refl
 none_first (x ∷ xs) e = absurd (cc)
+
+-- two lists with one last element each are the same, and so are these
+pub ends_some : {A : Type 0} (xs : List A) (x : A) → [] ≡ xs ++ x ∷ [] → ⊥
+ends_some [] x e = absurd (cc)
+ends_some (y ∷ ys) x e = absurd (cc)
+
+pub same_ends : {A : Type 0} (xs ys : List A) (x y : A) → xs ++ x ∷ [] ≡ ys ++ y ∷ [] → (xs ≡ ys) × (x ≡ y)
+same_ends [] [] x y e = (refl, cc)
+same_ends [] (w ∷ ws) x y e = absurd (let rest : [] ≡ ws ++ y ∷ [] = cc in ends_some ws y rest)
+same_ends (z ∷ zs) [] x y e = absurd (let rest : [] ≡ zs ++ x ∷ [] = cc in ends_some zs x rest)
+same_ends (z ∷ zs) (w ∷ ws) x y e =
+    let first : z ≡ w = cc in
+    let rest : zs ++ x ∷ [] ≡ ws ++ y ∷ [] = cc in
+    let later = same_ends zs ws x y rest in
+    let same : zs ≡ ws = later.0 in
+    (cc, later.1)

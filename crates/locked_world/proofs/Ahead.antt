@@ -1,19 +1,6 @@
 -- The last item of a list.
 use Rattle.std.proofs.Common.{◌≡◌, ◌⊎◌, List, [], ◌∷◌, ◌++◌, ◌∙◌, ap, refl, inl, inr}
 
--- two lists with one last item each are the same, and so are these
-pub same_ends : {A : Type 0} (xs ys : List A) (x y : A) → xs ++ x ∷ [] ≡ ys ++ y ∷ [] → xs ≡ ys × x ≡ y
-same_ends [] [] x y e = (refl, cc)
-same_ends [] (b ∷ []) x y e = absurd (cc)
-same_ends [] (b ∷ (c ∷ ys)) x y e = absurd (cc)
-same_ends (a ∷ []) [] x y e = absurd (cc)
-same_ends (a ∷ (c ∷ xs)) [] x y e = absurd (cc)
-same_ends (a ∷ xs) (b ∷ ys) x y e =
-    let head : a ≡ b = cc in
-    let tail : xs ++ x ∷ [] ≡ ys ++ y ∷ [] = cc in
-    let rest = same_ends xs ys x y tail in
-    (ap (λ c. c ∷ xs) head ∙ ap (λ zs. b ∷ zs) rest.0, rest.1)
-
 -- what stands ahead of the last item: all that is before t, where t is the last; else t too
 pub ahead_of_last :
     {A : Type 0} (xs before rest : List A) (x t : A) → xs ++ x ∷ [] ≡ before ++ t ∷ rest → (xs ≡ before × x ≡ t) ⊎ ((init : List A) × (xs ≡ before ++ t ∷ init))

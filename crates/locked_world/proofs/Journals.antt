@@ -7,10 +7,11 @@ use Rattle.armus_base.specs.States.{Step}
 use Rattle.armus_base.proofs.Codes.{no_refusal}
 use Rattle.armus_base.proofs.Members.{by_code_next, plain_undropped}
 use Rattle.armus_base.proofs.Again.{in_code_plain}
+use Rattle.armus_base.proofs.Lists.{same_ends}
 use Rattle.locked_world.specs.calls.Journals.{GoesOnWith, JournalLeadsTo, no_step, one_more}
 use Rattle.locked_world.specs.Journals.{journal_of}
 use Rattle.locked_world.specs.calls.Laws.{EachGoesOn, JournalFixesRun, JournalLeads, LeadsIsJournal}
-use Rattle.locked_world.proofs.Ahead.{ahead_of_last, same_ends}
+use Rattle.locked_world.proofs.Ahead.{ahead_of_last}
 
 -- the last step of a plain run is how its task goes on by its code
 pub last_goes_on : (plan : Plan) (h : List Step) (e : Step) → IsPlainRun plan (e ∷ h) → GoesOnWith plan h e.task e.action

@@ -4,6 +4,7 @@ use Rattle.std.specs.Prelude.{Option, Some, None, IsSome}
 use Rattle.armus_base.specs.CheckedPlans.{IsCheckedPlan}
 use Rattle.armus_base.specs.Plans.{Plan, Action}
 use Rattle.armus_base.proofs.Tasks.{action_of_task}
+use Rattle.armus_base.proofs.Lists.{ends_some, same_ends}
 use Rattle.schedule.specs.declared.lines.Line.{Line}
 use Rattle.schedule.specs.declared.lines.Line.TheVariants as line
 use Rattle.schedule.specs.Passes.{Loads}
@@ -11,21 +12,6 @@ use Rattle.schedule.specs.Replays.{IsFault, LinesLead, Progress, Takes, at_start
 use Rattle.schedule.specs.calls.Laws.{NeverBoth, OneFirstFault, OneProgress}
 
 -- ---- lists with a last line
-
-ends_some : (xs : List Line) (x : Line) → [] ≡ xs ++ x ∷ [] → ⊥
-ends_some [] x e = absurd (cc)
-ends_some (y ∷ ys) x e = absurd (cc)
-
-same_ends : (xs ys : List Line) (x y : Line) → xs ++ x ∷ [] ≡ ys ++ y ∷ [] → (xs ≡ ys) × (x ≡ y)
-same_ends [] [] x y e = (refl, cc)
-same_ends [] (w ∷ ws) x y e = absurd (let rest : [] ≡ ws ++ y ∷ [] = cc in ends_some ws y rest)
-same_ends (z ∷ zs) [] x y e = absurd (let rest : [] ≡ zs ++ x ∷ [] = cc in ends_some zs x rest)
-same_ends (z ∷ zs) (w ∷ ws) x y e =
-    let first : z ≡ w = cc in
-    let rest : zs ++ x ∷ [] ≡ ws ++ y ∷ [] = cc in
-    let later = same_ends zs ws x y rest in
-    let same : zs ≡ ws = later.0 in
-    (cc, later.1)
 
 -- no lines, or lines and a last one
 has_last : (xs : List Line) → (xs ≡ []) ⊎ ((ys : List Line) × (y : Line) × (xs ≡ ys ++ y ∷ []))
