@@ -7,7 +7,7 @@ use Rattle.armus_base.specs.CheckedPlans.{IsCheckedPlan}
 use Rattle.armus_base.specs.DeadLists.{IsDeadList}
 use Rattle.armus_base.specs.Deadlocks.{IsDeadBy, IsDeadIn}
 use Rattle.armus_base.specs.Plans.{Action, Plan}
-use Rattle.armus_base.specs.Runs.{IsFinal, IsPlainRun, state_after}
+use Rattle.armus_base.specs.Runs.{IsFinal, IsPlainRun, state_after, IsOwnNextStep}
 use Rattle.armus_base.specs.States.{State, Step}
 use Rattle.armus_base.proofs.AvoidanceAgrees.{dead_is_final}
 use Rattle.armus_base.proofs.DeadStays.{dead_stays}
@@ -18,7 +18,7 @@ use Rattle.schedule.specs.declared.lines.Line.TheVariants as line
 use Rattle.schedule.specs.declared.verdict.PassVerdict.{PassVerdict}
 use Rattle.schedule.specs.Passes.{Loads, loads_of, statuses_found}
 use Rattle.schedule.specs.Replaying.{AreVerdicts, no_pass, one_pass}
-use Rattle.schedule.specs.Replays.{IsOwnNextStep, LinesLead, Progress, Takes, at_start, no_line, one_more}
+use Rattle.schedule.specs.Replays.{LinesLead, Progress, Takes, at_start, no_line, one_more}
 use Rattle.schedule.proofs.PassesNameTheDead.{passes_name_the_dead, plain_next}
 use Rattle.armus_words.specs.Words.{Text}
 use Rattle.armus_top.specs.Programs.{TellsDead}

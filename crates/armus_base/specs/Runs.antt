@@ -50,6 +50,11 @@ pub record IsNextStep (plan : Plan) (h : List Step) (e : Step) : Type 0 where
   pub legal : IsLegal plan (state_after h) e.task e.action
   pub by_code : IsByCode plan e.task (places h e.task).done (places h e.task).dropped e.action
 
+-- the step by which task t goes on by its code after the run h, if it has one
+pub record IsOwnNextStep (plan : Plan) (h : List Step) (t : ℕ) (x : Action) : Type 0 where
+  pub by_code : action_at plan t (places h t).done ≡ Some x
+  pub legal : IsLegal plan (state_after h) t x
+
 -- a legal run: each step is legal after those before it, and the next one by its task's code; it may refuse anywhere
 abbrev pub IsLegalRun : Plan → List Step → Type 0
 IsLegalRun plan [] = Unit {0}

@@ -2,19 +2,19 @@
 use Rattle.std.proofs.Common.{◌≡◌, ◌≢◌, ℕ, List, [], ◌∷◌, ◌++◌, Some, sym, ◌∙◌, ap, subst, refl, inl, inr}
 use Rattle.armus_base.specs.declared.ids.TaskId.{TaskId}
 use Rattle.armus_base.specs.Plans.{Aim, Plan, Action, Refuses, action_at}
-use Rattle.armus_base.specs.Runs.{IsByCode, IsPlainRun, places}
+use Rattle.armus_base.specs.Runs.{IsByCode, IsPlainRun, places, IsOwnNextStep}
 use Rattle.armus_base.specs.States.{Step}
 use Rattle.armus_base.proofs.Codes.{no_refusal}
 use Rattle.armus_base.proofs.Members.{by_code_next, plain_undropped}
 use Rattle.armus_base.proofs.Again.{in_code_plain}
 use Rattle.armus_base.proofs.Lists.{same_ends}
-use Rattle.locked_world.specs.calls.Journals.{GoesOnWith, JournalLeadsTo, no_step, one_more}
+use Rattle.locked_world.specs.calls.Journals.{JournalLeadsTo, no_step, one_more}
 use Rattle.locked_world.specs.Journals.{journal_of}
 use Rattle.locked_world.specs.calls.Laws.{EachGoesOn, JournalFixesRun, JournalLeads, LeadsIsJournal}
 use Rattle.locked_world.proofs.Ahead.{ahead_of_last}
 
 -- the last step of a plain run is how its task goes on by its code
-pub last_goes_on : (plan : Plan) (h : List Step) (e : Step) → IsPlainRun plan (e ∷ h) → GoesOnWith plan h e.task e.action
+pub last_goes_on : (plan : Plan) (h : List Step) (e : Step) → IsPlainRun plan (e ∷ h) → IsOwnNextStep plan h e.task e.action
 last_goes_on plan h e run =
     record {
       by_code = by_code_next plan e.task (places h e.task).done (places h e.task).dropped e.action (plain_undropped plan h (run.0.0, run.1.0) e.task) run.0.1.by_code
@@ -23,7 +23,7 @@ last_goes_on plan h e run =
     }
 
 -- and a task that goes on makes a plain run longer
-pub plain_longer : (plan : Plan) (h : List Step) (t : ℕ) (x : Action) → IsPlainRun plan h → GoesOnWith plan h t x → IsPlainRun plan (record { task = t; action = x } ∷ h)
+pub plain_longer : (plan : Plan) (h : List Step) (t : ℕ) (x : Action) → IsPlainRun plan h → IsOwnNextStep plan h t x → IsPlainRun plan (record { task = t; action = x } ∷ h)
 plain_longer plan h t x run next = ((run.0, record { legal = next.legal; by_code = by_code }), (run.1, other))
   where
     other : (aim : Aim) → x ≢ Refuses aim
@@ -77,7 +77,7 @@ journal_fixes_run plan journal h g leads_h leads_g =
 
 goes_on_inside :
     (plan : Plan) (before : List TaskId) (t : TaskId) (rest : List TaskId) (h : List Step) → IsPlainRun plan h → journal_of h ≡ before ++ t ∷ rest →
-    (g : List Step) × JournalLeadsTo plan before g × (x : Action) × GoesOnWith plan g t.0 x
+    (g : List Step) × JournalLeadsTo plan before g × (x : Action) × IsOwnNextStep plan g t.0 x
 goes_on_inside plan before t rest [] run same = absurd (none before same)
   where
     none : (ts : List TaskId) → [] ≡ ts ++ t ∷ rest → ⊥
@@ -89,7 +89,7 @@ goes_on_inside plan before t rest (e ∷ h) run same =
         h,
         subst (λ j. JournalLeadsTo plan j h) here.0 (run_leads plan h (run.0.0, run.1.0)),
         e.action,
-        subst (λ u. GoesOnWith plan h u.0 e.action) here.1 (last_goes_on plan h e run),
+        subst (λ u. IsOwnNextStep plan h u.0 e.action) here.1 (last_goes_on plan h e run),
       )
       | inr there ↦ goes_on_inside plan before t there.0 h (run.0.0, run.1.0) there.1
     ]

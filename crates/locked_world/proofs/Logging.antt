@@ -6,14 +6,14 @@ use Rattle.armus_base.specs.declared.ids.TaskId.{TaskId}
 use Rattle.armus_base.specs.CheckedPlans.{IsCheckedPlan}
 use Rattle.armus_base.specs.Plans.{Plan, action_at}
 use Rattle.armus_base.specs.Places.{state_at}
-use Rattle.armus_base.specs.Runs.{first_place, moved, places, state_after}
+use Rattle.armus_base.specs.Runs.{first_place, moved, places, state_after, IsOwnNextStep}
 use Rattle.armus_base.specs.States.{IsLegal}
 use Rattle.armus_base.proofs.Stepping.{places_fix}
 use Rattle.pl_core.specs.declared.place.Place.{Place as KeptPlace}
 use Rattle.pl_core.specs.calls.Moves.{IsWorldStep}
 use Rattle.pl_core.specs.calls.Worlds.{IsOpeningWorld, WorldValue, place_from, places_at, state_of}
 use Rattle.pl_core.proofs.Opening.{copy_is}
-use Rattle.locked_world.specs.calls.Journals.{GoesOnWith, IsReplayOfJournal, LoggedValue, LogsStep}
+use Rattle.locked_world.specs.calls.Journals.{IsReplayOfJournal, LoggedValue, LogsStep}
 use Rattle.locked_world.specs.calls.Laws.{ReplayedState}
 use Rattle.locked_world.proofs.Journals.{journal_fixes_run, journal_leads, plain_longer}
 
@@ -48,7 +48,7 @@ replayed_state plan l h of journal =
 -- a world that makes a step of task t goes on with it after the run
 world_goes_on :
     (plan : Plan) (l : LoggedValue) (new : WorldValue) (t : ℕ) → (of : IsReplayOfJournal plan l) → (step : IsWorldStep l.world new t) →
-    GoesOnWith plan of.steps t step.action
+    IsOwnNextStep plan of.steps t step.action
 world_goes_on plan l new t of step =
     record {
       by_code = ap (λ p. action_at p t (places of.steps t).done) (sym of.plan_is) ∙ ap (λ a. action_at l.world.plan t (a t).done) (sym of.there) ∙ step.next;

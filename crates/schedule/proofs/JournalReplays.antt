@@ -5,10 +5,10 @@ use Rattle.std.proofs.lemmas.List.{map-append}
 use Rattle.armus_base.specs.declared.ids.TaskId.{TaskId}
 use Rattle.armus_base.specs.CheckedPlans.{IsCheckedPlan}
 use Rattle.armus_base.specs.Plans.{Action, Plan}
-use Rattle.armus_base.specs.Runs.{places, state_after}
+use Rattle.armus_base.specs.Runs.{places, state_after, IsOwnNextStep}
 use Rattle.armus_base.specs.States.{Step}
 use Rattle.armus_base.proofs.Tasks.{no_action}
-use Rattle.locked_world.specs.calls.Journals.{GoesOnWith, JournalLeadsTo, no_step, one_more as one_step}
+use Rattle.locked_world.specs.calls.Journals.{JournalLeadsTo, no_step, one_more as one_step}
 use Rattle.locked_world.specs.Journals.{journal_of}
 use Rattle.locked_world.proofs.Journals.{each_goes_on, journal_fixes_run, journal_leads}
 use Rattle.schedule.specs.declared.lines.Line.{Line}
@@ -16,7 +16,7 @@ use Rattle.schedule.specs.declared.lines.Line.TheVariants as line
 use Rattle.schedule.specs.declared.verdict.PassVerdict.{PassVerdict}
 use Rattle.schedule.specs.declared.verdict.ReplayEnd.TheVariants.{Schedule, NoMemory}
 use Rattle.schedule.specs.Passes.{Loads}
-use Rattle.schedule.specs.Replays.{IsFault, IsOwnNextStep, LinesLead, Progress, Takes, load_without_pass, no_line, one_more, second_pass, strange_task, stuck_task, unreadable}
+use Rattle.schedule.specs.Replays.{IsFault, LinesLead, Progress, Takes, load_without_pass, no_line, one_more, second_pass, strange_task, stuck_task, unreadable}
 use Rattle.schedule.specs.Replaying.{AreDeadIn, AreVerdicts, no_pass, one_pass}
 use Rattle.schedule.specs.calls.Records.{JournalReplays, step_of}
 
@@ -80,7 +80,7 @@ journal_of_leads plan _ _ (one_more lines a next b leads takes) journal same =
 -- a task that goes on is at no fault
 no_fault :
     (plan : Plan) (a : Progress) (l : Line) (kind : ℕ) → IsCheckedPlan plan → IsFault plan a l kind → (t : ℕ) (x : Action) → l ≡ line.Step t →
-    GoesOnWith plan a.run t x → ⊥
+    IsOwnNextStep plan a.run t x → ⊥
 no_fault plan a _ _ checked unreadable t x e goes = absurd (cc)
 no_fault plan a _ _ checked (strange_task u beyond) t x e goes =
     let same : u ≡ t = cc in
@@ -118,5 +118,5 @@ journal_replays plan journal h (Err (Schedule f)) checked of replays =
     let (g, led, x, goes) = each_goes_on plan ahead t behind h (subst (λ j. JournalLeadsTo plan j h) is (journal_leads plan journal h of)) in
     let (own, none, no_passes) = journal_of_leads plan replays.before replays.progress replays.leads ahead front in
     let same = journal_fixes_run plan ahead g replays.progress.run led own in
-    no_fault plan replays.progress replays.here f.kind checked replays.fault t.0 x here (subst (λ r. GoesOnWith plan r t.0 x) same goes)
+    no_fault plan replays.progress replays.here f.kind checked replays.fault t.0 x here (subst (λ r. IsOwnNextStep plan r t.0 x) same goes)
 journal_replays plan journal h (Err NoMemory) checked of replays = tt

@@ -8,7 +8,7 @@ use Rattle.armus_base.specs.CheckedPlans.{IsCheckedPlan}
 use Rattle.armus_base.specs.DeadLists.{IsDeadList}
 use Rattle.armus_base.specs.calls.Finals.{statuses_of}
 use Rattle.armus_base.specs.Plans.{Plan, Action, action_at}
-use Rattle.armus_base.specs.Runs.{first_place, IsPlainRun, moved, places, state_after}
+use Rattle.armus_base.specs.Runs.{first_place, IsPlainRun, moved, places, state_after, IsOwnNextStep}
 use Rattle.armus_base.specs.States.{State, Step, IsLegal}
 use Rattle.armus_base.specs.calls.Statuses.{IsInOrder}
 use Rattle.armus_base.specs.Deadlocks.{IsDeadIn}
@@ -30,7 +30,7 @@ use Rattle.std.proofs.Common.{get_or, take, drop, take-append-drop, ◌==◌}
 use Rattle.std.proofs.lemmas.List.{take_more, drop_more, length-take-le}
 use Rattle.schedule.specs.declared.replaying.LineEnd.{LineEnd}
 use Rattle.schedule.specs.declared.replaying.LineEnd.TheVariants.{Fault, NoMemory as LineWantsMemory}
-use Rattle.schedule.specs.Replays.{LinesLead, one_more, Progress, loaded, IsOwnNextStep, Takes}
+use Rattle.schedule.specs.Replays.{LinesLead, one_more, Progress, loaded, Takes}
 use Rattle.schedule.specs.Replaying.{AreDeadIn, AreVerdicts, one_pass}
 use Rattle.schedule.specs.calls.Replaying.{Replays}
 use Rattle.schedule.specs.inside.KeptReplays.{IsOpenPass, HasOpenPass, KeepsProgress, TakesLine, end_at_line}

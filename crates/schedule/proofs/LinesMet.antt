@@ -6,7 +6,7 @@ use Rattle.armus_base.specs.declared.event.Event.{Event}
 use Rattle.armus_base.specs.CheckedPlans.{IsCheckedPlan}
 use Rattle.armus_base.specs.Plans.{Plan, Action, Passes, action_at}
 use Rattle.armus_base.specs.Places.{refused_at}
-use Rattle.armus_base.specs.Runs.{IsPlainRun, places, state_after}
+use Rattle.armus_base.specs.Runs.{IsPlainRun, places, state_after, IsOwnNextStep}
 use Rattle.armus_base.specs.States.{IsLegal, IsReached, Step, event_at}
 use Rattle.armus_base.proofs.Members.{plain_undropped}
 use Rattle.armus_base.proofs.NextIsLegal.{next_is_legal}
@@ -16,7 +16,7 @@ use Rattle.armus_base.proofs.Tasks.{reached_or_not}
 use Rattle.schedule.specs.declared.lines.Line.{Line}
 use Rattle.schedule.specs.declared.lines.Line.TheVariants as line
 use Rattle.schedule.specs.Passes.{Loads, loads_of}
-use Rattle.schedule.specs.Replays.{IsFault, IsOwnNextStep, LinesLead, Progress, Takes, at_start, load_without_pass, loaded, no_line, one_more, second_pass, strange_task, stuck_task, unreadable}
+use Rattle.schedule.specs.Replays.{IsFault, LinesLead, Progress, Takes, at_start, load_without_pass, loaded, no_line, one_more, second_pass, strange_task, stuck_task, unreadable}
 use Rattle.schedule.specs.calls.Laws.{IsMet, LineIsMet, LinesAreMet}
 use Rattle.schedule.proofs.PassesNameTheDead.{plain_next}
 

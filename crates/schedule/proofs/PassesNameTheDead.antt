@@ -9,7 +9,7 @@ use Rattle.armus_base.specs.States.{Step}
 use Rattle.armus_base.specs.CheckedPlans.{IsCheckedPlan}
 use Rattle.armus_base.specs.Deadlocks.{IsDeadIn, IsDeadBy, IsDeadlockedSet, IsImpededWithin, IsListedOn, IsListedAt, IsPublishedOn, IsAtPhase}
 use Rattle.armus_base.specs.Finals.{is_event_of}
-use Rattle.armus_base.specs.Runs.{Place, IsLegalRun, places, state_after}
+use Rattle.armus_base.specs.Runs.{Place, IsLegalRun, places, state_after, IsOwnNextStep}
 use Rattle.armus_base.specs.calls.Runs.{ArePrefixes, IsPrefix}
 use Rattle.armus_base.specs.Places.{done_by, kept, published_after}
 use Rattle.armus_base.specs.calls.Places.{phases_at_place}
@@ -36,7 +36,7 @@ use Rattle.armus_base.proofs.Elements.{nothing_in_nil, Contains-cons_cases}
 use Rattle.armus_base.proofs.LawfulPlaces.{made_within}
 use Rattle.schedule.specs.declared.lines.Line.{Line}
 use Rattle.schedule.specs.declared.lines.Line.TheVariants as line
-use Rattle.schedule.specs.Replays.{Progress, at_start, IsOwnNextStep, Takes, LinesLead, no_line, one_more}
+use Rattle.schedule.specs.Replays.{Progress, at_start, Takes, LinesLead, no_line, one_more}
 use Rattle.schedule.specs.Laws.{NamesTheDead}
 use Rattle.schedule.specs.calls.Laws.{PassesNameTheDead}
 use Rattle.schedule.proofs.Counts.{count_below_less, cell_within}

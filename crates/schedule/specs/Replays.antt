@@ -1,8 +1,8 @@
 -- Replays: the lines of a schedule act on a plain run and on at most one open pass.
 use Rattle.std.specs.Prelude.{◌≡◌, ℕ, ◌+◌, ◌≤◌, ◌<◌, ◌==◌, List, [], ◌∷◌, ◌++◌, Option, Some, None, length, if◌then◌else◌, IsSome}
-use Rattle.armus_base.specs.Plans.{Plan, Action, action_at}
-use Rattle.armus_base.specs.States.{Step, IsLegal}
-use Rattle.armus_base.specs.Runs.{state_after, places}
+use Rattle.armus_base.specs.Plans.{Plan, Action}
+use Rattle.armus_base.specs.States.{Step}
+use Rattle.armus_base.specs.Runs.{IsOwnNextStep}
 use Rattle.schedule.specs.declared.lines.Line.{Line}
 use Rattle.schedule.specs.declared.lines.Line.TheVariants as line
 use Rattle.schedule.specs.Passes.{Loads, loads_of}
@@ -16,11 +16,6 @@ pub record Progress : Type 0 where
 -- no line yet
 abbrev pub at_start : Progress
 at_start = record { run = []; open_pass = None; passes = [] }
-
--- the step by which task t goes on by its code, if it has one
-pub record IsOwnNextStep (plan : Plan) (h : List Step) (t : ℕ) (x : Action) : Type 0 where
-  pub by_code : action_at plan t (places h t).done ≡ Some x
-  pub legal : IsLegal plan (state_after h) t x
 
 -- one more load of the open pass; its last load closes it
 abbrev pub loaded : Plan → Progress → Loads → Progress

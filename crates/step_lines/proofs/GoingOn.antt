@@ -6,7 +6,7 @@ use Rattle.armus_base.specs.declared.ending.Final.{Final}
 use Rattle.armus_base.specs.Finals.{final_of}
 use Rattle.armus_base.specs.Limits.{max_ops}
 use Rattle.armus_base.specs.Plans.{Action, Plan, action_at, code_of}
-use Rattle.armus_base.specs.Runs.{IsMaximal, IsPlainRun, Place, places, state_after}
+use Rattle.armus_base.specs.Runs.{IsMaximal, IsPlainRun, Place, places, state_after, IsOwnNextStep}
 use Rattle.armus_base.specs.States.{Step}
 use Rattle.armus_base.proofs.Again.{in_code_plain}
 use Rattle.armus_base.proofs.MaximalExists.{ends_or_goes}
@@ -18,7 +18,6 @@ use Rattle.pl_core.specs.Tasks.{IsAtOp}
 use Rattle.pl_core.specs.calls.Worlds.{IsOpeningWorld, WorldValue, action_by_code, state_of}
 use Rattle.pl_syntax.specs.declared.tree.Program.{Program}
 use Rattle.locked_world.specs.Journals.{journal_of}
-use Rattle.schedule.specs.Replays.{IsOwnNextStep}
 use Rattle.schedule.specs.inside.Following.{IsAt}
 use Rattle.schedule.proofs.Following.{state_is}
 use Rattle.schedule.proofs.JournalFits.{journal_fits_plan}

@@ -1,24 +1,19 @@
 -- Journals: the tasks of a run, in the order of their steps.
-use Rattle.std.specs.Prelude.{◌≡◌, ℕ, List, [], ◌∷◌, ◌++◌, Some}
+use Rattle.std.specs.Prelude.{◌≡◌, List, [], ◌∷◌, ◌++◌}
 use Rattle.armus_base.specs.declared.ids.TaskId.{TaskId}
 use Rattle.armus_base.specs.CheckedPlans.{IsCheckedPlan}
-use Rattle.armus_base.specs.Plans.{Plan, Action, action_at}
-use Rattle.armus_base.specs.Runs.{places, state_after}
-use Rattle.armus_base.specs.States.{Step, IsLegal}
+use Rattle.armus_base.specs.Plans.{Plan, Action}
+use Rattle.armus_base.specs.Runs.{places, IsOwnNextStep}
+use Rattle.armus_base.specs.States.{Step}
 use Rattle.pl_core.specs.calls.Moves.{IsWorldStep}
 use Rattle.pl_core.specs.calls.Worlds.{WorldValue, places_of}
 use Rattle.locked_world.specs.Journals.{IsJournalOf}
-
--- after the run h the code of task t goes on with this action, which is legal
-pub record GoesOnWith (plan : Plan) (h : List Step) (t : ℕ) (x : Action) : Type 0 where
-  pub by_code : action_at plan t (places h t).done ≡ Some x
-  pub legal : IsLegal plan (state_after h) t x
 
 -- these tasks, in order, make the run h: each of them goes on by its code when its turn comes
 pub data JournalLeadsTo (plan : Plan) : List TaskId → List Step → Type 0 where
   no_step : JournalLeadsTo plan [] []
   one_more :
-      (journal : List TaskId) (h : List Step) (t : TaskId) (x : Action) → JournalLeadsTo plan journal h → GoesOnWith plan h t.0 x →
+      (journal : List TaskId) (h : List Step) (t : TaskId) (x : Action) → JournalLeadsTo plan journal h → IsOwnNextStep plan h t.0 x →
       JournalLeadsTo plan (journal ++ t ∷ []) (record { task = t.0; action = x } ∷ h)
 
 -- what contracts see of a logged world

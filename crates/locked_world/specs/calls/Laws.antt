@@ -2,10 +2,10 @@
 use Rattle.std.specs.Prelude.{◌≡◌, List, ◌∷◌, ◌++◌}
 use Rattle.armus_base.specs.declared.ids.TaskId.{TaskId}
 use Rattle.armus_base.specs.Plans.{Plan, Action}
-use Rattle.armus_base.specs.Runs.{state_after}
+use Rattle.armus_base.specs.Runs.{state_after, IsOwnNextStep}
 use Rattle.armus_base.specs.States.{Step}
 use Rattle.pl_core.specs.calls.Worlds.{state_of}
-use Rattle.locked_world.specs.calls.Journals.{GoesOnWith, IsReplayOfJournal, JournalLeadsTo, LoggedValue}
+use Rattle.locked_world.specs.calls.Journals.{IsReplayOfJournal, JournalLeadsTo, LoggedValue}
 use Rattle.locked_world.specs.Journals.{IsJournalOf}
 
 -- the tasks of a journal lead to its run
@@ -20,7 +20,7 @@ LeadsIsJournal = (plan : Plan) (journal : List TaskId) (h : List Step) → Journ
 abbrev pub EachGoesOn : Type 0
 EachGoesOn =
     (plan : Plan) (before : List TaskId) (t : TaskId) (rest : List TaskId) (h : List Step) → JournalLeadsTo plan (before ++ t ∷ rest) h →
-    (g : List Step) × JournalLeadsTo plan before g × (x : Action) × GoesOnWith plan g t.0 x
+    (g : List Step) × JournalLeadsTo plan before g × (x : Action) × IsOwnNextStep plan g t.0 x
 
 -- a journal is that of one run
 abbrev pub JournalFixesRun : Type 0
