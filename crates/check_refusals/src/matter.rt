@@ -154,35 +154,25 @@ pub(crate) fn put_matter(
                 b" is not known here: no newTid or newPhaser names it before",
             )
         }
-        Matter::TaskWanted {
-            name,
-            verb,
-            phaser: _,
-            made: _,
-        } => put_about_name(out, name.as_slice(), task_wanted_words(*verb)),
-        Matter::PhaserWanted {
-            name,
-            verb,
-            task: _,
-            drawn: _,
-        } => put_about_name(out, name.as_slice(), phaser_wanted_words(*verb)),
-        Matter::HasLeft { phaser, left: _ } => {
+        Matter::TaskWanted { name, verb, .. } => put_about_name(
+            out,
+            name.as_slice(),
+            task_wanted_words(*verb),
+        ),
+        Matter::PhaserWanted { name, verb, .. } => put_about_name(
+            out,
+            name.as_slice(),
+            phaser_wanted_words(*verb),
+        ),
+        Matter::HasLeft { phaser, .. } => {
             put_task_and_phaser(alloc, out, current, b" is no member of ", phaser)
         }
         Matter::NeverMember { phaser } => {
             put_task_and_phaser(alloc, out, current, b" is no member of ", phaser)
         }
-        Matter::AlreadyMember {
-            task,
-            phaser,
-            registered: _,
-        } => put_member_already(alloc, out, task, phaser),
-        Matter::NotDrawnHere {
-            task,
-            by: _,
-            drawn: _,
-        } => put_not_drawn(alloc, out, current, task),
-        Matter::AlreadyForked { task, forked: _ } => put_forked_already(alloc, out, task),
+        Matter::AlreadyMember { task, phaser, .. } => put_member_already(alloc, out, task, phaser),
+        Matter::NotDrawnHere { task, .. } => put_not_drawn(alloc, out, current, task),
+        Matter::AlreadyForked { task, .. } => put_forked_already(alloc, out, task),
         Matter::TooManyTasks => { put_words(out, b"4096 tasks are there already: no more may be") }
         Matter::TooManyPhasers => {
             put_words(out, b"1024 phasers are there already: no more may be")

@@ -72,70 +72,39 @@ pub(crate) fn put_note(
 {
     let places = &statements.places;
     match matter {
-        Matter::TaskWanted {
-            name: _,
-            verb: _,
-            phaser,
-            made,
-        } => put_made(alloc, out, places, phaser, statements.place(*made)),
-        Matter::PhaserWanted {
-            name: _,
-            verb: _,
-            task,
-            drawn,
-        } => {
-            put_task_at(
-                alloc,
-                out,
-                places,
-                task,
-                b" drawn at ",
-                statements.place(*drawn),
-            )
+        Matter::TaskWanted { phaser, made, .. } => {
+            let at = statements.place(*made);
+            put_made(alloc, out, places, phaser, at)
         }
-        Matter::HasLeft { phaser: _, left } => {
-            put_line_at(alloc, out, places, b"it left at ", statements.place(*left))
+        Matter::PhaserWanted { task, drawn, .. } => {
+            let at = statements.place(*drawn);
+            put_task_at(alloc, out, places, task, b" drawn at ", at)
         }
-        Matter::NeverMember { phaser: _ } => {
+        Matter::HasLeft { left, .. } => {
+            let at = statements.place(*left);
+            put_line_at(alloc, out, places, b"it left at ", at)
+        }
+        Matter::NeverMember { .. } => {
+            let at = statements.place(forked_by);
             put_line_at(
                 alloc,
                 out,
                 places,
                 b"it was not registered before its fork at ",
-                statements.place(forked_by),
+                at,
             )
         }
-        Matter::AlreadyMember {
-            task: _,
-            phaser: _,
-            registered,
-        } => {
-            put_line_at(
-                alloc,
-                out,
-                places,
-                b"it was registered at ",
-                statements.place(*registered),
-            )
+        Matter::AlreadyMember { registered, .. } => {
+            let at = statements.place(*registered);
+            put_line_at(alloc, out, places, b"it was registered at ", at)
         }
-        Matter::NotDrawnHere { task: _, by, drawn } => {
-            put_task_at(
-                alloc,
-                out,
-                places,
-                by,
-                b" drew it at ",
-                statements.place(*drawn),
-            )
+        Matter::NotDrawnHere { by, drawn, .. } => {
+            let at = statements.place(*drawn);
+            put_task_at(alloc, out, places, by, b" drew it at ", at)
         }
-        Matter::AlreadyForked { task: _, forked } => {
-            put_line_at(
-                alloc,
-                out,
-                places,
-                b"it was forked at ",
-                statements.place(*forked),
-            )
+        Matter::AlreadyForked { forked, .. } => {
+            let at = statements.place(*forked);
+            put_line_at(alloc, out, places, b"it was forked at ", at)
         }
         _ => Ok(()),
     }

@@ -8,7 +8,7 @@ returns-in-HasLeft c =
     let st = c.args.statements.now in
     let out = c.args.out.now.items in
     on_ok_weaker c.put_line_at.result
-    (λ e. e ∙ (ap (λ p. out ++ note_line st.places (codes "it left at ") p) c.place-in-HasLeft.ensures
+    (λ e. e ∙ (ap (λ p. out ++ note_line st.places (codes "it left at ") p) c.place-at-in-HasLeft.ensures
     ∙ ap (λ m. out ++ matter_note st.places st.offsets st.end c.args.forked_by m) (sym c.in-HasLeft.is)))
     c.put_line_at.ensures
 
@@ -17,7 +17,7 @@ returns-in-NeverMember c =
     let st = c.args.statements.now in
     let out = c.args.out.now.items in
     on_ok_weaker c.put_line_at-in-NeverMember.result
-    (λ e. e ∙ (ap (λ p. out ++ note_line st.places (codes "it was not registered before its fork at ") p) c.place-in-NeverMember.ensures
+    (λ e. e ∙ (ap (λ p. out ++ note_line st.places (codes "it was not registered before its fork at ") p) c.place-at-in-NeverMember.ensures
     ∙ ap (λ m. out ++ matter_note st.places st.offsets st.end c.args.forked_by m) (sym c.in-NeverMember.is)))
     c.put_line_at-in-NeverMember.ensures
 
@@ -26,7 +26,7 @@ returns-in-AlreadyMember c =
     let st = c.args.statements.now in
     let out = c.args.out.now.items in
     on_ok_weaker c.put_line_at-in-AlreadyMember.result
-    (λ e. e ∙ (ap (λ p. out ++ note_line st.places (codes "it was registered at ") p) c.place-in-AlreadyMember.ensures
+    (λ e. e ∙ (ap (λ p. out ++ note_line st.places (codes "it was registered at ") p) c.place-at-in-AlreadyMember.ensures
     ∙ ap (λ m. out ++ matter_note st.places st.offsets st.end c.args.forked_by m) (sym c.in-AlreadyMember.is)))
     c.put_line_at-in-AlreadyMember.ensures
 
@@ -35,6 +35,6 @@ returns-in-AlreadyForked c =
     let st = c.args.statements.now in
     let out = c.args.out.now.items in
     on_ok_weaker c.put_line_at-in-AlreadyForked.result
-    (λ e. e ∙ (ap (λ p. out ++ note_line st.places (codes "it was forked at ") p) c.place-in-AlreadyForked.ensures
+    (λ e. e ∙ (ap (λ p. out ++ note_line st.places (codes "it was forked at ") p) c.place-at-in-AlreadyForked.ensures
     ∙ ap (λ m. out ++ matter_note st.places st.offsets st.end c.args.forked_by m) (sym c.in-AlreadyForked.is)))
     c.put_line_at-in-AlreadyForked.ensures
