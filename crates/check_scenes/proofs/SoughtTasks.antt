@@ -8,12 +8,10 @@ use Rattle.pl_syntax.specs.Tree.{done}
 use Rattle.pl_plan.specs.Unfolding.{Start, UnfoldingState, Visit, visits_of, with_names}
 use Rattle.pl_plan.specs.Stages.{IsNextStage, Stage, begins, comes, ends_of, stages_below, stages_of, with_start_names}
 use Rattle.pl_plan.specs.inside.Checker.{Checker, CheckerStart, Keeps, range_of, with_start_things}
-use Rattle.pl_plan.specs.inside.CheckerSteps.{thing_of}
 use Rattle.pl_plan.specs.inside.Shows.{MaybeStartShows, ShowsState}
 use Rattle.pl_plan.specs.inside.Steps.{IsSpelled}
 use Rattle.pl_plan.specs.declared.step.Step.{Step}
-use Rattle.pl_plan.proofs.Beginning.{kept_begun, ready, range_is}
-use Rattle.pl_plan.proofs.Keeping.{padded_same}
+use Rattle.pl_plan.proofs.Beginning.{kept_begun, ready, range_is, spelled_there, shows_begun}
 use Rattle.pl_plan.proofs.Unfolds as unfolds
 use Rattle.check_scenes.specs.Turns.{turn_in}
 use Rattle.check_scenes.specs.declared.notes.LastTurn.{LastTurn}
@@ -58,17 +56,8 @@ found_by names k s t first after None (Some b) is is' m e h = absurd m
 found_by names k s t first after (Some a) None is is' m e h = absurd m
 found_by names k s t first after (Some a) (Some b) is is' m e h =
     let p = range_is first after b e in
-    let sp = subst (λ i. IsSpelled (length k.bindings.slots) names k.steps i a.body after) (sym p.0)
-    (subst (λ i. IsSpelled (length k.bindings.slots) names k.steps b.first a.body i) (sym p.1) m.spelled) in
-    let begun : ShowsState names (with_start_things (Some b) k) (with_names a.names s) = record {
-      distinct = h.distinct;
-      plan = h.plan;
-      starts_many = h.starts_many;
-      starts = h.starts;
-      members = h.members;
-      named = λ x lt. m.named x lt ∙ ap thing_of (sym (padded_same b.things (slice_index_or k.bindings.slots x 0)));
-      visits = h.visits;
-    } in
+    let sp = spelled_there names k a b m first after p in
+    let begun = shows_begun names k a b m s h in
     record {
       start = a;
       start_is = is;

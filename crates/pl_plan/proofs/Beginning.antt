@@ -178,6 +178,25 @@ module _ (old : Checker) (t n p : ℕ) (k : Checker) (inv : Leaving old t n p k)
       (ap (λ q. checker_leave_below t n q old) (let z : max_phasers ≡ suc p + (max_phasers - suc p) = omega arith in z)
       ∙ later_err f (max_phasers - suc p) gives)
 
+module _ (names : ℕ → List ℕ) (k : Checker) (a : Start) (b : CheckerStart) (m : MaybeStartShows names k.bindings.slots k.steps (Some a) (Some b)) where
+  -- the body of a start is spelled where it stands
+  pub spelled_there : (first after : ℕ) → (first ≡ b.first) × (after ≡ b.after) → IsSpelled (length k.bindings.slots) names k.steps first a.body after
+  spelled_there first after p =
+      subst (λ i. IsSpelled (length k.bindings.slots) names k.steps i a.body after) (sym p.0)
+      (subst (λ i. IsSpelled (length k.bindings.slots) names k.steps b.first a.body i) (sym p.1) m.spelled)
+
+  -- and its names are those with which its task begins
+  pub shows_begun : (s : UnfoldingState) → ShowsState names k s → ShowsState names (with_start_things (Some b) k) (with_names a.names s)
+  shows_begun s h = record {
+    distinct = h.distinct;
+    plan = h.plan;
+    starts_many = h.starts_many;
+    starts = h.starts;
+    members = h.members;
+    named = λ x lt. m.named x lt ∙ ap thing_of (sym (padded_same b.things (slice_index_or k.bindings.slots x 0)));
+    visits = h.visits;
+  }
+
 module _ (two : Bool) where
   -- no start
   idle_by : (names : ℕ → List ℕ) (k : Checker) (s : UnfoldingState) (t : ℕ) (o : Option Start) (o' : Option CheckerStart) →
@@ -208,17 +227,8 @@ module _ (two : Bool) where
   busy_by names k new s t first after r (Some a) None m e h w = absurd m
   busy_by names k new s t first after r (Some a) (Some b) m e h w =
       let p = range_is first after b e in
-      let sp = subst (λ i. IsSpelled (length k.bindings.slots) names k.steps i a.body after) (sym p.0)
-      (subst (λ i. IsSpelled (length k.bindings.slots) names k.steps b.first a.body i) (sym p.1) m.spelled) in
-      let h' : ShowsState names (with_start_things (Some b) k) (with_names a.names s) = record {
-        distinct = h.distinct;
-        plan = h.plan;
-        starts_many = h.starts_many;
-        starts = h.starts;
-        members = h.members;
-        named = λ x lt. m.named x lt ∙ ap thing_of (sym (padded_same b.things (slice_index_or k.bindings.slots x 0)));
-        visits = h.visits;
-      } in
+      let sp = spelled_there names k a b m first after p in
+      let h' = shows_begun names k a b m s h in
       let n : first + 1 ≡ a.first = ap (λ i. i + 1) p.0 ∙ sym m.first in
       let before : first ≡ a.first - 1 = omega arith in
       subst (λ i. WhereUnfolded r (ended two t i (make_visits t (visits_of a.first a.body) (with_names a.names s))) (ShowsState names new)) before
