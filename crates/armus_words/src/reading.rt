@@ -11,8 +11,8 @@ use crate::command::{Command, Graph, RunKind};
 use crate::forms::first_word_in;
 use crate::numbers::{graph_in, number_in};
 use crate::table::{DEFAULT_WORKERS, FirstWord, MAX_GENERATED};
-use armus_base::{MAX_SITES, MAX_WORKERS};
 use crate::values::{Values, values_in};
+use armus_base::{MAX_SITES, MAX_WORKERS};
 use clap::error::ErrorKind;
 use std::alloc::{AllocError, Global};
 

@@ -40,7 +40,7 @@ module _ (ops : List Op) (origins : List (Option ℕ)) (waits : List ℕ) (rest 
       let (n, wait, origin) = rest k other is awaits in
       let count : count_by is_await (o ∷ take k ops) ≡ count_by is_await (take k ops) =
       sum_by-cons (λ x. cond (is_await x) 1 0) o (take k ops)
-          ∙ ap (λ b. cond b 1 0 + count_by is_await (take k ops)) no ∙ (let z : 0 + count_by is_await (take k ops) ≡ count_by is_await (take k ops) = omega arith in z) in
+      ∙ ap (λ b. cond b 1 0 + count_by is_await (take k ops)) no ∙ (let z : 0 + count_by is_await (take k ops) ≡ count_by is_await (take k ops) = omega arith in z) in
       (n, ap (slice_get waits) count ∙ wait, origin)
 
   -- an op that waits, with its wait
@@ -50,7 +50,7 @@ module _ (ops : List Op) (origins : List (Option ℕ)) (waits : List ℕ) (rest 
       let (m, wait, origin) = rest k other is awaits in
       let count : count_by is_await (op.Await p off ∷ take k ops) ≡ suc (count_by is_await (take k ops)) =
       sum_by-cons (λ x. cond (is_await x) 1 0) (op.Await p off) (take k ops)
-          ∙ (let z : 1 + count_by is_await (take k ops) ≡ suc (count_by is_await (take k ops)) = omega arith in z) in
+      ∙ (let z : 1 + count_by is_await (take k ops) ≡ suc (count_by is_await (take k ops)) = omega arith in z) in
       (m, ap (slice_get (n ∷ waits)) count ∙ wait, origin)
 
 -- ---- one move
@@ -154,8 +154,8 @@ awaits_come_from_waits p u t origins waits is origins_are waits_are =
     let same_origins : op_origins_of b moves ≡ origins = cc in
     let same_waits : waits_in (comings_by b) ≡ waits = cc in
     subst (λ ws. ComeFromWaits (code_of (plan_of_moves u) t) origins ws) (moving_waits (comings_by b) ∙ same_waits)
-        (subst (λ os. ComeFromWaits (code_of (plan_of_moves u) t) os (waits_in (moving_comings (comings_by b)))) same_origins
-        (subst (λ ops. ComeFromWaits ops (op_origins_of b moves) (waits_in (moving_comings (comings_by b)))) (sym code) own))
+    (subst (λ os. ComeFromWaits (code_of (plan_of_moves u) t) os (waits_in (moving_comings (comings_by b)))) same_origins
+    (subst (λ ops. ComeFromWaits ops (op_origins_of b moves) (waits_in (moving_comings (comings_by b)))) (sym code) own))
   where
     waits_at : (bs : List Begun) (k : ℕ) (b : Begun) → slice_get bs k ≡ Some b → slice_get (map (λ c. waits_in (comings_by c)) bs) k ≡ Some (waits_in (comings_by b))
     waits_at [] k b begun = absurd cc

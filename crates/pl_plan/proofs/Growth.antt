@@ -59,9 +59,9 @@ module _ (plan plan' : Plan) (t : ℕ) (checked : IsCheckedPlan plan) (grows : G
   registered_before c zero l = refl
   registered_before c (suc k) l =
       ap (λ o. register_step o c (own_phases (action_at plan' t) (first_phases plan' t) k) (registered (action_at plan' t) (first_phases plan' t) c k))
-          (own_at plan plan' t checked grows tables k (omega arith))
+      (own_at plan plan' t checked grows tables k (omega arith))
       ∙ ap (λ m. register_step (action_at plan t k) c m (registered (action_at plan' t) (first_phases plan' t) c k))
-          (fixed_own plan plan' t checked grows tables k (omega arith))
+      (fixed_own plan plan' t checked grows tables k (omega arith))
       ∙ ap (register_step (action_at plan t k) c (own_phases (action_at plan t) (first_phases plan t) k)) (registered_before c k (omega arith))
 
   -- the current task's phases go on from those that it had
@@ -80,7 +80,7 @@ module _ (plan plan' : Plan) (t : ℕ) (checked : IsCheckedPlan plan) (grows : G
       ap (registered_by plan' t c) (ap length grows.own.1 ∙ length-append (actions plan t) grows.own.0)
       ∙ registered_more (action_at plan' t) (first_phases plan' t) c (length (actions plan t)) grows.own.0 new_at
       ∙ ap (λ m. register_steps grows.own.0 c m (registered_by plan' t c (length (actions plan t))))
-          (fixed_own plan plan' t checked grows tables (length (actions plan t)) (omega arith))
+      (fixed_own plan plan' t checked grows tables (length (actions plan t)) (omega arith))
       ∙ ap (register_steps grows.own.0 c (last_phases plan t)) (registered_before c (length (actions plan t)) (omega arith))
 
   -- a child of the current task begins with what it is registered with now
@@ -101,7 +101,7 @@ module _ (plan plan' : Plan) (t : ℕ) (checked : IsCheckedPlan plan) (grows : G
       first_phases_unfolds plan' tables.parents_first u pos
       ∙ ap (λ w. registered_by plan' w u (length (actions plan' w))) (parents_same plan plan' t checked grows tables u l)
       ∙ registered_same plan plan' t checked grows tables u v (λ e. absurd (omega arith))
-          (first_phases_same plan plan' t checked grows tables v v (omega arith) (omega arith))
+      (first_phases_same plan plan' t checked grows tables v v (omega arith) (omega arith))
       ∙ sym (first_phases_is plan checked u pos)
 
   -- a new task begins with nothing that there was
@@ -121,7 +121,7 @@ nobody_registers plan checked t c zero l p = refl
 nobody_registers plan checked t c (suc k) l p =
     ap (λ m. m p)
     (register_step_keeps (action_at plan t k) c (own_phases (action_at plan t) (first_phases plan t) k)
-        (registered (action_at plan t) (first_phases plan t) c k)
+    (registered (action_at plan t) (first_phases plan t) c k)
     (λ q e. absurd (let w = child_within plan t c (checked.codes.well_formed t k (Registers c q) e).0 in omega arith)))
     ∙ nobody_registers plan checked t c k l p
 

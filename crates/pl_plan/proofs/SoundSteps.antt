@@ -218,7 +218,7 @@ module _ (t : ℕ) (s : UnfoldingState) (a : IsActing t s) where
           h.0,
           ap (λ m. m p)
               (fixed_own s.plan (with_op t o s.plan) t a.sound.checked grows_op (op_tables s.plan t o a.sound.checked.tables) (length (actions s.plan t) + 0)
-                  (omega arith)
+              (omega arith)
               ∙ ap (phases_after s.plan t) (let z : length (actions s.plan t) + 0 ≡ length (actions s.plan t) = omega arith in z))
               ∙ h.1,
         )
