@@ -11,6 +11,7 @@ use Rattle.armus_base.specs.Places.{state_at}
 use Rattle.armus_base.specs.Plans.{Plan}
 use Rattle.armus_base.specs.Runs.{Place}
 use Rattle.pl_plan.specs.Unfolding.{Coming, a_fork, a_loop, a_plain, a_turn, plan_of}
+use Rattle.pl_plan.specs.Tests.{of_new_task}
 use Rattle.pl_syntax.specs.BodyEnds.{AllEndAt, end_tokens}
 use Rattle.pl_syntax.specs.Grammar.{tokens}
 use Rattle.pl_syntax.specs.StatementOffsets.{AllBeginAt, statement_tokens}
@@ -19,7 +20,7 @@ use Rattle.pl_syntax.specs.Tree.{Tree, adv, await, count, dereg, done, fork, loo
 use Rattle.pl_syntax.specs.declared.token.Sign.TheVariants.{CloseBrace}
 use Rattle.pl_syntax.specs.declared.tree.Program.{Program}
 use Rattle.origins.specs.calls.OriginLaws.{statement_of}
-use Rattle.origins.specs.Origins.{comes_to_task, statement_in, written_statements}
+use Rattle.origins.specs.Origins.{statement_in, written_statements}
 use Rattle.origins.proofs.MadeByVisits.{tasks_have_origins}
 use Rattle.origins.proofs.WrittenStatements.{visits_are_of_text}
 use Rattle.accounts.specs.Accounts.{HasWait, Layout, drawn_of, drawn_name, statement_place, words_of}
@@ -105,7 +106,7 @@ waiters_have_awaits text p plan a account unfolds known t d lt e ended =
 -- ---- who is drawn
 
 -- what draws a task is a newTid
-drawing : (c : Coming) → comes_to_task c ≡ true → (x : List ℕ) × (c ≡ a_plain (new_task x))
+drawing : (c : Coming) → of_new_task c ≡ true → (x : List ℕ) × (c ≡ a_plain (new_task x))
 drawing (a_plain (new_task x)) e = (x, refl)
 drawing (a_plain (new_phaser x)) e = absurd cc
 drawing (a_plain (reg x y)) e = absurd cc

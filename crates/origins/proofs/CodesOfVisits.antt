@@ -21,7 +21,8 @@ use Rattle.pl_plan.specs.Forks.{starts_of}
 use Rattle.pl_plan.proofs.ForksKept.{starts_found}
 use Rattle.pl_plan.proofs.TasksLeave.{IsOfParts, Kept, Steps, inside, leaves_below, of_body, opening_kept, start_at, steps_more, steps_same, visits_steps}
 use Rattle.pl_plan.proofs.VisitsLeave.{Adds, adds_from, adds_more, adds_nothing, adds_op, bind_ok, code, counted, first_visit, no_visit, ok_is}
-use Rattle.origins.specs.Origins.{comes_to_op, start_of, statements_where, visits_by, comes_to_phaser, comes_to_task}
+use Rattle.pl_plan.specs.Tests.{of_new_phaser, of_new_task}
+use Rattle.origins.specs.Origins.{comes_to_op, start_of, statements_where, visits_by}
 use Rattle.origins.specs.calls.OriginLaws.{CodesAreOfVisits, ComesFrom, IsCodeByStart, IsCodeOfVisits, MakeOps, MakesOp, OpsHaveOrigins, OriginsHaveOps, op_visits, MakersAreOfVisits, ParentsAreOfVisits, tasks_from, tasks_of_all}
 use Rattle.origins.specs.calls.OriginLaws as law
 use Rattle.origins.proofs.Growing.{Grows, below_all, below_same, drawers_in, ended_grows, makers_in, tasks_below}
@@ -182,8 +183,8 @@ record UntilTask (two : Bool) (t : ℕ) (s : UnfoldingState) : Type 0 where
   kept : Kept Holds holds_of_parts s
   before : (u : ℕ) → u < t → IsCodeByStart two (start_at s u) (code s u)
   later : (u : ℕ) → t ≤ u → code s u ≡ []
-  makers : s.plan.makers ≡ map task (tasks_below comes_to_phaser s.starts t)
-  parents : s.plan.parents ≡ None ∷ map (λ u. Some (task u)) (tasks_below comes_to_task s.starts t)
+  makers : s.plan.makers ≡ map task (tasks_below of_new_phaser s.starts t)
+  parents : s.plan.parents ≡ None ∷ map (λ u. Some (task u)) (tasks_below of_new_task s.starts t)
 
 -- those of one task more
 below_next : (test : Coming → Bool) (t : ℕ) (s r : UnfoldingState) → ((u : ℕ) → u ≤ t → start_at r u ≡ start_at s u) →
@@ -206,11 +207,11 @@ until_next two t s r h a g own = record {
   ];
   later = λ u l. a.others u (λ same. absurd (omega (arith, same, l))) ∙ h.later u (omega (arith, l));
   makers = g.makers ∙ ap (λ xs. xs ++ map task (makers_in t (visits_by (start_at r t)))) h.makers
-      ∙ sym (map-append task (tasks_below comes_to_phaser s.starts t) (makers_in t (visits_by (start_at r t))))
-      ∙ ap (map task) (below_next comes_to_phaser t s r a.starts);
+      ∙ sym (map-append task (tasks_below of_new_phaser s.starts t) (makers_in t (visits_by (start_at r t))))
+      ∙ ap (map task) (below_next of_new_phaser t s r a.starts);
   parents = g.parents ∙ ap (λ xs. xs ++ map (λ u. Some (task u)) (drawers_in t (visits_by (start_at r t)))) h.parents
-      ∙ ap (λ xs. None ∷ xs) (sym (map-append (λ u. Some (task u)) (tasks_below comes_to_task s.starts t) (drawers_in t (visits_by (start_at r t))))
-      ∙ ap (map (λ u. Some (task u))) (below_next comes_to_task t s r a.starts));
+      ∙ ap (λ xs. None ∷ xs) (sym (map-append (λ u. Some (task u)) (tasks_below of_new_task s.starts t) (drawers_in t (visits_by (start_at r t))))
+      ∙ ap (map (λ u. Some (task u))) (below_next of_new_task t s r a.starts));
 }
 
 none_below : (test : Coming → Bool) (t : ℕ) (s : UnfoldingState) → start_at s t ≡ None → tasks_below test s.starts t ≡ tasks_below test s.starts (t + 1)
@@ -230,8 +231,8 @@ none_next two t s h none = record {
         (subst (λ o. IsCodeByStart two o (code s t)) (sym none) (h.later t (omega arith)))
   ];
   later = λ u l. h.later u (omega (arith, l));
-  makers = h.makers ∙ ap (map task) (none_below comes_to_phaser t s none);
-  parents = h.parents ∙ ap (λ xs. None ∷ map (λ u. Some (task u)) xs) (none_below comes_to_task t s none);
+  makers = h.makers ∙ ap (map task) (none_below of_new_phaser t s none);
+  parents = h.parents ∙ ap (λ xs. None ∷ map (λ u. Some (task u)) xs) (none_below of_new_task t s none);
 }
 
 some_next : (two : Bool) (t : ℕ) (start : Start) (s r : UnfoldingState) → UntilTask two t s → start_at s t ≡ Some start → unfold_task two t (Some start) s ≡ Ok r →
@@ -300,7 +301,7 @@ makers_are_of_visits program plan e =
     let b = bind_ok (unfold_tasks program.two max_tasks 0 (opening_state program.body)) (λ s. Ok (with_pieces s)) plan e in
     let until = tasks_until program.two max_tasks 0 (opening_state program.body) b.0 (opening_until program.two program.body) b.1 in
     ap (λ (p : Plan). p.makers) (sym (ok_is (with_pieces b.0) plan b.2)) ∙ until.makers
-    ∙ ap (map task) (all_below program.two program comes_to_phaser b.0 until (starts_found program b.0 b.1))
+    ∙ ap (map task) (all_below program.two program of_new_phaser b.0 until (starts_found program b.0 b.1))
 
 pub parents_are_of_visits : ParentsAreOfVisits
 unfolding plan_of
@@ -308,7 +309,7 @@ parents_are_of_visits program plan e =
     let b = bind_ok (unfold_tasks program.two max_tasks 0 (opening_state program.body)) (λ s. Ok (with_pieces s)) plan e in
     let until = tasks_until program.two max_tasks 0 (opening_state program.body) b.0 (opening_until program.two program.body) b.1 in
     ap (λ (p : Plan). p.parents) (sym (ok_is (with_pieces b.0) plan b.2)) ∙ until.parents
-    ∙ ap (λ xs. None ∷ map (λ u. Some (task u)) xs) (all_below program.two program comes_to_task b.0 until (starts_found program b.0 b.1))
+    ∙ ap (λ xs. None ∷ map (λ u. Some (task u)) xs) (all_below program.two program of_new_task b.0 until (starts_found program b.0 b.1))
 
 -- ---- each op has its origin
 

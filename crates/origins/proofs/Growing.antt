@@ -13,7 +13,8 @@ use Rattle.pl_plan.specs.Unfolding.{has_cells, leave, leave_below, make_visit, m
 use Rattle.pl_plan.specs.Unfolding.{too_many_cells, too_many_ops, too_many_phasers, too_many_tasks, unforked_child}
 use Rattle.pl_plan.specs.Unfolding.{visit, with_member, with_members, with_new_phaser, with_new_task, with_op, with_start}
 use Rattle.pl_plan.proofs.VisitsLeave.{bind_ok, counted, first_visit, no_visit, ok_is}
-use Rattle.origins.specs.Origins.{comes_to_phaser, comes_to_task, statements_where, visits_by}
+use Rattle.pl_plan.specs.Tests.{of_new_phaser, of_new_task}
+use Rattle.origins.specs.Origins.{statements_where, visits_by}
 use Rattle.origins.specs.calls.OriginLaws.{tasks_from}
 use Rattle.origins.proofs.Statements.{where_append}
 
@@ -38,10 +39,10 @@ grows_more ms ds ns es s u r a b = record {
 
 -- the visits of task t
 abbrev pub makers_in : ℕ → List Visit → List ℕ
-makers_in t ms = map (λ (n : ℕ). t) (statements_where comes_to_phaser ms)
+makers_in t ms = map (λ (n : ℕ). t) (statements_where of_new_phaser ms)
 
 abbrev pub drawers_in : ℕ → List Visit → List ℕ
-drawers_in t ms = map (λ (n : ℕ). t) (statements_where comes_to_task ms)
+drawers_in t ms = map (λ (n : ℕ). t) (statements_where of_new_task ms)
 
 grows_op : (t n : ℕ) (o : Op) (ms ds : List ℕ) (s v r : UnfoldingState) → Grows ms ds s v → add_op t n o v ≡ Ok r → Grows ms ds s r
 unfolding add_op
@@ -116,8 +117,8 @@ visits_grow t (m ∷ ms) s r e =
     let b = first_visit t m ms s r e in
     let both = grows_more (makers_in t (m ∷ [])) (drawers_in t (m ∷ [])) (makers_in t ms) (drawers_in t ms) s b.0 r (visit_grows t m s b.0 b.1)
     (visits_grow t ms b.0 r b.2) in
-    subst (λ xs. Grows xs (drawers_in t (m ∷ ms)) s r) (sym (in_more t comes_to_phaser (m ∷ []) ms))
-    (subst (λ xs. Grows (makers_in t (m ∷ []) ++ makers_in t ms) xs s r) (sym (in_more t comes_to_task (m ∷ []) ms)) both)
+    subst (λ xs. Grows xs (drawers_in t (m ∷ ms)) s r) (sym (in_more t of_new_phaser (m ∷ []) ms))
+    (subst (λ xs. Grows (makers_in t (m ∷ []) ++ makers_in t ms) xs s r) (sym (in_more t of_new_task (m ∷ []) ms)) both)
 
 -- ---- its end
 

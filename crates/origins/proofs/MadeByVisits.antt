@@ -8,7 +8,8 @@ use Rattle.armus_base.specs.declared.ids.TaskId.{TaskId}
 use Rattle.pl_syntax.specs.declared.tree.Program.{Program}
 use Rattle.pl_plan.specs.Forks.{starts_of}
 use Rattle.pl_plan.specs.Unfolding.{Coming, Start, Visit, task}
-use Rattle.origins.specs.Origins.{comes_to_phaser, comes_to_task, phaser_origin, statements_where, visits_by}
+use Rattle.pl_plan.specs.Tests.{of_new_phaser, of_new_task}
+use Rattle.origins.specs.Origins.{phaser_origin, statements_where, visits_by}
 use Rattle.origins.specs.calls.OriginLaws.{IsOfVisit, PhasersHaveOrigins, TasksHaveOrigins, tasks_from, tasks_of_all}
 use Rattle.origins.proofs.CodesOfVisits.{get_cases, get_first, makers_are_of_visits, parents_are_of_visits}
 
@@ -111,18 +112,18 @@ module _ (test : Coming → Bool) where
 pub phasers_have_origins : PhasersHaveOrigins
 phasers_have_origins program plan e p lt =
     let all = makers_are_of_visits program plan e in
-    let w = get_some (tasks_of_all comes_to_phaser program) p
-    (omega (arith, lt, ap length all, length-map (tasks_of_all comes_to_phaser program) task)) in
+    let w = get_some (tasks_of_all of_new_phaser program) p
+    (omega (arith, lt, ap length all, length-map (tasks_of_all of_new_phaser program) task)) in
     let is : (slice_index_or plan.makers p (task 0)).0 ≡ w.0 =
-    ap (λ (t : TaskId). t.0) (ap (λ ms. slice_index_or ms p (task 0)) all ∙ get_mapped task (tasks_of_all comes_to_phaser program) p w.0 (task 0) w.1) in
-    subst (λ u. IsOfVisit program comes_to_phaser u (phaser_origin program p)) (sym is) (of_visit comes_to_phaser program p w.0 w.1)
+    ap (λ (t : TaskId). t.0) (ap (λ ms. slice_index_or ms p (task 0)) all ∙ get_mapped task (tasks_of_all of_new_phaser program) p w.0 (task 0) w.1) in
+    subst (λ u. IsOfVisit program of_new_phaser u (phaser_origin program p)) (sym is) (of_visit of_new_phaser program p w.0 w.1)
 
 pub tasks_have_origins : TasksHaveOrigins
 tasks_have_origins program plan e c lt =
     let all = parents_are_of_visits program plan e in
-    let w = get_some (tasks_of_all comes_to_task program) c
-    (omega (arith, lt, ap length all, length-map (tasks_of_all comes_to_task program) (λ t. Some (task t)))) in (
+    let w = get_some (tasks_of_all of_new_task program) c
+    (omega (arith, lt, ap length all, length-map (tasks_of_all of_new_task program) (λ t. Some (task t)))) in (
       w.0,
-      ap (λ ps. slice_index_or ps (suc c) None) all ∙ get_mapped (λ t. Some (task t)) (tasks_of_all comes_to_task program) c w.0 None w.1,
-      of_visit comes_to_task program c w.0 w.1,
+      ap (λ ps. slice_index_or ps (suc c) None) all ∙ get_mapped (λ t. Some (task t)) (tasks_of_all of_new_task program) c w.0 None w.1,
+      of_visit of_new_task program c w.0 w.1,
     )

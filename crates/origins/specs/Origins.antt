@@ -3,10 +3,11 @@
 use Rattle.std.specs.Prelude.{ℕ, zero, suc, ◌++◌, Bool, true, false, List, [], ◌∷◌, map, filter, slice_index_or, Option, Some, None}
 use Rattle.std.specs.List.{flat_map, slice_get}
 use Rattle.pl_syntax.specs.declared.tree.Program.{Program}
-use Rattle.pl_syntax.specs.Tree.{Tree, done, fork, loop, new_phaser, new_task, plain}
+use Rattle.pl_syntax.specs.Tree.{Tree, done, fork, loop, plain}
 use Rattle.pl_plan.specs.Unfolding.{Coming, Start, Visit, a_fork, a_loop, a_plain, a_turn, visits_of}
 use Rattle.pl_plan.specs.FoldedOps.{makes_op}
 use Rattle.pl_plan.specs.Forks.{fork_statements, starts_of}
+use Rattle.pl_plan.specs.Tests.{of_new_phaser, of_new_task}
 
 -- ---- what a visit makes
 
@@ -16,16 +17,6 @@ comes_to_op (a_plain s) = makes_op s
 comes_to_op (a_fork x body) = true
 comes_to_op a_loop = false
 comes_to_op a_turn = false
-
--- coming to this makes a phaser
-abbrev pub comes_to_phaser : Coming → Bool
-comes_to_phaser (a_plain (new_phaser x)) = true
-comes_to_phaser c = false
-
--- coming to this draws a task
-abbrev pub comes_to_task : Coming → Bool
-comes_to_task (a_plain (new_task x)) = true
-comes_to_task c = false
 
 -- the statements of those visits of which the coming passes the test, in order
 abbrev pub statements_where : (Coming → Bool) → List Visit → List ℕ
@@ -62,11 +53,11 @@ op_origin program t i = slice_get (op_origins program t) i
 
 -- the statements that make the phasers, in order of number
 abbrev pub phaser_origins : Program → List ℕ
-phaser_origins program = statements_of_all comes_to_phaser program
+phaser_origins program = statements_of_all of_new_phaser program
 
 -- the statements that draw the tasks from 1 on, in order of number
 abbrev pub task_origins : Program → List ℕ
-task_origins program = statements_of_all comes_to_task program
+task_origins program = statements_of_all of_new_task program
 
 -- the statement that makes phaser p
 abbrev pub phaser_origin : Program → ℕ → Option ℕ

@@ -12,8 +12,9 @@ use Rattle.pl_syntax.specs.declared.tree.Program.{Program}
 use Rattle.pl_syntax.specs.Tree.{Tree, new_phaser, reg, dereg, adv, await}
 use Rattle.pl_plan.specs.calls.Folding.{drops_of}
 use Rattle.pl_plan.specs.Unfolding.{Coming, Start, Visit, a_fork, a_plain, phaser, plan_of, task, a_loop, a_turn}
+use Rattle.pl_plan.specs.Tests.{of_new_phaser, of_new_task}
 use Rattle.origins.specs.Turns.{TurnedVisit, turned_visits_of_task}
-use Rattle.origins.specs.Origins.{comes_to_op, op_origin, start_of, visits_by, visits_of_task, comes_to_phaser, comes_to_task, phaser_origin, task_origin, statements_where, written_statements}
+use Rattle.origins.specs.Origins.{comes_to_op, op_origin, start_of, visits_by, visits_of_task, phaser_origin, task_origin, statements_where, written_statements}
 
 -- ---- ops
 
@@ -82,12 +83,12 @@ tasks_of_all test program = tasks_from test 0 (starts_of program)
 
 -- the phasers are made by the tasks whose visits make one, in the order of the visits
 abbrev pub MakersAreOfVisits : Type 0
-MakersAreOfVisits = (program : Program) (plan : Plan) → plan_of program ≡ Ok plan → plan.makers ≡ map task (tasks_of_all comes_to_phaser program)
+MakersAreOfVisits = (program : Program) (plan : Plan) → plan_of program ≡ Ok plan → plan.makers ≡ map task (tasks_of_all of_new_phaser program)
 
 -- and the tasks from 1 on are drawn by those whose visits draw one
 abbrev pub ParentsAreOfVisits : Type 0
 ParentsAreOfVisits =
-    (program : Program) (plan : Plan) → plan_of program ≡ Ok plan → plan.parents ≡ None ∷ map (λ t. Some (task t)) (tasks_of_all comes_to_task program)
+    (program : Program) (plan : Plan) → plan_of program ≡ Ok plan → plan.parents ≡ None ∷ map (λ t. Some (task t)) (tasks_of_all of_new_task program)
 
 -- this is the statement of a visit of task t that passes the test
 pub record IsOfVisit (program : Program) (test : Coming → Bool) (t : ℕ) (origin : Option ℕ) : Type 0 where
@@ -100,13 +101,13 @@ pub record IsOfVisit (program : Program) (test : Coming → Bool) (t : ℕ) (ori
 abbrev pub PhasersHaveOrigins : Type 0
 PhasersHaveOrigins =
     (program : Program) (plan : Plan) → plan_of program ≡ Ok plan → (p : ℕ) → p < length plan.makers →
-    IsOfVisit program comes_to_phaser (slice_index_or plan.makers p (task 0)).0 (phaser_origin program p)
+    IsOfVisit program of_new_phaser (slice_index_or plan.makers p (task 0)).0 (phaser_origin program p)
 
 -- so has each task from 1 on, of a visit of its parent
 abbrev pub TasksHaveOrigins : Type 0
 TasksHaveOrigins =
     (program : Program) (plan : Plan) → plan_of program ≡ Ok plan → (c : ℕ) → suc c < length plan.parents →
-    (u : ℕ) × (slice_index_or plan.parents (suc c) None ≡ Some (task u)) × IsOfVisit program comes_to_task u (task_origin program (suc c))
+    (u : ℕ) × (slice_index_or plan.parents (suc c) None ≡ Some (task u)) × IsOfVisit program of_new_task u (task_origin program (suc c))
 
 -- ---- the statements of the text
 

@@ -6,14 +6,14 @@ use Rattle.pl_syntax.specs.declared.tree.Stmt.{Stmt}
 use Rattle.pl_syntax.specs.declared.tree.Stmt.TheVariants as s
 use Rattle.pl_syntax.specs.Tree.{Tree, done, plain, fork, loop, count, new_task, new_phaser, reg, dereg, adv, await, skip}
 use Rattle.pl_plan.specs.Unfolding.{Coming, Visit, a_fork, a_loop, a_plain, visits_of}
-use Rattle.origins.specs.Origins.{comes_to_phaser, comes_to_task}
+use Rattle.pl_plan.specs.Tests.{of_new_phaser, of_new_task}
 use Rattle.origins.specs.declared.making.Made.{Made}
 use Rattle.origins.specs.declared.making.Made.TheVariants.{APhaser, ATask}
 
 -- coming to this makes such a thing
 abbrev pub makes_it : Made → Coming → Bool
-makes_it APhaser = comes_to_phaser
-makes_it ATask = comes_to_task
+makes_it APhaser = of_new_phaser
+makes_it ATask = of_new_task
 
 -- the body of the fork with this number, among statements of which the first has number n
 abbrev pub fork_body : ℕ → Tree → ℕ → Option Tree
