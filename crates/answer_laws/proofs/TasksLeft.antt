@@ -12,12 +12,12 @@ use Rattle.armus_base.proofs.Lists.{slice_get-append}
 use Rattle.pl_syntax.specs.declared.tree.Program.{Program}
 use Rattle.pl_syntax.specs.calls.Tree.{AreNear}
 use Rattle.pl_syntax.specs.Tree.{Tree}
-use Rattle.pl_plan.specs.Unfolding.{◌>>=◌, Start, UnfoldingState, Visit, add_op, fault_unless, leave, leave_below, make_visits, opening_state, phaser, plan_of, too_many_ops}
+use Rattle.pl_plan.specs.Unfolding.{Start, UnfoldingState, Visit, add_op, fault_unless, leave, leave_below, make_visits, opening_state, phaser, plan_of, too_many_ops}
 use Rattle.pl_plan.specs.Unfolding.{unfold_task, unfold_tasks, visits_of, with_member, with_members, with_names, with_op, with_pieces}
 use Rattle.pl_plan.proofs.Growth.{last_phases}
 use Rattle.pl_plan.proofs.Sound.{IsActing, IsSound, NearStart, is_begun}
 use Rattle.pl_plan.proofs.SoundSteps.{OnState, comes_keep, end_keeps, member_elsewhere, member_here, same_acts, visits_near}
-use Rattle.pl_plan.proofs.TasksLeave.{IsOfParts, Kept, Steps, inside, leaves_below, of_body, opening_kept, start_at, steps_more, steps_same, visits_steps}
+use Rattle.pl_plan.proofs.TasksLeave.{IsOfParts, Kept, Steps, inside, leaves_below, of_body, opening_kept, start_at, steps_more, steps_same, visits_steps, tasks_until}
 use Rattle.pl_plan.proofs.UnfoldedIsChecked.{next_sound, sound_opening}
 use Rattle.pl_plan.proofs.VisitsLeave.{bind_ok, ok_is}
 use Rattle.origins.proofs.Growing.{Grows, drawers_in, ended_grows, makers_in}
@@ -195,20 +195,8 @@ module _ (t : ℕ) (start : Start) (s r : UnfoldingState) (h : HaveLeft t s) (is
 
 -- ---- all tasks
 
-next_left :
-    (n t : ℕ) (s r : UnfoldingState) → HaveLeft t s → ((m : UnfoldingState) → HaveLeft (t + 1) m → unfold_tasks true n (t + 1) m ≡ Ok r → HaveLeft (t + 1 + n) r) →
-    (o : Option Start) → start_at s t ≡ o → (unfold_task true t o s >>= unfold_tasks true n (t + 1)) ≡ Ok r → HaveLeft (t + 1 + n) r
-next_left n t s r h others None is e = others s (none_next t s h is) e
-next_left n t s r h others (Some start) is e =
-    let b = bind_ok (unfold_task true t (Some start) s) (unfold_tasks true n (t + 1)) r e in
-    others b.0 (some_next t start s b.0 h is b.1) b.2
-
 all_left : (n t : ℕ) (s r : UnfoldingState) → HaveLeft t s → unfold_tasks true n t s ≡ Ok r → HaveLeft (t + n) r
-unfolding unfold_tasks
-all_left zero t s r h e = subst (λ q. HaveLeft (t + zero) q) (ok_is s r e) (subst (λ m. HaveLeft m s) (let z : t ≡ t + zero = omega arith in z) h)
-all_left (suc n) t s r h e =
-    subst (λ m. HaveLeft m r) (let z : t + 1 + n ≡ t + suc n = omega arith in z)
-    (next_left n t s r h (λ m g f. all_left n (t + 1) m r g f) (start_at s t) refl e)
+all_left = tasks_until true HaveLeft none_next some_next
 
 opening_left : (body : Tree) → AreNear body → HaveLeft 0 (opening_state body)
 opening_left body near = record {

@@ -19,7 +19,7 @@ use Rattle.pl_plan.specs.Unfolding.{too_many_cells, too_many_phasers, too_many_t
 use Rattle.pl_plan.specs.Unfolding.{visit, visits_of, with_member, with_members, with_names, with_new_phaser, with_new_task, with_pieces, with_start}
 use Rattle.pl_plan.specs.Forks.{starts_of}
 use Rattle.pl_plan.proofs.ForksKept.{starts_found}
-use Rattle.pl_plan.proofs.TasksLeave.{IsOfParts, Kept, Steps, inside, leaves_below, of_body, opening_kept, start_at, steps_more, steps_same, visits_steps}
+use Rattle.pl_plan.proofs.TasksLeave.{IsOfParts, Kept, Steps, inside, leaves_below, of_body, opening_kept, start_at, steps_more, steps_same, visits_steps, tasks_until}
 use Rattle.pl_plan.proofs.VisitsLeave.{Adds, adds_from, adds_more, adds_nothing, adds_op, bind_ok, code, counted, first_visit, no_visit, ok_is}
 use Rattle.pl_plan.specs.Tests.{of_new_phaser, of_new_task}
 use Rattle.origins.specs.Origins.{comes_to_op, start_of, statements_where, visits_by}
@@ -246,22 +246,8 @@ some_next two t start s r h is e =
     (ended_grows two t (start.first - 1) (visits_of start.first start.body) s (with_names start.names s) r refl e) in
     until_next two t s r h a.steps g (subst (λ o. IsCodeByStart two o (code r t)) (sym (a.steps.starts t (omega arith) ∙ is)) a.has)
 
-next_until :
-    (two : Bool) (n t : ℕ) (s r : UnfoldingState) → UntilTask two t s →
-    ((m : UnfoldingState) → UntilTask two (t + 1) m → unfold_tasks two n (t + 1) m ≡ Ok r → UntilTask two (t + 1 + n) r) → (o : Option Start) → start_at s t ≡ o →
-    (unfold_task two t o s >>= unfold_tasks two n (t + 1)) ≡ Ok r → UntilTask two (t + 1 + n) r
-next_until two n t s r h others None is e = others s (none_next two t s h is) e
-next_until two n t s r h others (Some start) is e =
-    let b = bind_ok (unfold_task two t (Some start) s) (unfold_tasks two n (t + 1)) r e in
-    others b.0 (some_next two t start s b.0 h is b.1) b.2
-
-tasks_until : (two : Bool) (n t : ℕ) (s r : UnfoldingState) → UntilTask two t s → unfold_tasks two n t s ≡ Ok r → UntilTask two (t + n) r
-unfolding unfold_tasks
-tasks_until two zero t s r h e =
-    subst (λ q. UntilTask two (t + zero) q) (ok_is s r e) (subst (λ m. UntilTask two m s) (let z : t ≡ t + zero = omega arith in z) h)
-tasks_until two (suc n) t s r h e =
-    subst (λ m. UntilTask two m r) (let z : t + 1 + n ≡ t + suc n = omega arith in z)
-    (next_until two n t s r h (λ m g f. tasks_until two n (t + 1) m r g f) (start_at s t) refl e)
+all_until : (two : Bool) (n t : ℕ) (s r : UnfoldingState) → UntilTask two t s → unfold_tasks two n t s ≡ Ok r → UntilTask two (t + n) r
+all_until two = tasks_until two (UntilTask two) (none_next two) (some_next two)
 
 opening_until : (two : Bool) (body : Tree) → UntilTask two 0 (opening_state body)
 opening_until two body = record { kept = opening_kept Holds holds_of_parts body tt; before = λ u l. absurd (omega (arith, l)); later = none; makers = refl; parents = refl }
@@ -282,7 +268,7 @@ pub codes_are_of_visits : CodesAreOfVisits
 unfolding plan_of
 codes_are_of_visits program plan e t =
     let b = bind_ok (unfold_tasks program.two max_tasks 0 (opening_state program.body)) (λ s. Ok (with_pieces s)) plan e in
-    let until = tasks_until program.two max_tasks 0 (opening_state program.body) b.0 (opening_until program.two program.body) b.1 in
+    let until = all_until program.two max_tasks 0 (opening_state program.body) b.0 (opening_until program.two program.body) b.1 in
     let codes : b.0.plan.codes ≡ plan.codes = ap (λ (p : Plan). p.codes) (ok_is (with_pieces b.0) plan b.2) in
     let starts : start_at b.0 t ≡ start_of program t = ap (λ ss. slice_index_or ss t None) (sym (starts_found program b.0 b.1)) in
     subst (λ o. IsCodeByStart program.two o (slice_index_or plan.codes t [])) starts
@@ -299,7 +285,7 @@ pub makers_are_of_visits : MakersAreOfVisits
 unfolding plan_of
 makers_are_of_visits program plan e =
     let b = bind_ok (unfold_tasks program.two max_tasks 0 (opening_state program.body)) (λ s. Ok (with_pieces s)) plan e in
-    let until = tasks_until program.two max_tasks 0 (opening_state program.body) b.0 (opening_until program.two program.body) b.1 in
+    let until = all_until program.two max_tasks 0 (opening_state program.body) b.0 (opening_until program.two program.body) b.1 in
     ap (λ (p : Plan). p.makers) (sym (ok_is (with_pieces b.0) plan b.2)) ∙ until.makers
     ∙ ap (map task) (all_below program.two program of_new_phaser b.0 until (starts_found program b.0 b.1))
 
@@ -307,7 +293,7 @@ pub parents_are_of_visits : ParentsAreOfVisits
 unfolding plan_of
 parents_are_of_visits program plan e =
     let b = bind_ok (unfold_tasks program.two max_tasks 0 (opening_state program.body)) (λ s. Ok (with_pieces s)) plan e in
-    let until = tasks_until program.two max_tasks 0 (opening_state program.body) b.0 (opening_until program.two program.body) b.1 in
+    let until = all_until program.two max_tasks 0 (opening_state program.body) b.0 (opening_until program.two program.body) b.1 in
     ap (λ (p : Plan). p.parents) (sym (ok_is (with_pieces b.0) plan b.2)) ∙ until.parents
     ∙ ap (λ xs. None ∷ map (λ u. Some (task u)) xs) (all_below program.two program of_new_task b.0 until (starts_found program b.0 b.1))
 

@@ -34,6 +34,26 @@ passed : (b : Bool) (kind n : ℕ) (x : Unit {0}) → fault_unless b kind n ≡ 
 passed true kind n x e = refl
 passed false kind n x e = absurd (cc)
 
+-- ---- all tasks, one after the other
+
+-- what holds up to each task, as long as one task more keeps it, holds up to all
+module _ (two : Bool) (Until : ℕ → UnfoldingState → Type 0) (none_next : (t : ℕ) (s : UnfoldingState) → Until t s → start_at s t ≡ None → Until (t + 1) s)
+    (some_next : (t : ℕ) (start : Start) (s r : UnfoldingState) → Until t s → start_at s t ≡ Some start → unfold_task two t (Some start) s ≡ Ok r → Until (t + 1) r) where
+  next_until :
+      (n t : ℕ) (s r : UnfoldingState) → Until t s → ((m : UnfoldingState) → Until (t + 1) m → unfold_tasks two n (t + 1) m ≡ Ok r → Until (t + 1 + n) r) →
+      (o : Option Start) → start_at s t ≡ o → (unfold_task two t o s >>= unfold_tasks two n (t + 1)) ≡ Ok r → Until (t + 1 + n) r
+  next_until n t s r h others None is e = others s (none_next t s h is) e
+  next_until n t s r h others (Some start) is e =
+      let b = bind_ok (unfold_task two t (Some start) s) (unfold_tasks two n (t + 1)) r e in
+      others b.0 (some_next t start s b.0 h is b.1) b.2
+
+  pub tasks_until : (n t : ℕ) (s r : UnfoldingState) → Until t s → unfold_tasks two n t s ≡ Ok r → Until (t + n) r
+  unfolding unfold_tasks
+  tasks_until zero t s r h e = subst (λ q. Until (t + zero) q) (ok_is s r e) (subst (λ m. Until m s) (let z : t ≡ t + zero = omega arith in z) h)
+  tasks_until (suc n) t s r h e =
+      subst (λ m. Until m r) (let z : t + 1 + n ≡ t + suc n = omega arith in z)
+      (next_until n t s r h (λ m g f. tasks_until n (t + 1) m r g f) (start_at s t) refl e)
+
 -- what holds of statements holds of those behind the first one, and of its body
 pub record IsOfParts (P : Tree → Type 0) : Type 0 where
   pub of_plain : (x : Plain) (rest : Tree) → P (plain x rest) → P rest
@@ -388,23 +408,6 @@ module _ (P : Tree → Type 0) (parts : IsOfParts P) where
       let a = ends two t (start.first - 1) start s (with_names start.names s) r refl refl body (h.later t (omega arith)) h.kept (inside t start s h.kept is) e in
       until_next two t s r h a.steps (a.pieces, subst (λ o. HasCodePieces two o (code r t) a.pieces) (sym (a.steps.starts t (omega arith) ∙ is)) a.has)
 
-  next_until :
-      (two : Bool) (n t : ℕ) (s r : UnfoldingState) → Until two t s →
-      ((m : UnfoldingState) → Until two (t + 1) m → unfold_tasks two n (t + 1) m ≡ Ok r → Until two (t + 1 + n) r) → (o : Option Start) → start_at s t ≡ o →
-      (unfold_task two t o s >>= unfold_tasks two n (t + 1)) ≡ Ok r → Until two (t + 1 + n) r
-  next_until two n t s r h others None is e = others s (none_next two t s h is) e
-  next_until two n t s r h others (Some start) is e =
-      let b = bind_ok (unfold_task two t (Some start) s) (unfold_tasks two n (t + 1)) r e in
-      others b.0 (some_next two t start s b.0 h is b.1) b.2
-
-  tasks_until : (two : Bool) (n t : ℕ) (s r : UnfoldingState) → Until two t s → unfold_tasks two n t s ≡ Ok r → Until two (t + n) r
-  unfolding unfold_tasks
-  tasks_until two zero t s r h e =
-      subst (λ q. Until two (t + zero) q) (ok_is s r e) (subst (λ m. Until two m s) (let z : t ≡ t + zero = omega arith in z) h)
-  tasks_until two (suc n) t s r h e =
-      subst (λ m. Until two m r) (let z : t + 1 + n ≡ t + suc n = omega arith in z)
-      (next_until two n t s r h (λ m g f. tasks_until two n (t + 1) m r g f) (start_at s t) refl e)
-
   pub opening_kept : (body : Tree) → P body → Kept (opening_state body)
   opening_kept body h = record { codes = refl; starts = refl; few_tasks = omega arith; few_ops = omega arith; drawn = none_drawn; bodies = first }
     where
@@ -425,7 +428,7 @@ module _ (P : Tree → Type 0) (parts : IsOfParts P) where
 
   -- at the end
   pub end_until : (two : Bool) (body : Tree) (end : UnfoldingState) → P body → unfold_tasks two max_tasks 0 (opening_state body) ≡ Ok end → Until two max_tasks end
-  end_until two body end h e = tasks_until two max_tasks 0 (opening_state body) end (opening_until two body h) e
+  end_until two body end h e = tasks_until two (Until two) (none_next two) (some_next two) max_tasks 0 (opening_state body) end (opening_until two body h) e
 
   pub end_has : (two : Bool) (end : UnfoldingState) → Until two max_tasks end → (t : ℕ) → (ps : List Piece) × HasCodePieces two (start_at end t) (code end t) ps
   end_has two end h t = elim (cases_lt t max_tasks) [
