@@ -13,13 +13,14 @@ use Rattle.armus_base.proofs.AvoidanceAgrees.{dead_is_final}
 use Rattle.armus_base.proofs.DeadStays.{dead_stays}
 use Rattle.armus_base.proofs.Elements.{Contains-cons_cases, Contains-head, nothing_in_nil}
 use Rattle.armus_base.proofs.Places.{step_later}
+use Rattle.armus_base.proofs.OwnSteps.{plain_longer}
 use Rattle.schedule.specs.declared.lines.Line.{Line}
 use Rattle.schedule.specs.declared.lines.Line.TheVariants as line
 use Rattle.schedule.specs.declared.verdict.PassVerdict.{PassVerdict}
 use Rattle.schedule.specs.Passes.{Loads, loads_of, statuses_found}
 use Rattle.schedule.specs.Replaying.{AreVerdicts, no_pass, one_pass}
 use Rattle.schedule.specs.Replays.{LinesLead, Progress, Takes, at_start, no_line, one_more}
-use Rattle.schedule.proofs.PassesNameTheDead.{passes_name_the_dead, plain_next}
+use Rattle.schedule.proofs.PassesNameTheDead.{passes_name_the_dead}
 use Rattle.armus_words.specs.Words.{Text}
 use Rattle.armus_top.specs.Programs.{TellsDead}
 use Rattle.armus_top.specs.Replays.{IsReplayOf}
@@ -38,7 +39,7 @@ module _ (plan : Plan) (checked : IsCheckedPlan plan) where
   -- one more step
   stepped : (a : Progress) → Keeps a → (t : ℕ) (x : Action) → IsOwnNextStep plan a.run t x → Keeps (record a { run = record { task = t; action = x } ∷ a.run })
   stepped a kept t x next =
-      let run = plain_next plan checked a.run kept.plain t x next in
+      let run = plain_longer plan a.run t x kept.plain next in
       record {
         plain = run;
         lasting = λ loads c u dead.

@@ -33,6 +33,7 @@ pub mod FoundArePublished
 pub mod ListDecides
 pub mod ListAvoids
 pub mod LeastExists
+pub mod OwnSteps
 pub mod MaximalExists
 pub mod KnownAreLeastDead
 pub mod LeastLawful

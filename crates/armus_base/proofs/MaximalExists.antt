@@ -1,21 +1,20 @@
 -- A maximal plain run of a checked plan, made step by step.
-use Rattle.std.proofs.Common.{◌≡◌, ◌≢◌, ℕ, zero, suc, ◌<◌, ◌≤◌, ◌+◌, true, Option, Some, None, List, [], ◌∷◌, length, arith, sym, ◌∙◌, ap, subst, refl, ◌⊎◌, inl, inr}
+use Rattle.std.proofs.Common.{◌≡◌, ℕ, zero, suc, ◌<◌, ◌≤◌, ◌+◌, true, Option, Some, None, List, [], ◌∷◌, length, arith, sym, ◌∙◌, ap, refl, ◌⊎◌, inl, inr}
 use Rattle.std.proofs.lemmas.Bool.{cases_lt, cases_Bool}
 use Rattle.armus_base.specs.declared.event.Event.{Event}
-use Rattle.armus_base.specs.Plans.{Action, Passes, Plan, Refuses, action_at, actions, Aim}
+use Rattle.armus_base.specs.Plans.{Action, Passes, Plan, action_at, actions}
 use Rattle.armus_base.specs.States.{IsLegal, Step}
-use Rattle.armus_base.specs.Runs.{HasEnded, IsByCode, IsMaximal, IsPlainRun, is_done, is_waiting, places, state_after}
+use Rattle.armus_base.specs.Runs.{HasEnded, IsMaximal, IsPlainRun, is_done, is_waiting, places, state_after}
 use Rattle.armus_base.specs.Places.{done_by, refused_at}
 use Rattle.armus_base.specs.CheckedPlans.{IsCheckedPlan}
 use Rattle.armus_base.specs.calls.RunLaws.{MaximalExists}
 use Rattle.armus_base.proofs.Stepping.{places_fix}
-use Rattle.armus_base.proofs.Codes.{no_refusal}
 use Rattle.armus_base.proofs.Members.{plain_undropped, plain_step, other_step}
 use Rattle.armus_base.proofs.NextIsLegal.{next_is_legal}
 use Rattle.armus_base.proofs.Published.{published_passes}
-use Rattle.armus_base.proofs.Again.{in_code_plain}
 use Rattle.armus_base.proofs.Tasks.{all_or_one, no_action, begun_within, done_within_code, reached_or_not}
 use Rattle.armus_base.proofs.Sums.{sum_at_most, sum_below, sum_more}
+use Rattle.armus_base.proofs.OwnSteps.{plain_longer}
 
 -- how many actions all tasks have, and how many are done
 pub all_actions : Plan → ℕ
@@ -25,10 +24,6 @@ pub all_done : Plan → List Step → ℕ
 all_done plan h = sum_below (done_by (places h)) (length plan.parents)
 
 module _ (plan : Plan) (checked : IsCheckedPlan plan) where
-  -- what the code asks for is no refusal
-  next_in_code : (t k : ℕ) (x : Action) → action_at plan t k ≡ Some x → (aim : Aim) → x ≢ Refuses aim
-  next_in_code t k x next p is = no_refusal plan t k p (next ∙ ap Some is)
-
   -- a task either makes its next step, or has come to an end
   module _ (h : List Step) (run : IsPlainRun plan h) (t : ℕ) where
     abbrev GoesOn : Type 0
@@ -38,20 +33,7 @@ module _ (plan : Plan) (checked : IsCheckedPlan plan) where
     Ends = (state_after h).forked t ≡ true → HasEnded plan (state_after h) (places h t) t
 
     goes : (x : Action) → action_at plan t (places h t).done ≡ Some x → IsLegal plan (state_after h) t x → GoesOn
-    goes x next legal =
-        let plain = next_in_code t (places h t).done x next in (
-          record { task = t; action = x },
-          (
-            (
-              run.0,
-              record {
-                legal = legal;
-                by_code = subst (λ o. IsByCode plan t (places h t).done o x) (sym (plain_undropped plan h run t)) (next ∙ ap Some (sym (in_code_plain x plain)));
-              },
-            ),
-            (run.1, plain),
-          ),
-        )
+    goes x next legal = (record { task = t; action = x }, plain_longer plan h t x run (record { by_code = next; legal = legal }))
 
     -- a published task
     waits :

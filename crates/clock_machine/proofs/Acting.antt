@@ -1,15 +1,14 @@
 -- One step of one task in a plain run, by what is left of its code.
-use Rattle.std.proofs.Common.{◌≡◌, ◌≢◌, ℕ, true, Some, None, List, ◌∷◌, drop, sym, ◌∙◌, ap, subst}
-use Rattle.armus_base.specs.Plans.{Action, Plan, Refuses, action_at, actions, Aim}
+use Rattle.std.proofs.Common.{◌≡◌, ℕ, true, Some, None, List, ◌∷◌, drop, ◌∙◌, ap}
+use Rattle.armus_base.specs.Plans.{Action, Plan, action_at, actions}
 use Rattle.armus_base.specs.States.{IsLegal, Step}
-use Rattle.armus_base.specs.Runs.{IsByCode, IsPlainRun, places, state_after}
+use Rattle.armus_base.specs.Runs.{IsPlainRun, places, state_after}
 use Rattle.armus_base.specs.Places.{refused_at}
 use Rattle.armus_base.specs.CheckedPlans.{IsCheckedPlan}
-use Rattle.armus_base.proofs.Codes.{no_refusal}
 use Rattle.armus_base.proofs.Members.{plain_undropped, plain_step}
 use Rattle.armus_base.proofs.NextIsLegal.{next_is_legal}
 use Rattle.armus_base.proofs.Stepping.{places_fix}
-use Rattle.armus_base.proofs.Again.{in_code_plain}
+use Rattle.armus_base.proofs.OwnSteps.{plain_longer}
 use Rattle.clock_machine.proofs.Entries.{drop_next}
 
 -- a step of a task
@@ -31,18 +30,7 @@ module _ (plan : Plan) (checked : IsCheckedPlan plan) (h : List Step) (run : IsP
 
   -- the step of the next action, if it is legal
   pub acts_legally : actions_left plan h t ≡ x ∷ xs → IsLegal plan (state_after h) t x → IsPlainRun plan (step_of t x ∷ h)
-  acts_legally left legal =
-      let next = next_action left in
-      let plain : (aim : Aim) → x ≢ Refuses aim = λ aim is. no_refusal plan t (places h t).done aim (next ∙ ap Some is) in (
-        (
-          run.0,
-          record {
-            legal = legal;
-            by_code = subst (λ o. IsByCode plan t (places h t).done o x) (sym (plain_undropped plan h run t)) (next ∙ ap Some (sym (in_code_plain x plain)));
-          },
-        ),
-        (run.1, plain),
-      )
+  acts_legally left legal = plain_longer plan h t x run (record { by_code = next_action left; legal = legal })
 
   pub then_left : actions_left plan h t ≡ x ∷ xs → IsPlainRun plan (step_of t x ∷ h) → actions_left plan (step_of t x ∷ h) t ≡ xs
   then_left left more =

@@ -1,36 +1,15 @@
 -- A journal and its run fix each other.
-use Rattle.std.proofs.Common.{◌≡◌, ◌≢◌, ℕ, List, [], ◌∷◌, ◌++◌, Some, sym, ◌∙◌, ap, subst, refl, inl, inr}
+use Rattle.std.proofs.Common.{◌≡◌, List, [], ◌∷◌, ◌++◌, Some, sym, ◌∙◌, ap, subst, refl, inl, inr}
 use Rattle.armus_base.specs.declared.ids.TaskId.{TaskId}
-use Rattle.armus_base.specs.Plans.{Aim, Plan, Action, Refuses, action_at}
-use Rattle.armus_base.specs.Runs.{IsByCode, IsPlainRun, places, IsOwnNextStep}
+use Rattle.armus_base.specs.Plans.{Plan, Action, action_at}
+use Rattle.armus_base.specs.Runs.{IsPlainRun, places, IsOwnNextStep}
 use Rattle.armus_base.specs.States.{Step}
-use Rattle.armus_base.proofs.Codes.{no_refusal}
-use Rattle.armus_base.proofs.Members.{by_code_next, plain_undropped}
-use Rattle.armus_base.proofs.Again.{in_code_plain}
 use Rattle.armus_base.proofs.Lists.{same_ends}
+use Rattle.armus_base.proofs.OwnSteps.{last_goes_on, plain_longer}
 use Rattle.locked_world.specs.calls.Journals.{JournalLeadsTo, no_step, one_more}
 use Rattle.locked_world.specs.Journals.{journal_of}
 use Rattle.locked_world.specs.calls.Laws.{EachGoesOn, JournalFixesRun, JournalLeads, LeadsIsJournal}
 use Rattle.locked_world.proofs.Ahead.{ahead_of_last}
-
--- the last step of a plain run is how its task goes on by its code
-pub last_goes_on : (plan : Plan) (h : List Step) (e : Step) → IsPlainRun plan (e ∷ h) → IsOwnNextStep plan h e.task e.action
-last_goes_on plan h e run =
-    record {
-      by_code = by_code_next plan e.task (places h e.task).done (places h e.task).dropped e.action (plain_undropped plan h (run.0.0, run.1.0) e.task) run.0.1.by_code
-          ∙ ap Some (in_code_plain e.action run.1.1);
-      legal = run.0.1.legal;
-    }
-
--- and a task that goes on makes a plain run longer
-pub plain_longer : (plan : Plan) (h : List Step) (t : ℕ) (x : Action) → IsPlainRun plan h → IsOwnNextStep plan h t x → IsPlainRun plan (record { task = t; action = x } ∷ h)
-plain_longer plan h t x run next = ((run.0, record { legal = next.legal; by_code = by_code }), (run.1, other))
-  where
-    other : (aim : Aim) → x ≢ Refuses aim
-    other p same = no_refusal plan t (places h t).done p (subst (λ y. action_at plan t (places h t).done ≡ Some y) same next.by_code)
-
-    by_code : IsByCode plan t (places h t).done (places h t).dropped x
-    by_code = subst (λ o. IsByCode plan t (places h t).done o x) (sym (plain_undropped plan h run t)) (next.by_code ∙ ap Some (sym (in_code_plain x other)))
 
 run_leads : (plan : Plan) (h : List Step) → IsPlainRun plan h → JournalLeadsTo plan (journal_of h) h
 run_leads plan [] run = no_step

@@ -9,13 +9,14 @@ use Rattle.armus_base.specs.Places.{state_at}
 use Rattle.armus_base.specs.Runs.{first_place, moved, places, state_after, IsOwnNextStep}
 use Rattle.armus_base.specs.States.{IsLegal}
 use Rattle.armus_base.proofs.Stepping.{places_fix}
+use Rattle.armus_base.proofs.OwnSteps.{plain_longer}
 use Rattle.pl_core.specs.declared.place.Place.{Place as KeptPlace}
 use Rattle.pl_core.specs.calls.Moves.{IsWorldStep}
 use Rattle.pl_core.specs.calls.Worlds.{IsOpeningWorld, WorldValue, place_from, places_at, state_of}
 use Rattle.pl_core.proofs.Opening.{copy_is}
 use Rattle.locked_world.specs.calls.Journals.{IsReplayOfJournal, LoggedValue, LogsStep}
 use Rattle.locked_world.specs.calls.Laws.{ReplayedState}
-use Rattle.locked_world.proofs.Journals.{journal_fixes_run, journal_leads, plain_longer}
+use Rattle.locked_world.proofs.Journals.{journal_fixes_run, journal_leads}
 
 -- the opening world is the replay of the empty journal
 pub opening_replayed : (plan : Plan) (w : WorldValue) → IsCheckedPlan plan → IsOpeningWorld plan w → IsReplayOfJournal plan (record { world = w; journal = [] })

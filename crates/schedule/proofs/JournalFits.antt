@@ -16,8 +16,8 @@ use Rattle.armus_base.proofs.Elements.{nothing_in_nil}
 use Rattle.armus_base.proofs.Members.{plain_step, other_step}
 use Rattle.armus_base.proofs.Tasks.{action_of_task, done_within_code}
 use Rattle.armus_base.proofs.Sums.{sum_at_most, sum_below, sum_first, sum_more}
+use Rattle.armus_base.proofs.OwnSteps.{last_goes_on}
 use Rattle.locked_world.specs.Journals.{journal_of}
-use Rattle.locked_world.proofs.Journals.{last_goes_on}
 use Rattle.schedule.specs.calls.Records.{JournalFitsPlan}
 use Rattle.schedule.proofs.RecordIsRead.{steps_short}
 

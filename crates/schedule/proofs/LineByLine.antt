@@ -37,8 +37,8 @@ use Rattle.schedule.specs.inside.KeptReplays.{IsOpenPass, HasOpenPass, KeepsProg
 use Rattle.schedule.proofs.Following.{state_is}
 use Rattle.std.proofs.lemmas.Bool.{eq-eqb, ne_eqb}
 use Rattle.schedule.proofs.Passing.{loads_left}
-use Rattle.schedule.proofs.PassesNameTheDead.{plain_next}
 use Rattle.armus_base.proofs.DeadByStatuses.{dead_by_statuses, run_is_of_plan}
+use Rattle.armus_base.proofs.OwnSteps.{plain_longer}
 
 replicated : (a : KeptPlace) (n t : ℕ) → (slice_get (replicate n a) t ≡ None) ⊎ (slice_get (replicate n a) t ≡ Some a)
 replicated a zero t = inl refl
@@ -89,7 +89,7 @@ step_follows plan old new h t same at makes =
       next,
       record {
         checked = subst IsCheckedPlan (sym makes.plan) at.checked;
-        run = subst (λ q. IsPlainRun q (record { task = t; action = x } ∷ h)) (sym makes.plan) (plain_next old.plan at.checked h at.run t x next_old);
+        run = subst (λ q. IsPlainRun q (record { task = t; action = x } ∷ h)) (sym makes.plan) (plain_longer old.plan h t x at.run next_old);
         there = sym makes.run.4 ∙ ap (λ c. moved c t x) (sym makes.run.1 ∙ at.there);
       },
     )

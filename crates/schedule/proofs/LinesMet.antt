@@ -13,12 +13,12 @@ use Rattle.armus_base.proofs.NextIsLegal.{next_is_legal}
 use Rattle.armus_base.proofs.Published.{published_passes}
 use Rattle.armus_base.proofs.Stepping.{acting_forked, places_fix}
 use Rattle.armus_base.proofs.Tasks.{reached_or_not}
+use Rattle.armus_base.proofs.OwnSteps.{plain_longer}
 use Rattle.schedule.specs.declared.lines.Line.{Line}
 use Rattle.schedule.specs.declared.lines.Line.TheVariants as line
 use Rattle.schedule.specs.Passes.{Loads, loads_of}
 use Rattle.schedule.specs.Replays.{IsFault, LinesLead, Progress, Takes, at_start, load_without_pass, loaded, no_line, one_more, second_pass, strange_task, stuck_task, unreadable}
 use Rattle.schedule.specs.calls.Laws.{IsMet, LineIsMet, LinesAreMet}
-use Rattle.schedule.proofs.PassesNameTheDead.{plain_next}
 
 module _ (plan : Plan) (checked : IsCheckedPlan plan) where
   -- a task has a next step, or it has none
@@ -118,7 +118,7 @@ module _ (plan : Plan) (checked : IsCheckedPlan plan) where
   run_of false a loads = refl
 
   takes_run : (a : Progress) (next : Line) (b : Progress) → IsPlainRun plan a.run → Takes plan a next b → IsPlainRun plan b.run
-  takes_run a (line.Step t) b run (x, next, is) = subst (λ (p : Progress). IsPlainRun plan p.run) (sym is) (plain_next plan checked a.run run t x next)
+  takes_run a (line.Step t) b run (x, next, is) = subst (λ (p : Progress). IsPlainRun plan p.run) (sym is) (plain_longer plan a.run t x run next)
   takes_run a line.Pass b run (idle, is) = subst (λ (p : Progress). IsPlainRun plan p.run) (sym is) run
   takes_run a line.Load b run (loads, opened, is) =
       let more = loads ++ a.run ∷ [] in

@@ -1,5 +1,5 @@
 -- A closed pass names every task that is dead at its first load, and only tasks that are dead at its last.
-use Rattle.std.proofs.Common.{◌≡◌, ◌<◌, ◌≤◌, ℕ, ◌≢◌, Bool, true, List, [], ◌∷◌, ◌++◌, Option, Some, None, length, arith, sym, subst, ap, inl, inr, refl, ◌∙◌, get_or, eq-eqb}
+use Rattle.std.proofs.Common.{◌≡◌, ◌<◌, ◌≤◌, ℕ, Bool, true, List, [], ◌∷◌, ◌++◌, Option, Some, None, length, arith, sym, subst, ap, inl, inr, refl, ◌∙◌, get_or, eq-eqb}
 use Rattle.std.specs.Prelude.{slice_get, Contains, is_some}
 use Rattle.std.proofs.lemmas.Option.{slice_get_within, slice_get-get_or, get_or_from_slice_get}
 use Rattle.std.proofs.lemmas.List.Elements.{Contains-append_cases}
@@ -19,7 +19,7 @@ use Rattle.armus_base.proofs.Fixed.{phases_forked, some_before_from}
 use Rattle.armus_base.proofs.Stepping.{places_fix}
 use Rattle.armus_base.proofs.Published.{published_after_is}
 use Rattle.armus_base.proofs.FoundArePublished.{published_within}
-use Rattle.armus_base.proofs.Members.{published_member, member_made, plain_undropped}
+use Rattle.armus_base.proofs.Members.{published_member, member_made}
 use Rattle.armus_base.specs.Plans.{Makes, action_at, maker_of}
 use Rattle.armus_base.specs.Places.{made_at, makes}
 use Rattle.armus_base.proofs.ReachedLater.{later_done}
@@ -30,10 +30,9 @@ use Rattle.std.specs.Prelude.{◌==◌, if◌then◌else◌}
 use Rattle.std.proofs.Common.{false, eqb-true}
 use Rattle.armus_base.specs.Plans.{Action, Aim, Refuses}
 use Rattle.armus_base.specs.Runs.{IsByCode, IsPlainRun}
-use Rattle.armus_base.proofs.Again.{in_code_plain}
-use Rattle.armus_base.proofs.Codes.{no_refusal}
 use Rattle.armus_base.proofs.Elements.{nothing_in_nil, Contains-cons_cases}
 use Rattle.armus_base.proofs.LawfulPlaces.{made_within}
+use Rattle.armus_base.proofs.OwnSteps.{plain_longer}
 use Rattle.schedule.specs.declared.lines.Line.{Line}
 use Rattle.schedule.specs.declared.lines.Line.TheVariants as line
 use Rattle.schedule.specs.Replays.{Progress, at_start, Takes, LinesLead, no_line, one_more}
@@ -271,21 +270,11 @@ module _ (plan : Plan) (checked : IsCheckedPlan plan) where
   loaded_kept a kept loads moments false full =
       record { run = kept.run; opened = λ other e. (let same : loads ≡ other = cc in subst (λ l. AreMoments plan l a.run) same moments); closed = kept.closed }
 
-  -- the next step of a plain run
-  pub plain_next : (h : List Step) → IsPlainRun plan h → (t : ℕ) (x : Action) → IsOwnNextStep plan h t x → IsPlainRun plan (record { task = t; action = x } ∷ h)
-  plain_next h run t x next = ((run.0, record { legal = next.legal; by_code = by_code }), (run.1, other))
-    where
-      other : (aim : Aim) → x ≢ Refuses aim
-      other p same = no_refusal plan t (places h t).done p (subst (λ y. action_at plan t (places h t).done ≡ Some y) same next.by_code)
-
-      by_code : IsByCode plan t (places h t).done (places h t).dropped x
-      by_code = subst (λ o. IsByCode plan t (places h t).done o x) (sym (plain_undropped plan h run t)) (next.by_code ∙ ap Some (sym (in_code_plain x other)))
-
   -- one more step
   stepped_kept : (a : Progress) → IsKept a → (t : ℕ) (x : Action) → IsOwnNextStep plan a.run t x → IsKept (record a { run = record { task = t; action = x } ∷ a.run })
   stepped_kept a kept t x next =
       record {
-        run = plain_next a.run kept.run t x next;
+        run = plain_longer plan a.run t x kept.run next;
         opened = λ loads e. moments_stay plan loads a.run (record { task = t; action = x }) (kept.opened loads e);
         closed = kept.closed;
       }
