@@ -7,7 +7,6 @@ use Rattle.armus_base.specs.Pieces.{times}
 use Rattle.clock_syntax.specs.declared.tree.ClockStmt.{ClockStmt}
 use Rattle.clock_syntax.specs.declared.tree.ClockStmt.TheVariants as s
 use Rattle.clock_syntax.specs.Trees.{ClockTree, clock_count, done}
-use Rattle.clock_syntax.specs.Trees.{drop as dropped}
 use Rattle.clock_syntax.specs.calls.Bodies.{clock_followed_by, clock_tree_of}
 use Rattle.clock_syntax.proofs.ClockParts.{clock_counts}
 use Rattle.clock_moves.specs.Unfolding.{ClockComing, a_close, a_finish, a_turn, an_async, coming, comings_of}

@@ -1,14 +1,12 @@
 -- A clock text has one output, and the output fixes its status.
 use Rattle.std.proofs.Common.{◌≡◌, ◌∙◌, ℕ, Bool, true, false, List, Option, ap, arith, inl, inr, refl, subst, sym}
-use Rattle.std.specs.Prelude.{◌↔◌, Err, Ok, Result, if◌then◌else◌}
+use Rattle.std.specs.Prelude.{◌↔◌, Err, Ok, if◌then◌else◌}
 use mathlib.Core.Path.{fun_ext}
-use Rattle.armus_base.specs.Plans.{Plan}
 use Rattle.armus_base.specs.Runs.{Place, places, state_after}
 use Rattle.armus_base.specs.States.{State, Step}
 use Rattle.armus_base.proofs.MaximalExists.{maximal_exists}
 use Rattle.pl_plan.specs.Unfolding.{Outcome}
 use Rattle.pl_plan.specs.declared.fault.CheckFault.{CheckFault}
-use Rattle.pl_syntax.specs.declared.fault.SyntaxFault.{SyntaxFault}
 use Rattle.clock_syntax.specs.Grammar.{IsClockText}
 use Rattle.clock_syntax.specs.Trees.{ClockTree}
 use Rattle.clock_syntax.proofs.ClockTexts.{clock_tree_or_fault}

@@ -1,5 +1,5 @@
 -- A text has one output with the explanation of its run that avoids deadlock, with one status; and it has one.
-use Rattle.std.proofs.Common.{◌≡◌, ◌∙◌, ℕ, Bool, List, Option, ap, inl, inr, refl, subst, sym}
+use Rattle.std.proofs.Common.{◌≡◌, ◌∙◌, ℕ, List, Option, inl, inr, refl, subst, sym}
 use Rattle.std.specs.Prelude.{if◌then◌else◌}
 use Rattle.armus_base.specs.Plans.{Plan}
 use Rattle.armus_base.specs.Serial.{IsSerialAvoidedEnd}
@@ -13,7 +13,7 @@ use Rattle.armus_words.specs.Words.{Text}
 use Rattle.armus_top.specs.Programs.{IsPlanOf}
 use Rattle.armus_top.proofs.OnePlan.{checked_plan, one_plan}
 use Rattle.armus_top.proofs.WholeOutputs.{plan_or_refused}
-use Rattle.explain.specs.Avoided.{AvoidsSo, IsAvoidedOf}
+use Rattle.explain.specs.Avoided.{IsAvoidedOf}
 use Rattle.explain.specs.Outputs.{AnswersAvoided}
 use Rattle.explain.specs.Refused.{IsRefusedWith}
 use Rattle.explain.specs.calls.Laws.{EachTextIsAvoided, OneAvoidedOutput}

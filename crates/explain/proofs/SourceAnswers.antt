@@ -1,5 +1,5 @@
 -- From an explanation, steps or a refusal to the output that is wanted.
-use Rattle.std.proofs.Common.{◌≡◌, ℕ, Bool, true, false, Option, Some, inl, inr, subst, sym}
+use Rattle.std.proofs.Common.{◌≡◌, Bool, true, false, Option, Some, inl, inr, subst, sym}
 use Rattle.std.specs.Prelude.{Err, IfOk, Ok, Result}
 use Rattle.armus_base.specs.declared.errors.NoMemory.{NoMemory}
 use Rattle.refusals.specs.LengthRefusals.{length_refusal}

@@ -1,5 +1,5 @@
 -- In which language a text is, where a text of either is read.
-use Rattle.std.specs.Prelude.{ℕ, ◌-◌, Bool, true, false, not, ◌&&◌, ◌||◌, List, Option, Some, None, Ok, codes, drop, length}
+use Rattle.std.specs.Prelude.{◌-◌, Bool, true, false, not, ◌&&◌, ◌||◌, Option, Some, None, Ok, codes, drop, length}
 use Rattle.std.specs.Str.{bytes_eq}
 use Rattle.pl_syntax.specs.declared.scan.Scan.{Scan}
 use Rattle.pl_syntax.specs.declared.token.Keyword.{Keyword}

@@ -1,18 +1,18 @@
 -- A run that avoids deadlock has an explanation.
-use Rattle.std.proofs.Common.{◌≡◌, ◌∙◌, ℕ, List, [], ◌∷◌, ◌++◌, Option, Some, None, ap, inl, inr, refl, subst, sym}
+use Rattle.std.proofs.Common.{◌≡◌, ℕ, List, [], ◌∷◌, ◌++◌, Option, Some, None, inl, inr, refl, subst}
 use Rattle.adaptive.specs.declared.analysis.Wanted.TheVariants.{Auto}
 use Rattle.armus_base.specs.declared.event.Event.{Event}
 use Rattle.armus_base.specs.declared.ids.TaskId.{TaskId}
 use Rattle.armus_base.specs.declared.status.Status.{Status}
 use Rattle.armus_base.specs.Avoidance.{Avoids, IsAvoidedRun}
 use Rattle.armus_base.specs.CheckedPlans.{IsCheckedPlan}
-use Rattle.armus_base.specs.Deadlocks.{IsDeadBy, WouldBeDead}
+use Rattle.armus_base.specs.Deadlocks.{WouldBeDead}
 use Rattle.armus_base.specs.calls.FinalLaws.{IsOfPlan}
 use Rattle.armus_base.specs.Finals.{final_of}
 use Rattle.armus_base.specs.Places.{state_at}
 use Rattle.armus_base.specs.Plans.{Action, Advances, Aim, Blocks, Drops, Forks, Makes, Passes, Plan, Refuses, Registers}
 use Rattle.armus_base.specs.Runs.{IsByCode, IsLegalRun, IsNextStep, places, state_after}
-use Rattle.armus_base.specs.States.{State, Step, awaited, if_published, updated}
+use Rattle.armus_base.specs.States.{Step, awaited, if_published, updated}
 use Rattle.armus_base.proofs.DeadByStatuses.{dead_by_final, run_is_of_plan}
 use Rattle.armus_base.proofs.NobodyIsDead.{avoided_legal}
 use Rattle.armus_base.proofs.SerialIsAvoided.{serial_is_avoided}
@@ -29,7 +29,7 @@ use Rattle.report.proofs.ReportExists.{report_exists}
 use Rattle.task_sayings.specs.Facts.{facts_of}
 use Rattle.refused_awaits.specs.AvoidedWords.{avoided_words, somebody_stays}
 use Rattle.refused_awaits.specs.RefusalWords.{refusal_words}
-use Rattle.refused_awaits.specs.Refusals.{AreRefusals, IsRefusalText, IsTold}
+use Rattle.refused_awaits.specs.Refusals.{AreRefusals, IsTold}
 use Rattle.refused_awaits.specs.calls.Laws.{AvoidedExplanationExists}
 use Rattle.refused_awaits.proofs.OpsKept.{at_op, op_at}
 use Rattle.refused_awaits.proofs.Releasing.{released_exist}

@@ -1,6 +1,5 @@
 -- The serial avoided run of a text is explained.
 use Rattle.std.proofs.Common.{◌≡◌, ◌∙◌, ℕ, List, Option, ap, length, sym, subst}
-use Rattle.std.specs.Prelude.{Ok}
 use Rattle.armus_base.specs.declared.ending.Final.{Final}
 use Rattle.armus_base.specs.Deadlocks.{IsDeadBy}
 use Rattle.armus_base.specs.Finals.{end_of, final_of, list_below}

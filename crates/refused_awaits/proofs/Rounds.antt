@@ -4,7 +4,7 @@ use Rattle.armus_base.specs.declared.ending.Final.{Final}
 use Rattle.armus_base.specs.Finals.{final_of}
 use Rattle.armus_base.specs.Plans.{Plan}
 use Rattle.armus_base.specs.Runs.{places}
-use Rattle.armus_base.specs.Serial.{IsSerialAvoidedEnd, IsSerialAvoidedRun, RoundBelow, opens, rounds}
+use Rattle.armus_base.specs.Serial.{IsSerialAvoidedRun, RoundBelow, opens, rounds}
 use Rattle.armus_base.specs.States.{Step}
 use Rattle.pl_core.specs.calls.Worlds.{IsOpeningWorld, places_at, places_of, state_of}
 use Rattle.pl_core.proofs.Opening.{first_places}

@@ -1,5 +1,5 @@
 -- Somebody was refused or waits, by the standings, just where a task stands so.
-use Rattle.std.proofs.Common.{◌≡◌, ◌∙◌, ℕ, ◌<◌, ◌≤◌, Bool, true, List, [], ◌∷◌, ◌++◌, length, ap, arith, inl, inr, refl, subst, sym}
+use Rattle.std.proofs.Common.{◌≡◌, ℕ, ◌<◌, ◌≤◌, Bool, true, List, [], ◌∷◌, ◌++◌, length, ap, arith, inl, inr, refl, subst}
 use Rattle.std.specs.Prelude.{◌⊎◌, Contains, slice_index_or}
 use Rattle.armus_base.specs.declared.ids.TaskId.{TaskId}
 use Rattle.armus_base.specs.Finals.{list_below}

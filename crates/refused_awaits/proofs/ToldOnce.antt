@@ -1,6 +1,6 @@
 -- In an explanation of a run each task that was refused has its paragraph among the refusals, and each other task that is not done has one behind.
-use Rattle.std.proofs.Common.{◌≡◌, ◌∙◌, ℕ, ◌<◌, Bool, true, false, List, [], ◌∷◌, ◌++◌, Option, Some, None, ap, inl, inr, length, map, refl, subst, sym}
-use Rattle.std.specs.Prelude.{◌⊎◌, Contains, IsSome, slice_index_or}
+use Rattle.std.proofs.Common.{◌≡◌, ◌∙◌, ℕ, ◌<◌, true, false, [], ◌++◌, Option, Some, None, ap, inl, inr, length, map, refl, subst, sym}
+use Rattle.std.specs.Prelude.{Contains, slice_index_or}
 use Rattle.std.proofs.lemmas.Bool.{false≢true}
 use Rattle.std.proofs.lemmas.List.Elements.{Contains-append_cases, Contains-append_left, Contains-append_right}
 use Rattle.std.proofs.lemmas.Option.{get_or_from_slice_get}
@@ -8,13 +8,11 @@ use Rattle.armus_base.specs.declared.ending.TaskEnd.{TaskEnd}
 use Rattle.armus_base.specs.declared.ending.TaskEnd.TheVariants as ends
 use Rattle.armus_base.specs.declared.event.Event.{Event}
 use Rattle.armus_base.specs.declared.ids.TaskId.{TaskId}
-use Rattle.armus_base.specs.CheckedPlans.{IsCheckedPlan}
 use Rattle.armus_base.specs.Deadlocks.{IsDeadBy}
 use Rattle.armus_base.specs.Finals.{end_of, final_of, list_below}
-use Rattle.armus_base.specs.Places.{state_at}
 use Rattle.armus_base.specs.Plans.{Plan}
-use Rattle.armus_base.specs.Runs.{IsLegalRun, places, state_after}
-use Rattle.armus_base.specs.States.{State, Step}
+use Rattle.armus_base.specs.Runs.{IsLegalRun, state_after}
+use Rattle.armus_base.specs.States.{State}
 use Rattle.armus_base.proofs.EndsTell.{ends_are}
 use Rattle.armus_base.proofs.NobodyIsDead.{avoided_legal}
 use Rattle.armus_base.proofs.RefusedEnds.{refused_ends}
@@ -26,7 +24,6 @@ use Rattle.report.specs.Standings.{AreStandings, Stands}
 use Rattle.report.specs.declared.standing.Standing.{Standing}
 use Rattle.report.specs.declared.standing.Standing.TheVariants as way
 use Rattle.accounts.specs.declared.account.Forked.{Forked}
-use Rattle.task_sayings.specs.declared.situation.Situation.{Situation}
 use Rattle.task_sayings.specs.declared.situation.Situation.TheVariants.{HasEnded}
 use Rattle.task_sayings.specs.Facts.{FactsValue, facts_of, forking_of, is_waiting, situation_by, situation_of, stands_unforked, tasks_that}
 use Rattle.task_sayings.specs.Sayings.{Said, own_said, same_said}
@@ -36,9 +33,8 @@ use Rattle.task_sayings.proofs.SameSaid.{same_said_is, same_said_itself}
 use Rattle.explained_tasks.specs.Paragraphs.{explained_tasks, shown_waiting, tasks_of}
 use Rattle.explained_tasks.proofs.EachToldOnce.{nothing_twice}
 use Rattle.explained_tasks.proofs.TasksThat.{that_has}
-use Rattle.refused_awaits.specs.AvoidedExplanations.{IsAvoidedExplanation}
 use Rattle.refused_awaits.specs.AvoidedWords.{tasks_with, was_refused}
-use Rattle.refused_awaits.specs.calls.Laws.{EachIsToldOnce, HasOneBehind, TellsOfEachOnce}
+use Rattle.refused_awaits.specs.calls.Laws.{EachIsToldOnce, HasOneBehind}
 use Rattle.refused_awaits.proofs.RefusalTexts.{paragraph_for_each}
 use Rattle.refused_awaits.proofs.RefusedOnce.{each_is_refused_once}
 use Rattle.refused_awaits.proofs.StaysTold.{task_has, task_with}

@@ -1,4 +1,4 @@
-use Rattle.std.proofs.Common.{◌++◌, codes}
+use Rattle.std.proofs.Common.{codes}
 use Rattle.step_lines.specs.calls.Known.{kept_layout}
 use Rattle.refused_awaits.specs.RefusalWords.{avoided_circle_words}
 use Rattle.refused_awaits.proofs.Pieces.{three_pieces}

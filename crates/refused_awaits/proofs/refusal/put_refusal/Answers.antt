@@ -1,4 +1,4 @@
-use Rattle.std.proofs.Common.{◌≡◌, ◌∙◌, ◌++◌, ap, codes, subst}
+use Rattle.std.proofs.Common.{◌≡◌, ◌∙◌, ◌++◌, ap, codes}
 use Rattle.std.specs.Prelude.{option_copied}
 use Rattle.armus_base.specs.Plans.{code_of}
 use Rattle.pl_core.specs.calls.Worlds.{places_of}

@@ -1,4 +1,4 @@
-use Rattle.std.proofs.Common.{◌≡◌, ◌∙◌, ◌++◌, ◌<◌, ℕ, List, Option, ap, codes, inl, inr, length, refl, subst, sym}
+use Rattle.std.proofs.Common.{◌∙◌, ◌++◌, ◌<◌, ℕ, List, Option, ap, codes, inr, length, subst, sym}
 use Rattle.std.specs.Prelude.{All, option_copied}
 use Rattle.armus_base.specs.declared.event.Event.{Event}
 use Rattle.armus_base.specs.declared.ids.TaskId.{TaskId}
