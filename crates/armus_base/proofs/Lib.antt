@@ -52,6 +52,7 @@ pub mod Counts
 pub mod WalkCycles
 pub mod Below
 pub mod StatusesAre
+pub mod StatusLists
 pub mod DeadByStatuses
 pub mod EndsTell
 pub mod ForkedTasks

@@ -11,6 +11,7 @@ pub mod Decisions
 pub mod Serial
 pub mod Relations
 pub mod Statuses
+pub mod StatusLists
 pub mod Finals
 pub mod RunLaws
 pub mod DeadlockLaws

@@ -11,11 +11,12 @@ use Rattle.armus_base.specs.Deadlocks.{IsListedOn}
 use Rattle.armus_base.specs.Finals.{given_below, is_awaited, is_event_of, statuses_on}
 use Rattle.armus_base.specs.calls.Statuses.{IsInOrder}
 use Rattle.armus_base.proofs.StatusesAre.{statuses_are}
+use Rattle.armus_base.specs.calls.StatusLists.{is_marked, status_among}
 use Rattle.board.specs.calls.Seats.{Frame, IsOf, Known}
 use Rattle.phase_scan.specs.calls.Collects.{CountsLoads, IsCollect, LoadsAwaits, LoadsRows}
 use Rattle.phase_scan.specs.calls.Collecting.{HasCollected}
 use Rattle.phase_scan.specs.declared.findings.Findings.{Findings}
-use Rattle.phase_scan.specs.calls.Tables.{awaited_in_findings, event_for, is_marked, state_of_findings, status_found, statuses_of_findings}
+use Rattle.phase_scan.specs.calls.Tables.{awaited_in_findings, event_for, state_of_findings, statuses_of_findings}
 use Rattle.phase_scan.proofs.Counting.{counts_loads}
 use Rattle.phase_scan.proofs.Farther.{IsPossible}
 use Rattle.phase_scan.proofs.Finds.{collect_finds}
@@ -52,8 +53,8 @@ tables_collect f before between now a b c tasks_a phasers_a tasks_b phasers_b ta
           (subst (λ n. LoadsRows b.phasers (is_awaited plan s) s n between now) tasks_now
           (subst (λ r. LoadsRows b.phasers r s b.tasks between now) asked rows));
       statuses =
-          ap (given_below (status_found c.phasers s (awaited_in_findings c))) (tasks_c ∙ tasks_now)
-          ∙ ap (λ n. given_below (status_found n s (awaited_in_findings c)) (length plan.parents)) (phasers_c ∙ phasers_now)
+          ap (given_below (status_among c.phasers s (awaited_in_findings c))) (tasks_c ∙ tasks_now)
+          ∙ ap (λ n. given_below (status_among n s (awaited_in_findings c)) (length plan.parents)) (phasers_c ∙ phasers_now)
           ∙ ap (statuses_on plan s) (ap is_marked marks ∙ asked);
     }
 

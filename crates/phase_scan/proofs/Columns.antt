@@ -1,6 +1,6 @@
 -- Columns of phases, one load more, and what they leave as it was.
 use mathlib.Core.Path.{fun_ext}
-use Rattle.std.proofs.Common.{◌≡◌, ℕ, zero, suc, ◌<◌, ◌≤◌, ◌+◌, Bool, true, false, List, Option, None, length, set, sym, refl, ap, ◌∙◌, subst, arith, add-one, get_or-set_same, get_or-set_other, inl, inr}
+use Rattle.std.proofs.Common.{◌≡◌, ℕ, zero, suc, ◌<◌, ◌≤◌, ◌+◌, Bool, true, false, List, Option, None, length, sym, refl, ap, ◌∙◌, subst, arith, add-one, inl, inr}
 use Rattle.std.specs.Prelude.{◌++◌, is_some, take, unwrap_or, vec_len, if◌then◌else◌}
 use Rattle.std.proofs.lemmas.List.{get_or_past, take-append-le, take_all}
 use Rattle.std.proofs.lemmas.Option.{slice_get_past}

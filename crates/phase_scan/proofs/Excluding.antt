@@ -1,8 +1,7 @@
 -- Who lies on no cycle of the statuses that are supposed, by the phases that were found.
 use Rattle.std.proofs.Common.{◌≡◌, ◌≢◌, ℕ, ◌<◌, Bool, true, false, List, Option, Some, None, length, get_or, sym, refl, ap, ◌∙◌, subst, arith, inl, inr}
-use Rattle.std.specs.Prelude.{Any, IfSome, unwrap_or}
+use Rattle.std.specs.Prelude.{IfSome, unwrap_or}
 use Rattle.std.proofs.lemmas.Bool.{cases_eq, cases_lt, false≢true}
-use Rattle.std.proofs.lemmas.List.{get_or_default, get_or_past}
 use Rattle.std.proofs.lemmas.Option.{slice_get_past}
 use Rattle.armus_base.specs.declared.event.Event.{Event}
 use Rattle.armus_base.specs.declared.ids.PhaserId.{PhaserId}
@@ -18,10 +17,10 @@ use Rattle.armus_base.specs.States.{Phases, State, updated}
 use Rattle.armus_base.proofs.Fixed.{some_before_from}
 use Rattle.armus_base.proofs.StatusesAre.{statuses_are}
 use Rattle.armus_base.proofs.Steps.{updated_other, updated_same}
+use Rattle.armus_base.specs.calls.StatusLists.{is_marked}
 use Rattle.phase_scan.specs.calls.OffCycle.{ImpedesSome, IsImpeded, IsOffCycle}
-use Rattle.phase_scan.specs.calls.Tables.{is_marked, state_supposed}
+use Rattle.phase_scan.specs.calls.Tables.{state_supposed}
 use Rattle.phase_scan.specs.inside.Behind.{ExcludesCycle, IsBehind, IsBehindGiven}
-use Rattle.phase_scan.specs.inside.Phases.{phase_in}
 
 -- the phaser of an event on which a task was found waiting is marked, so it is one of the marks
 pub phaser_within :

@@ -10,11 +10,11 @@ use Rattle.armus_base.specs.Finals.{is_event_of}
 use Rattle.armus_base.specs.CheckedPlans.{IsCheckedPlan}
 use Rattle.armus_base.specs.calls.Seats.{Found, await_word}
 use Rattle.armus_base.proofs.Steps.{updated_other, updated_same, with_phase_other, with_phase_same}
+use Rattle.armus_base.specs.calls.StatusLists.{AreNexts, IsNextMarked}
 use Rattle.board.specs.calls.Views.{seen}
 use Rattle.board.specs.calls.Steps.{IsSameSeat}
 use Rattle.board.specs.calls.Seats.{AnswersAwait, AnswersPhase, Frame, IsOf, Known}
 use Rattle.phase_scan.specs.calls.Collects.{IfAsked, LoadsAwaits, LoadsRow, LoadsRows, waiting_on}
-use Rattle.phase_scan.specs.inside.Nexts.{AreNexts, IsNextAsked}
 use Rattle.phase_scan.proofs.ChosenLoads.{chosen_same}
 use Rattle.phase_scan.proofs.Loads.{published_phaser}
 use Rattle.phase_scan.proofs.Standing.{waits_unrefused, word_published}
@@ -101,12 +101,12 @@ row_up_to asked t f (suc d) p k m before none =
     (row_up_to asked t f d (p + 1) k m (row_skip asked t f p k m before (none p (omega arith) (omega arith))) (λ q a b. none q (omega arith) (omega arith)))
 
 -- what is read of the list of next ones
-pub next_read : (asked : ℕ → Bool) (n : ℕ) (nexts : List ℕ) (p r : ℕ) → AreNexts asked n nexts → length nexts ≡ n + 1 → p ≤ n → r ≡ get_or nexts p r → IsNextAsked asked n p r
+pub next_read : (asked : ℕ → Bool) (n : ℕ) (nexts : List ℕ) (p r : ℕ) → AreNexts asked n nexts → length nexts ≡ n + 1 → p ≤ n → r ≡ get_or nexts p r → IsNextMarked asked n p r
 next_read asked n nexts p r are room few read =
-    subst (λ v. IsNextAsked asked n p v) (sym (read ∙ get_or_default nexts p r 0 (omega arith))) (are p few)
+    subst (λ v. IsNextMarked asked n p v) (sym (read ∙ get_or_default nexts p r 0 (omega arith))) (are p few)
 
 -- and to the next one that is
-pub row_to_next : (asked : ℕ → Bool) (t : ℕ) (f : Phases) (n p g : ℕ) (k m : Known) → LoadsRow asked t f p k m → IsNextAsked asked n p g → LoadsRow asked t f g k m
+pub row_to_next : (asked : ℕ → Bool) (t : ℕ) (f : Phases) (n p g : ℕ) (k m : Known) → LoadsRow asked t f p k m → IsNextMarked asked n p g → LoadsRow asked t f g k m
 row_to_next asked t f n p g k m before next =
     let from = next.from in
     let same : p + (g - p) ≡ g = omega arith in

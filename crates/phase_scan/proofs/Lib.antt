@@ -10,7 +10,7 @@ pub mod Finds
 pub mod Counting
 pub mod Tables
 pub mod Columns
-pub mod WithOwn
+pub mod Supposed
 pub mod Excluding
 pub mod Supposes
 pub mod Keeping

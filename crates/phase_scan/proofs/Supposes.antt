@@ -9,6 +9,7 @@ use Rattle.armus_base.specs.calls.Places.{phases_at_place}
 use Rattle.armus_base.specs.Places.{some_before}
 use Rattle.armus_base.specs.States.{Phases, updated}
 use Rattle.armus_base.specs.Finals.{given_below, is_awaited, is_event_of, statuses_on}
+use Rattle.armus_base.specs.calls.StatusLists.{status_among}
 use Rattle.board.specs.calls.Views.{place_in, task_of}
 use Rattle.board.specs.calls.Steps.{own_phase}
 use Rattle.board.specs.calls.Seats.{Frame, IsOf, IsSeat, Known}
@@ -16,7 +17,7 @@ use Rattle.phase_scan.specs.calls.Looks.{LoadsAlone}
 use Rattle.phase_scan.specs.calls.Supposed.{IsSupposed, LoadsColumn, phase_used}
 use Rattle.phase_scan.specs.calls.OffCycle.{SupposesOrExcludes}
 use Rattle.phase_scan.specs.declared.findings.Findings.{Findings}
-use Rattle.phase_scan.specs.calls.Tables.{awaited_in_findings, event_for, state_of_findings, state_supposed, status_found, statuses_of_findings}
+use Rattle.phase_scan.specs.calls.Tables.{awaited_in_findings, event_for, state_of_findings, state_supposed, statuses_of_findings}
 use Rattle.phase_scan.specs.inside.Behind.{ExcludesCycle}
 use Rattle.phase_scan.specs.inside.Phases.{phase_in}
 use Rattle.phase_scan.specs.inside.Supposing.{KeepsColumn}
@@ -75,8 +76,8 @@ module _ (f : Frame) (before between now : Known) (fd : Findings) (event : Event
           found = s;
           column = keeps.loaded;
           statuses =
-              ap (given_below (status_found fd.phasers s (awaited_in_findings fd))) tasks
-              ∙ ap (λ n. given_below (status_found n s (awaited_in_findings fd)) (length f.plan.parents)) phasers
+              ap (given_below (status_among fd.phasers s (awaited_in_findings fd))) tasks
+              ∙ ap (λ n. given_below (status_among n s (awaited_in_findings fd)) (length f.plan.parents)) phasers
               ∙ ap (statuses_on f.plan s) asked;
           loads = loads_here;
           supposed_are = is;
@@ -84,7 +85,7 @@ module _ (f : Frame) (before between now : Known) (fd : Findings) (event : Event
 
     pub supposes :
         (list : List Status) →
-        list ≡ given_below (status_found fd.phasers (state_supposed (state_of_findings fd) t event (own_phase between.view) (phase_in column))
+        list ≡ given_below (status_among fd.phasers (state_supposed (state_of_findings fd) t event (own_phase between.view) (phase_in column))
         (updated (awaited_in_findings fd) event.p.0 true)) fd.tasks →
         IsSupposed f.plan (statuses_of_findings fd) event list before now
     supposes list is =
@@ -93,8 +94,8 @@ module _ (f : Frame) (before between now : Known) (fd : Findings) (event : Event
         let too = updated (awaited_in_findings fd) event.p.0 true in
         supposes_these list
         (is
-        ∙ ap (given_below (status_found fd.phasers found too)) tasks
-        ∙ ap (λ n. given_below (status_found n found too) (length f.plan.parents)) phasers
+        ∙ ap (given_below (status_among fd.phasers found too)) tasks
+        ∙ ap (λ n. given_below (status_among n found too) (length f.plan.parents)) phasers
         ∙ (λ i. statuses_on f.plan (state_supposed s (task i) event (phases i) (used i)) (updated (asked i) event.p.0 true)))
 
     pub excludes :

@@ -1,21 +1,17 @@
 -- The tables of a collect: what a read and a write say, and the lists of statuses that they give.
 use mathlib.Core.Path.{fun_ext}
-use Rattle.std.proofs.Common.{◌≡◌, ◌≢◌, ℕ, zero, suc, ◌<◌, ◌≤◌, ◌+◌, ◌-◌, ◌*◌, Bool, true, false, List, [], ◌∷◌, ◌++◌, Option, Some, None, length, set, arith, sym, ◌∙◌, ap, subst, refl, inl, inr}
-use Rattle.std.specs.Prelude.{nat_lt, slice_get, unwrap_or, if◌then◌else◌, option_map, option_to_list, ◌||◌}
+use Rattle.std.proofs.Common.{◌≡◌, ◌≢◌, ℕ, zero, suc, ◌<◌, ◌≤◌, ◌+◌, ◌*◌, Bool, true, false, List, [], ◌++◌, Option, None, length, set, arith, sym, ◌∙◌, ap, subst, refl, inl, inr}
+use Rattle.std.specs.Prelude.{nat_lt, slice_get, unwrap_or, if◌then◌else◌, option_to_list, ◌||◌}
 use Rattle.std.proofs.lemmas.Bool.{cases_eq, cases_lt}
 use Rattle.std.proofs.lemmas.Nat.{same_from_place}
-use Rattle.armus_base.specs.declared.event.Event.{Event}
-use Rattle.armus_base.specs.declared.status.Member.{Member}
 use Rattle.armus_base.specs.declared.status.Status.{Status}
-use Rattle.armus_base.specs.Finals.{given_below, listed_phase}
+use Rattle.armus_base.specs.Finals.{given_below}
 use Rattle.armus_base.specs.Places.{some_before}
-use Rattle.armus_base.specs.States.{Phases, State, with_phase}
+use Rattle.armus_base.specs.States.{with_phase}
 use Rattle.armus_base.specs.calls.Statuses.{IsInOrder}
 use Rattle.armus_base.proofs.Steps.{with_phase_same, with_phase_other}
 use Rattle.armus_base.proofs.Lists.{slice_get-set_same, slice_get-set_other}
-use Rattle.armus_base.proofs.Below.{given_below_more, given_below_none}
-use Rattle.phase_scan.specs.inside.Nexts.{IsNextAsked}
-use Rattle.phase_scan.specs.calls.Tables.{phases_of_found, status_found}
+use Rattle.phase_scan.specs.calls.Tables.{phases_of_found}
 
 -- inside the table
 pub cell_is : (w : ℕ) (cells : List (Option ℕ)) (t p : ℕ) → p < w → phases_of_found w cells t p ≡ unwrap_or (slice_get cells (t * w + p)) None
@@ -66,56 +62,11 @@ cell_set w cells t p c l within =
         ∙ sym (cell_is w cells u q inside)
         ∙ sym (with_phase_other (phases_of_found w cells) t p c u q n)
 
--- up to the next asked number nothing is listed
-pub listed_up_to : (asked : ℕ → Bool) (m : Phases) (d p : ℕ) → ((q : ℕ) → p ≤ q → q < p + d → asked q ≡ false) →
-    given_below (listed_phase asked m) p ≡ given_below (listed_phase asked m) (p + d)
-listed_up_to asked m zero p none = (let same : p ≡ p + 0 = omega arith in ap (given_below (listed_phase asked m)) same)
-listed_up_to asked m (suc d) p none =
-    given_below_none (listed_phase asked m) p (given_below (listed_phase asked m) p) refl
-    (ap (λ b. if b then option_map (λ n. record { p = record { 0 = p }; n = n }) (m p) else None) (none p (omega arith) (omega arith)))
-    ∙ listed_up_to asked m d (p + 1) (λ q a b. none q (omega arith) (omega arith))
-    ∙ (let same : p + 1 + d ≡ p + suc d = omega arith in ap (given_below (listed_phase asked m)) same)
-
-pub listed_to_next : (asked : ℕ → Bool) (m : Phases) (n p g : ℕ) (xs : List Member) → xs ≡ given_below (listed_phase asked m) p → IsNextAsked asked n p g →
-    xs ≡ given_below (listed_phase asked m) g
-listed_to_next asked m n p g xs is next =
-    let from = next.from in
-    let same : p + (g - p) ≡ g = omega arith in
-    is ∙ listed_up_to asked m (g - p) p (λ q a b. next.none q a (omega arith)) ∙ ap (given_below (listed_phase asked m)) same
-
+-- a function that gives nothing
 pub given_below_nothing : {A : Type 0} (f : ℕ → Option A) (n : ℕ) → ((k : ℕ) → f k ≡ None) → given_below f n ≡ []
 given_below_nothing f zero none = refl
 given_below_nothing f (suc n) none =
     ap (λ xs. xs ++ option_to_list (f n)) (given_below_nothing f n none) ∙ ap (λ o. [] ++ option_to_list o) (none n)
-
--- the status of a task found waiting, and of one that was not
-pub status_some :
-    (phasers : ℕ) (s : State) (asked : ℕ → Bool) (t : ℕ) (e : Event) (phases : List Member) → s.published t ≡ Some e →
-    phases ≡ given_below (listed_phase asked (s.phases t)) phasers →
-    status_found phasers s asked t ≡ Some (record { t = record { 0 = t }; event = e; phases = phases })
-status_some phasers s asked t e phases p same =
-    ap (option_map (λ f. record { t = record { 0 = t }; event = f; phases = given_below (listed_phase asked (s.phases t)) phasers })) p
-    ∙ ap (λ ms. Some (record { t = record { 0 = t }; event = e; phases = ms })) (sym same)
-
-pub status_none : (phasers : ℕ) (s : State) (asked : ℕ → Bool) (t : ℕ) → s.published t ≡ None → status_found phasers s asked t ≡ None
-status_none phasers s asked t p =
-    ap (option_map (λ f. record { t = record { 0 = t }; event = f; phases = given_below (listed_phase asked (s.phases t)) phasers })) p
-
--- one task more in the list, which was found waiting or was not
-pub one_status :
-    (phasers : ℕ) (s : State) (asked : ℕ → Bool) (t : ℕ) (e : Event) (phases : List Member) (before now : List Status) →
-    now ≡ before ++ record { t = record { 0 = t }; event = e; phases = phases } ∷ [] → before ≡ given_below (status_found phasers s asked) t →
-    s.published t ≡ Some e → phases ≡ given_below (listed_phase asked (s.phases t)) phasers → now ≡ given_below (status_found phasers s asked) (t + 1)
-one_status phasers s asked t e phases before now pushed is on same =
-    pushed
-    ∙ given_below_more (status_found phasers s asked) t (record { t = record { 0 = t }; event = e; phases = phases }) before is
-    (status_some phasers s asked t e phases on same)
-
-pub no_status :
-    (phasers : ℕ) (s : State) (asked : ℕ → Bool) (t : ℕ) (before now : List Status) → now ≡ before → before ≡ given_below (status_found phasers s asked) t →
-    s.published t ≡ None → now ≡ given_below (status_found phasers s asked) (t + 1)
-no_status phasers s asked t before now same is none =
-    same ∙ given_below_none (status_found phasers s asked) t before is (status_none phasers s asked t none)
 
 -- the empty list is in order
 pub nothing_in_order : (list : List Status) → list ≡ [] → IsInOrder list

@@ -1,4 +1,3 @@
-pub mod Nexts
 pub mod Cells
 pub mod Phases
 pub mod Behind

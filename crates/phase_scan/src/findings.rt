@@ -1,16 +1,17 @@
 // What the loads of a collect found.
 ghost use Rattle.std.specs.Prelude.{◌≡◌, ℕ, ◌+◌, ◌<◌, ◌*◌, ◌^◌, Some, None, false, ◌||◌, IfOk, IfSome, length, vec_len};
 ghost use Rattle.armus_base.specs.CheckedPlans.{IsCheckedPlan};
-ghost use Rattle.armus_base.specs.Finals.{given_below, is_event_of, listed_phase};
+ghost use Rattle.armus_base.specs.Finals.{is_event_of};
 ghost use Rattle.armus_base.specs.States.{updated};
+ghost use Rattle.armus_base.specs.calls.StatusLists.{AreNexts};
 ghost use Rattle.board.specs.calls.Seats.{IsOf};
 ghost use Rattle.board.specs.calls.Views.{found_of};
 ghost use Rattle.phase_scan.specs.calls.Collects.{LoadsRows, waiting_on};
-ghost use Rattle.phase_scan.specs.inside.Nexts.{AreNexts};
 
-use crate::nexts::{fill_nexts, nexts_of};
 use crate::phase_table::PhaseTable;
-use armus_base::{Event, List, Member, NoMemory, Phase, PhaserId, Status, TaskId};
+use armus_base::{
+    Event, List, NoMemory, Phase, PhaserId, ShowsTasks, Status, TaskId, fill_nexts, list_statuses,
+};
 use board::{Board, Loads, Seen};
 use std::alloc::Global;
 
@@ -107,7 +108,7 @@ impl Findings {
             let seen = by.load_await(board, t);
             self.keep_event(t, waiting(seen));
         }
-        fill_nexts(self.nexts.as_mut_slice(), self.awaited.as_slice(), None);
+        fill_nexts(self.nexts.as_mut_slice(), self.awaited.as_slice());
     }
 
     // Loads the phase words of a task on the phasers found awaited, in order.
@@ -162,21 +163,6 @@ impl Findings {
         self.awaited.iter().filter(|awaited| **awaited).count() as u64
     }
 
-    // The phase of a task that was found on a phaser found awaited.
-    pub(crate) fn listed(&self, t: TaskId, p: PhaserId) -> Option<Member>
-        requires task { t.0 < self.now.tasks }
-        requires phaser { p.0 < self.now.phasers }
-        ensures { result ≡ listed_phase (awaited_in_findings self.now) ((state_of_findings self.now).phases t.0) p.0 }
-    {
-        if !self.awaited[p.0 as usize] {
-            return None;
-        }
-        match self.phases.get(t.0 as usize, p.0 as usize) {
-            Some(n) => Some(Member { p, n }),
-            None => None,
-        }
-    }
-
     /// The phase of a task on `p` that counts, if it was found waiting: where `p` was found awaited that which was found then, and else this one, which was
     /// loaded later.
     pub(crate) fn phase_used(&self, t: TaskId, p: PhaserId, loaded: Option<Phase>) -> Option<Phase>
@@ -193,45 +179,36 @@ impl Findings {
         loaded
     }
 
-    // The phases of a task that were found on the phasers found awaited.
-    fn members(&self, alloc: Global, t: TaskId, nexts: &[u32]) -> Result<Vec<Member>, NoMemory>
-        requires task { t.0 < self.now.tasks }
-        requires room { length nexts.now ≡ self.now.phasers + 1 }
-        requires nexts { AreNexts (awaited_in_findings self.now) self.now.phasers nexts.now }
-        ensures { IfOk result (λ list. list.items ≡ given_below (listed_phase (awaited_in_findings self.now) ((state_of_findings self.now).phases t.0)) self.now.phasers) }
-    {
-        let mut members = Vec::new(alloc);
-        let mut p = nexts[0];
-        'row: while p < self.phasers {
-            match self.listed(t, PhaserId(p)) {
-                Some(member) => members.push(member)?,
-                None => {}
-            }
-            p = nexts[p as usize + 1];
-        }
-        Ok(members)
-    }
-
     /// The statuses of what was found.
     pub(crate) fn statuses(&self, alloc: Global) -> Result<List<Status>, NoMemory>
         ensures { IfOk result (λ list. list ≡ statuses_of_findings self.now) }
     {
-        let nexts = nexts_of(alloc, self.awaited.as_slice(), None)?;
-        let mut statuses = Vec::new(alloc);
-        for number in 0..self.tasks {
-            let t = TaskId(number);
-            match self.events[number as usize] {
-                Some(event) => {
-                    let phases = self.members(alloc, t, nexts.as_slice())?;
-                    statuses.push(Status {
-                        t,
-                        event,
-                        phases: List::from_vec(phases),
-                    })?;
-                }
-                None => {}
-            }
-        }
-        Ok(List::from_vec(statuses))
+        list_statuses(alloc, self, self.awaited.as_slice())
+    }
+}
+
+impl ShowsTasks for Findings {
+    ghost use Rattle.phase_scan.specs.calls.Tables.{state_of_findings};
+
+    ghost tasks = { λ f. f.tasks };
+
+    ghost phasers = { λ f. f.phasers };
+
+    ghost state = { state_of_findings };
+
+    fn tasks(&self) -> u32 {
+        self.tasks
+    }
+
+    fn phasers(&self) -> u32 {
+        self.phasers
+    }
+
+    fn published(&self, t: TaskId) -> Option<Event> {
+        self.events[t.0 as usize]
+    }
+
+    fn phase(&self, t: TaskId, p: PhaserId) -> Option<Phase> {
+        self.phases.get(t.0 as usize, p.0 as usize)
     }
 }

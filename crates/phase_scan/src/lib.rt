@@ -4,10 +4,10 @@
 mod answer;
 mod cells;
 mod findings;
-mod nexts;
 mod off_cycle;
 mod phase_table;
 mod scan;
+mod supposed_findings;
 mod supposing;
 
 pub use answer::Look;

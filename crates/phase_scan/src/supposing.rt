@@ -1,28 +1,50 @@
 // What was found, with the status that a task would have.
-ghost use Rattle.std.specs.Prelude.{◌≡◌, ◌+◌, ◌<◌, Some, None, IfOk, is_some, length};
-ghost use Rattle.armus_base.specs.Finals.{given_below, listed_phase};
+ghost use Rattle.std.specs.Prelude.{◌≡◌, ℕ, ◌<◌, true, Some, None, IfOk, is_some, length};
+ghost use Rattle.armus_base.specs.calls.StatusLists.{is_marked};
 ghost use Rattle.armus_base.specs.States.{updated};
 ghost use Rattle.board.specs.calls.Seats.{AnswersPhase, IsOf};
 ghost use Rattle.board.specs.calls.Steps.{own_phase};
 ghost use Rattle.phase_scan.specs.calls.Collects.{IfAsked};
-ghost use Rattle.phase_scan.specs.inside.Nexts.{AreNexts};
 ghost use Rattle.phase_scan.specs.calls.Tables.{event_for};
 ghost use Rattle.phase_scan.specs.inside.Phases.{phase_in};
-ghost use Rattle.phase_scan.specs.inside.Supposing.{KeepsColumn, awaited_too, members_on, phases_with, status_supposed};
+ghost use Rattle.phase_scan.specs.inside.Supposing.{KeepsColumn, awaited_too, statuses_supposed};
 
 use crate::findings::Findings;
-use crate::nexts::nexts_of;
-use armus_base::{Event, List, Member, NoMemory, Phase, PhaserId, Status, TaskId};
+use crate::supposed_findings::SupposedFindings;
+use armus_base::{Event, List, NoMemory, Phase, PhaserId, Status, TaskId, list_statuses};
 use board::{Board, Loads, TaskSeat};
 use std::alloc::Global;
 
-// Keeps the phase of a task in a column.
-fn keep(column: &mut [Option<Phase>], t: TaskId, phase: Option<Phase>)
-    requires task { t.0 < length column.old }
-    ensures count { length column.new ≡ length column.old }
-    ensures set { phase_in column.new ≡ updated (phase_in column.old) t.0 phase }
+// Keeps a phase in a row or a column of them.
+fn keep(phases: &mut [Option<Phase>], k: usize, phase: Option<Phase>)
+    requires inside { k < length phases.old }
+    ensures count { length phases.new ≡ length phases.old }
+    ensures set { phase_in phases.new ≡ updated (phase_in phases.old) k phase }
 {
-    column[t.0 as usize] = phase;
+    phases[k] = phase;
+}
+
+// The own phases on the marked phasers; on the others there is none.
+fn own_phases(
+    alloc: Global,
+    seat: &mut TaskSeat,
+    board: &Board,
+    marks: &[bool],
+) -> Result<Vec<Option<Phase>>, NoMemory>
+    requires made { IsOf seat.old board.now }
+    requires phasers { length marks.now ≡ length board.now.plan.makers }
+    ensures seat { seat.new ≡ seat.old }
+    ensures count { IfOk result (λ own. length own.items ≡ length marks.now) }
+    ensures phases { IfOk result (λ own. (p : ℕ) → is_marked marks.now p ≡ true → phase_in own.items p ≡ own_phase seat.old.view p) }
+{
+    let mut own = vec![in alloc; None; marks.len()]?;
+    for number in 0..board.phasers() {
+        if marks[number as usize] {
+            let phase = seat.phase(board, PhaserId(number));
+            keep(own.as_mut_slice(), number as usize, phase);
+        }
+    }
+    Ok(own)
 }
 
 impl Findings {
@@ -69,151 +91,19 @@ impl Findings {
             let t = TaskId(number);
             let loaded = self.load_waiting(seat, board, t, p);
             let used = self.phase_used(t, p, loaded);
-            keep(column, t, used);
+            keep(column, number as usize, used);
         }
     }
 
-    // The phase of a task on `q` that was found, where `q` was found awaited or is `p`, on which this one counts.
-    fn listed_with(
-        &self,
-        t: TaskId,
-        q: PhaserId,
-        p: PhaserId,
-        found: Option<Phase>,
-    ) -> Option<Member>
-        requires task { t.0 < self.now.tasks }
-        requires phaser { q.0 < self.now.phasers }
-        ensures { result ≡ listed_phase (awaited_too self.now p.0) (phases_with self.now t.0 p.0 found) q.0 }
+    // Which phasers were found awaited, and this one.
+    fn awaited_too(&self, p: PhaserId) -> Result<Vec<bool>, NoMemory>
+        requires phaser { p.0 < self.now.phasers }
+        ensures count { IfOk result (λ marks. length marks.items ≡ self.now.phasers) }
+        ensures marks { IfOk result (λ marks. is_marked marks.items ≡ awaited_too self.now p.0) }
     {
-        if q.0 != p.0 {
-            return self.listed(t, q);
-        }
-        match found {
-            Some(n) => Some(Member { p: q, n }),
-            None => None,
-        }
-    }
-
-    // The phases of a task that were found, with that on `p`.
-    fn members_with(
-        &self,
-        alloc: Global,
-        t: TaskId,
-        p: PhaserId,
-        found: Option<Phase>,
-        nexts: &[u32],
-    ) -> Result<Vec<Member>, NoMemory>
-        requires task { t.0 < self.now.tasks }
-        requires room { length nexts.now ≡ self.now.phasers + 1 }
-        requires nexts { AreNexts (awaited_too self.now p.0) self.now.phasers nexts.now }
-        ensures { IfOk result (λ list. list.items ≡ members_on self.now p.0 (phases_with self.now t.0 p.0 found)) }
-    {
-        let mut members = Vec::new(alloc);
-        let mut q = nexts[0];
-        'row: while q < self.phasers {
-            match self.listed_with(t, PhaserId(q), p, found) {
-                Some(member) => members.push(member)?,
-                None => {}
-            }
-            q = nexts[q as usize + 1];
-        }
-        Ok(members)
-    }
-
-    // The own phase on `q`, where `q` was found awaited or is `p`.
-    fn own_listed(
-        &self,
-        seat: &mut TaskSeat,
-        board: &Board,
-        q: PhaserId,
-        p: PhaserId,
-    ) -> Option<Member>
-        requires made { IsOf seat.old board.now }
-        requires phasers { self.now.phasers ≡ length board.now.plan.makers }
-        requires phaser { q.0 < self.now.phasers }
-        ensures seat { seat.new ≡ seat.old }
-        ensures listed { result ≡ listed_phase (awaited_too self.now p.0) (own_phase seat.old.view) q.0 }
-    {
-        if q.0 != p.0 {
-            if !self.awaited[q.0 as usize] {
-                return None;
-            }
-        }
-        match seat.phase(board, q) {
-            Some(n) => Some(Member { p: q, n }),
-            None => None,
-        }
-    }
-
-    // The own phases, on the phasers found awaited and on `p`.
-    fn own_members(
-        &self,
-        alloc: Global,
-        seat: &mut TaskSeat,
-        board: &Board,
-        p: PhaserId,
-        nexts: &[u32],
-    ) -> Result<Vec<Member>, NoMemory>
-        requires made { IsOf seat.old board.now }
-        requires phasers { self.now.phasers ≡ length board.now.plan.makers }
-        requires room { length nexts.now ≡ self.now.phasers + 1 }
-        requires nexts { AreNexts (awaited_too self.now p.0) self.now.phasers nexts.now }
-        ensures seat { seat.new ≡ seat.old }
-        ensures members { IfOk result (λ list. list.items ≡ members_on self.now p.0 (own_phase seat.old.view)) }
-    {
-        let mut members = Vec::new(alloc);
-        let mut q = nexts[0];
-        'row: while q < self.phasers {
-            match self.own_listed(seat, board, PhaserId(q), p) {
-                Some(member) => members.push(member)?,
-                None => {}
-            }
-            q = nexts[q as usize + 1];
-        }
-        Ok(members)
-    }
-
-    // The status of task `u`, where task `t` has published the event.
-    fn status_with(
-        &self,
-        alloc: Global,
-        seat: &mut TaskSeat,
-        board: &Board,
-        t: TaskId,
-        event: Event,
-        column: &[Option<Phase>],
-        nexts: &[u32],
-        u: TaskId,
-    ) -> Result<Option<Status>, NoMemory>
-        requires made { IsOf seat.old board.now }
-        requires phasers { self.now.phasers ≡ length board.now.plan.makers }
-        requires task { u.0 < self.now.tasks }
-        requires count { length column.now ≡ self.now.tasks }
-        requires room { length nexts.now ≡ self.now.phasers + 1 }
-        requires nexts { AreNexts (awaited_too self.now event.p.0) self.now.phasers nexts.now }
-        ensures seat { seat.new ≡ seat.old }
-        ensures status { IfOk result (λ o. o ≡ status_supposed self.now t.0 event (own_phase seat.old.view) column.now u.0) }
-    {
-        if u.0 == t.0 {
-            let phases = self.own_members(alloc, seat, board, event.p, nexts)?;
-            return Ok(Some(Status {
-                t: u,
-                event,
-                phases: List::from_vec(phases),
-            }));
-        }
-        match self.events[u.0 as usize] {
-            Some(waits) => {
-                let found = column[u.0 as usize];
-                let phases = self.members_with(alloc, u, event.p, found, nexts)?;
-                Ok(Some(Status {
-                    t: u,
-                    event: waits,
-                    phases: List::from_vec(phases),
-                }))
-            }
-            None => Ok(None),
-        }
+        let mut marks = self.awaited.clone()?;
+        marks[p.0 as usize] = true;
+        Ok(marks)
     }
 
     /// The statuses of what was found, where task `t` has published the event, with this column of phases on the event's phaser.
@@ -228,19 +118,20 @@ impl Findings {
     ) -> Result<List<Status>, NoMemory>
         requires made { IsOf seat.old board.now }
         requires phasers { self.now.phasers ≡ length board.now.plan.makers }
+        requires event { event.p.0 < self.now.phasers }
         requires count { length column.now ≡ self.now.tasks }
         ensures seat { seat.new ≡ seat.old }
-        ensures statuses { IfOk result (λ list. list ≡ given_below (status_supposed self.now t.0 event (own_phase seat.old.view) column.now) self.now.tasks) }
+        ensures statuses { IfOk result (λ list. list ≡ statuses_supposed self.now t.0 event (own_phase seat.old.view) column.now) }
     {
-        let nexts = nexts_of(alloc, self.awaited.as_slice(), Some(event.p))?;
-        let mut statuses = Vec::new(alloc);
-        for number in 0..self.tasks {
-            let u = TaskId(number);
-            match self.status_with(alloc, seat, board, t, event, column, nexts.as_slice(), u)? {
-                Some(status) => statuses.push(status)?,
-                None => {}
-            }
-        }
-        Ok(List::from_vec(statuses))
+        let marks = self.awaited_too(event.p)?;
+        let own = own_phases(alloc, seat, board, &marks)?;
+        let supposed = SupposedFindings {
+            found: self,
+            t,
+            event,
+            own: own.as_slice(),
+            column,
+        };
+        list_statuses(alloc, &supposed, &marks)
     }
 }

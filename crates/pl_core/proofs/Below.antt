@@ -1,45 +1,18 @@
--- Lists of what a function gives for the numbers below a bound: one number more, and two functions that agree.
-use Rattle.std.proofs.Common.{◌≡◌, ℕ, zero, suc, ◌<◌, ◌+◌, Bool, true, false, List, [], ◌∷◌, ◌++◌, Option, Some, None, length, set, replicate, add-one, arith, sym, ◌∙◌, ap, subst, refl, inl, inr}
-use Rattle.std.specs.Prelude.{option_map, option_to_list, unwrap_or, ◌==◌, ◌||◌, if◌then◌else◌}
+-- What is asked for: beyond the phasers it does not matter, and the awaited phasers are asked with one task more.
+use Rattle.std.proofs.Common.{◌≡◌, ℕ, zero, suc, ◌<◌, ◌+◌, Bool, true, false, List, Option, Some, None, length, set, replicate, add-one, arith, sym, ◌∙◌, ap, subst, refl, inl, inr}
+use Rattle.std.specs.Prelude.{option_map, unwrap_or, ◌==◌, ◌||◌, if◌then◌else◌}
 use Rattle.std.proofs.lemmas.Bool.{cases_eq}
 use Rattle.std.proofs.lemmas.Bool.Decides.{nat_tests}
-use Rattle.std.proofs.lemmas.List.{append-nil}
 use Rattle.armus_base.specs.declared.event.Event.{Event}
-use Rattle.armus_base.specs.declared.status.Member.{Member}
 use Rattle.armus_base.specs.Finals.{given_below, is_event_of, listed_phase, status_of, statuses_on}
 use Rattle.armus_base.specs.Places.{some_before}
 use Rattle.armus_base.specs.Plans.{Plan}
 use Rattle.armus_base.specs.States.{State}
+use Rattle.armus_base.proofs.Below.{given_below_same}
 use Rattle.armus_base.specs.declared.ids.TaskId.{TaskId}
-use Rattle.pl_core.specs.inside.Reading.{is_asked}
+use Rattle.armus_base.specs.calls.StatusLists.{is_marked}
 use Rattle.pl_core.specs.inside.Supposed.{with_also}
 use Rattle.pl_core.proofs.Cells.{slice_get-set_same, slice_get-set_other}
-
-pub given_below_more : {A : Type 0} (f : ℕ → Option A) (n : ℕ) (x : A) (xs : List A) → xs ≡ given_below f n → f n ≡ Some x → xs ++ x ∷ [] ≡ given_below f (n + 1)
-given_below_more f n x xs e h = ap (λ ys. ys ++ x ∷ []) e ∙ ap (λ o. given_below f n ++ option_to_list o) (sym h) ∙ ap (given_below f) (sym (add-one n))
-
-pub given_below_none : {A : Type 0} (f : ℕ → Option A) (n : ℕ) (xs : List A) → xs ≡ given_below f n → f n ≡ None → xs ≡ given_below f (n + 1)
-given_below_none f n xs e h =
-    e ∙ sym (append-nil (given_below f n)) ∙ ap (λ o. given_below f n ++ option_to_list o) (sym h) ∙ ap (given_below f) (sym (add-one n))
-
-pub given_below_same : {A : Type 0} (f g : ℕ → Option A) (n : ℕ) → ((k : ℕ) → k < n → f k ≡ g k) → given_below f n ≡ given_below g n
-given_below_same f g zero same = refl
-given_below_same f g (suc n) same =
-    ap (λ xs. xs ++ option_to_list (f n)) (given_below_same f g n (λ k l. same k (omega arith)))
-    ∙ ap (λ o. given_below g n ++ option_to_list o) (same n (omega arith))
-
--- the status of a published task, and of one that is not
-pub status_some :
-    (plan : Plan) (s : State) (asked : ℕ → Bool) (t : ℕ) (e : Event) (phases : List Member) → s.published t ≡ Some e →
-    phases ≡ given_below (listed_phase asked (s.phases t)) (length plan.makers) →
-    status_of plan s asked t ≡ Some (record { t = record { 0 = t }; event = e; phases = phases })
-status_some plan s asked t e phases p same =
-    ap (option_map (λ f. record { t = record { 0 = t }; event = f; phases = given_below (listed_phase asked (s.phases t)) (length plan.makers) })) p
-    ∙ ap (λ ms. Some (record { t = record { 0 = t }; event = e; phases = ms })) (sym same)
-
-pub status_none : (plan : Plan) (s : State) (asked : ℕ → Bool) (t : ℕ) → s.published t ≡ None → status_of plan s asked t ≡ None
-status_none plan s asked t p =
-    ap (option_map (λ f. record { t = record { 0 = t }; event = f; phases = given_below (listed_phase asked (s.phases t)) (length plan.makers) })) p
 
 -- to suppose that a task is published changes no phases
 pub phases_also : (s : State) (also : Option (TaskId × Event)) → (with_also s also).phases ≡ s.phases
@@ -60,20 +33,20 @@ statuses_same plan s asked asked' same =
         (λ p l. ap (λ b. if b then option_map (λ k. record { p = record { 0 = p }; n = k }) (s.phases t p) else None) (same p l))
 
 -- the phasers of a list of copies
-pub asked_of_copies : (n p : ℕ) (b : Bool) → p < n → is_asked (replicate n b) p ≡ b
+pub asked_of_copies : (n p : ℕ) (b : Bool) → p < n → is_marked (replicate n b) p ≡ b
 asked_of_copies zero p b l = absurd (omega arith)
 asked_of_copies (suc n) zero b l = refl
 asked_of_copies (suc n) (suc p) b l = asked_of_copies n p b (omega arith)
 
 -- the awaited phasers among the first tasks, with one task more
-module _ (s : State) (asked : List Bool) (t : ℕ) (before : (p : ℕ) → p < length asked → is_asked asked p ≡ some_before (λ u. is_event_of p (s.published u)) t) where
+module _ (s : State) (asked : List Bool) (t : ℕ) (before : (p : ℕ) → p < length asked → is_marked asked p ≡ some_before (λ u. is_event_of p (s.published u)) t) where
   pub awaited_more :
       (e : Event) → s.published t ≡ Some e → (p : ℕ) → p < length asked →
-      is_asked (set asked e.p.0 true) p ≡ some_before (λ u. is_event_of p (s.published u)) (t + 1)
+      is_marked (set asked e.p.0 true) p ≡ some_before (λ u. is_event_of p (s.published u)) (t + 1)
   awaited_more e is p l =
       elim (cases_eq p e.p.0) [
         | inl same ↦
-            subst (λ v. is_asked (set asked e.p.0 true) v ≡ some_before (λ u. is_event_of v (s.published u)) (t + 1)) (sym same)
+            subst (λ v. is_marked (set asked e.p.0 true) v ≡ some_before (λ u. is_event_of v (s.published u)) (t + 1)) (sym same)
             (ap (λ o. unwrap_or o false) (slice_get-set_same asked e.p.0 true (omega arith))
             ∙ ap (λ b. b || some_before (λ u. is_event_of e.p.0 (s.published u)) t) (sym (ap (is_event_of e.p.0) is ∙ itself e.p.0))
             ∙ ap (some_before (λ u. is_event_of e.p.0 (s.published u))) (sym (add-one t)))
@@ -91,7 +64,7 @@ module _ (s : State) (asked : List Bool) (t : ℕ) (before : (p : ℕ) → p < l
       apart p q n = grind (arith, nat_tests)
 
   pub awaited_none :
-      s.published t ≡ None → (p : ℕ) → p < length asked → is_asked asked p ≡ some_before (λ u. is_event_of p (s.published u)) (t + 1)
+      s.published t ≡ None → (p : ℕ) → p < length asked → is_marked asked p ≡ some_before (λ u. is_event_of p (s.published u)) (t + 1)
   awaited_none is p l =
       before p l
       ∙ ap (λ b. b || some_before (λ u. is_event_of p (s.published u)) t) (sym (ap (is_event_of p) is))

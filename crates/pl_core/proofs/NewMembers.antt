@@ -1,5 +1,5 @@
 -- Members before any op: cells come, and nobody has a phase.
-use Rattle.std.proofs.Common.{◌≡◌, ◌≢◌, ℕ, suc, ◌<◌, ◌≤◌, List, [], ◌∷◌, ◌++◌, ◌⊎◌, Option, Some, None, length, set, arith, sym, ◌∙◌, ap, subst, refl, inl, inr}
+use Rattle.std.proofs.Common.{◌≡◌, ◌≢◌, ℕ, suc, ◌<◌, ◌≤◌, List, [], ◌∷◌, ◌++◌, ◌⊎◌, Some, None, length, set, arith, sym, ◌∙◌, ap, subst, refl, inl, inr}
 use Rattle.std.specs.Prelude.{slice_get}
 use Rattle.std.proofs.lemmas.Bool.{cases_eq}
 use Rattle.std.proofs.lemmas.List.{length-set}
@@ -8,7 +8,7 @@ use Rattle.pl_core.specs.declared.members.Members.{Members}
 use Rattle.pl_core.specs.inside.Admitting.{Admits, AreNew}
 use Rattle.pl_core.specs.inside.Cells.{AreBelow, StandsIn, phase_among}
 use Rattle.pl_core.specs.inside.PhaseTables.{cells_at, cells_from}
-use Rattle.pl_core.proofs.Cells.{slice_get-appended, slice_get-set_other, slice_get-set_same}
+use Rattle.pl_core.proofs.Cells.{slice_get-set_other, slice_get-set_same}
 
 pub cells_set_same : (rows : List Members) (p : ℕ) (row : Members) → p < length rows → cells_at (set rows p row) p ≡ row.cells.items
 cells_set_same rows p row l = ap cells_from (slice_get-set_same rows p row l)

@@ -5,7 +5,6 @@ pub mod Ops
 pub mod PhaseTables
 pub mod Enrolling
 pub mod Admitting
-pub mod Reading
 pub mod Stops
 pub mod Supposed
 pub mod Walks

@@ -1,8 +1,8 @@
 -- What the tables of a collect say.
-use Rattle.std.specs.Prelude.{ℕ, ◌+◌, ◌*◌, Bool, false, List, Option, None, nat_lt, slice_get, unwrap_or, if◌then◌else◌, option_map, Some}
+use Rattle.std.specs.Prelude.{ℕ, ◌+◌, ◌*◌, Bool, List, Option, None, nat_lt, slice_get, unwrap_or, if◌then◌else◌, Some}
 use Rattle.armus_base.specs.declared.event.Event.{Event}
 use Rattle.armus_base.specs.declared.status.Status.{Status}
-use Rattle.armus_base.specs.Finals.{given_below, listed_phase}
+use Rattle.armus_base.specs.calls.StatusLists.{is_marked, statuses_among}
 use Rattle.armus_base.specs.States.{Phases, State, opening, updated}
 use Rattle.phase_scan.specs.declared.findings.Findings.{Findings}
 use Rattle.phase_scan.specs.declared.phase_table.PhaseTable.{PhaseTable}
@@ -19,10 +19,6 @@ phases_in_found table = phases_of_found table.phasers table.cells.items
 abbrev pub event_for : List (Option Event) → ℕ → Option Event
 event_for events t = unwrap_or (slice_get events t) None
 
--- whether phaser p is marked
-abbrev pub is_marked : List Bool → ℕ → Bool
-is_marked marks p = unwrap_or (slice_get marks p) false
-
 -- what was found of different moments, as if it were one state
 abbrev pub state_of_findings : Findings → State
 state_of_findings f = record opening { phases = phases_in_found f.phases; published = event_for f.events.items }
@@ -31,16 +27,9 @@ state_of_findings f = record opening { phases = phases_in_found f.phases; publis
 abbrev pub awaited_in_findings : Findings → ℕ → Bool
 awaited_in_findings f = is_marked f.awaited.items
 
--- the status of task t, if it was found waiting: its event, and its phases on the asked phasers, in order of number
-abbrev pub status_found : ℕ → State → (ℕ → Bool) → ℕ → Option Status
-status_found phasers s asked t =
-    option_map
-    (λ e. record { t = record { 0 = t }; event = e; phases = given_below (listed_phase asked (s.phases t)) phasers })
-    (s.published t)
-
 -- the statuses of what was found
 abbrev pub statuses_of_findings : Findings → List Status
-statuses_of_findings f = given_below (status_found f.phasers (state_of_findings f) (awaited_in_findings f)) f.tasks
+statuses_of_findings f = statuses_among f.tasks f.phasers (state_of_findings f) (awaited_in_findings f)
 
 -- what was found, where task t has published the event and has these phases, with a column of phases of the others on the event's phaser
 abbrev pub state_supposed : State → ℕ → Event → Phases → (ℕ → Option ℕ) → State

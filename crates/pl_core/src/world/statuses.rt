@@ -3,15 +3,17 @@ ghost use Rattle.std.specs.Prelude.{◌≡◌, ℕ, ◌<◌, Some, IfOk, IfSome,
 ghost use Rattle.armus_base.specs.declared.event.Event.{Event};
 ghost use Rattle.armus_base.specs.States.{if_published};
 ghost use Rattle.pl_core.specs.calls.Worlds.{state_of};
-ghost use Rattle.armus_base.specs.Finals.{given_below, is_awaited, listed_phase, statuses_on};
+ghost use Rattle.armus_base.specs.Finals.{is_awaited, statuses_on};
 ghost use Rattle.armus_base.specs.calls.Finals.{statuses_of};
+ghost use Rattle.armus_base.specs.calls.StatusLists.{is_marked};
 ghost use Rattle.pl_core.specs.calls.Awaiting.{awaited_statuses};
-ghost use Rattle.pl_core.specs.inside.Reading.{is_asked};
 ghost use Rattle.pl_core.specs.inside.Supposed.{with_also};
 
 use super::World;
 use crate::task::task_at;
-use armus_base::{Event, List, Member, NoMemory, PhaserId, Status, TaskId};
+use armus_base::{
+    Event, List, NoMemory, Phase, PhaserId, ShowsTasks, Status, TaskId, list_statuses,
+};
 use std::alloc::Global;
 
 impl<'p> World<'p> {
@@ -20,8 +22,7 @@ impl<'p> World<'p> {
         ensures statuses { IfOk result (λ list. list ≡ statuses_of self.now.plan (state_of self.now)) }
     {
         let asked = vec![in alloc; true; self.plan.phasers() as usize]?;
-        let statuses = self.statuses_on(alloc, &asked, None)?;
-        Ok(List::from_vec(statuses))
+        self.statuses_on(alloc, &asked, None)
     }
 
     /// The statuses as they would be if task `t` were published on the event, in order of number, each with its phases on the phasers that would be
@@ -48,8 +49,7 @@ impl<'p> World<'p> {
         ensures { IfOk result (λ list. list ≡ awaited_statuses self.now.plan (with_also (state_of self.now) also)) }
     {
         let asked = self.awaited_phasers(alloc, also)?;
-        let statuses = self.statuses_on(alloc, &asked, also)?;
-        Ok(List::from_vec(statuses))
+        self.statuses_on(alloc, &asked, also)
     }
 
     // The event on which a task is published.
@@ -88,7 +88,7 @@ impl<'p> World<'p> {
     ) -> Result<Vec<bool>, NoMemory>
         requires phaser { IfSome also (λ a. a.1.p.0 < length self.now.plan.makers) }
         ensures len { IfOk result (λ asked. length asked.items ≡ length self.now.plan.makers) }
-        ensures asked { IfOk result (λ asked. (p : ℕ) → p < length self.now.plan.makers → is_asked asked.items p ≡ is_awaited self.now.plan (with_also (state_of self.now) also) p) }
+        ensures asked { IfOk result (λ asked. (p : ℕ) → p < length self.now.plan.makers → is_marked asked.items p ≡ is_awaited self.now.plan (with_also (state_of self.now) also) p) }
     {
         let mut asked = vec![in alloc; false; self.plan.phasers() as usize]?;
         for t in 0..self.plan.tasks() {
@@ -106,57 +106,42 @@ impl<'p> World<'p> {
         alloc: Global,
         asked: &[bool],
         also: Option<(TaskId, Event)>,
-    ) -> Result<Vec<Status>, NoMemory>
+    ) -> Result<List<Status>, NoMemory>
         requires len { length asked.now ≡ length self.now.plan.makers }
-        ensures { IfOk result (λ list. list.items ≡ statuses_on self.now.plan (with_also (state_of self.now) also) (is_asked asked.now)) }
+        ensures { IfOk result (λ list. list ≡ statuses_on self.now.plan (with_also (state_of self.now) also) (is_marked asked.now)) }
     {
-        let mut statuses = Vec::new(alloc);
-        for t in 0..self.plan.tasks() {
-            match self.published_or(TaskId(t), also) {
-                Some(event) => {
-                    let phases = self.phases_on(alloc, TaskId(t), asked)?;
-                    statuses.push(Status {
-                        t: TaskId(t),
-                        event,
-                        phases: List::from_vec(phases),
-                    })?;
-                }
-                None => {}
-            }
-        }
-        Ok(statuses)
+        let supposed = SupposedWorld { world: self, also };
+        list_statuses(alloc, &supposed, asked)
+    }
+}
+
+// A world, as it would be if a task were published on an event, if such a pair is given.
+#[derive(Drop)]
+struct SupposedWorld<'w, 'p> {
+    world: &'w World<'p>,
+    also: Option<(TaskId, Event)>,
+}
+
+impl<'w, 'p> ShowsTasks for SupposedWorld<'w, 'p> {
+    ghost tasks = { λ s. length s.world.now.plan.parents };
+
+    ghost phasers = { λ s. length s.world.now.plan.makers };
+
+    ghost state = { λ s. with_also (state_of s.world.now) s.also };
+
+    fn tasks(&self) -> u32 {
+        self.world.plan().tasks()
     }
 
-    // The phase of a task on one phaser, if that is asked.
-    fn listed(&self, p: PhaserId, t: TaskId, asked: &[bool]) -> Option<Member>
-        requires task { t.0 < length self.now.plan.parents }
-        requires phaser { p.0 < length self.now.plan.makers }
-        requires len { length asked.now ≡ length self.now.plan.makers }
-        ensures { result ≡ listed_phase (is_asked asked.now) ((state_of self.now).phases t.0) p.0 }
-    {
-        if asked[p.0 as usize] {
-            match self.phase(p, t) {
-                Some(n) => Some(Member { p, n }),
-                None => None,
-            }
-        } else {
-            None
-        }
+    fn phasers(&self) -> u32 {
+        self.world.plan().phasers()
     }
 
-    // The phases of a task on the asked phasers.
-    fn phases_on(&self, alloc: Global, t: TaskId, asked: &[bool]) -> Result<Vec<Member>, NoMemory>
-        requires task { t.0 < length self.now.plan.parents }
-        requires len { length asked.now ≡ length self.now.plan.makers }
-        ensures { IfOk result (λ list. list.items ≡ given_below (listed_phase (is_asked asked.now) ((state_of self.now).phases t.0)) (length self.now.plan.makers)) }
-    {
-        let mut phases = Vec::new(alloc);
-        for p in 0..self.plan.phasers() {
-            match self.listed(PhaserId(p), t, asked) {
-                Some(member) => phases.push(member)?,
-                None => {}
-            }
-        }
-        Ok(phases)
+    fn published(&self, t: TaskId) -> Option<Event> {
+        self.world.published_or(t, self.also)
+    }
+
+    fn phase(&self, t: TaskId, p: PhaserId) -> Option<Phase> {
+        self.world.phase(p, t)
     }
 }

@@ -2,10 +2,11 @@ use Rattle.std.proofs.Common.{◌≡◌, ◌∙◌, ap, arith, subst, true, List
 use Rattle.armus_base.specs.declared.status.Status.{Status}
 use Rattle.armus_base.specs.States.{updated}
 use Rattle.armus_base.specs.Finals.{given_below}
+use Rattle.armus_base.specs.calls.StatusLists.{status_among}
 use Rattle.board.specs.calls.Steps.{own_phase}
 use Rattle.phase_scan.specs.calls.Collects.{Collection}
 use Rattle.phase_scan.specs.calls.Supposed.{IsSupposed}
-use Rattle.phase_scan.specs.calls.Tables.{awaited_in_findings, state_of_findings, state_supposed, status_found}
+use Rattle.phase_scan.specs.calls.Tables.{awaited_in_findings, state_of_findings, state_supposed}
 use Rattle.phase_scan.specs.inside.Phases.{phase_in}
 use Rattle.phase_scan.proofs.Columns.{read_back}
 use Rattle.phase_scan.proofs.Supposes.{supposed_goes, supposes}
@@ -38,6 +39,6 @@ returns-clause-supposed c =
     c.requires.made c.id-t.ensures.seat c.id-t.ensures.task tasks c.load_column.ensures.keeps c.supposed.ensures.seat
     c.load_column.ensures.count phasers c.self.invariant.marked c.in_ok-list.list
     (c.in_ok-list.ensures.statuses
-    ∙ ap (λ xs. given_below (status_found self.phasers (state_supposed (state_of_findings self) c.id-t.result.0 c.args.event (own_phase c.load_column.new.seat.view)
+    ∙ ap (λ xs. given_below (status_among self.phasers (state_supposed (state_of_findings self) c.id-t.result.0 c.args.event (own_phase c.load_column.new.seat.view)
     (phase_in xs))
     (updated (awaited_in_findings self) c.args.event.p.0 true)) self.tasks) column))

@@ -3,13 +3,14 @@ use Rattle.armus_base.specs.declared.status.Status.{Status}
 use Rattle.armus_base.specs.CheckedPlans.{IsCheckedPlan}
 use Rattle.armus_base.specs.States.{updated}
 use Rattle.armus_base.specs.Finals.{given_below}
+use Rattle.armus_base.specs.calls.StatusLists.{status_among}
 use Rattle.board.specs.calls.Steps.{own_phase}
 use Rattle.phase_scan.specs.calls.Collects.{Collection}
 use Rattle.phase_scan.specs.calls.Looks.{LoadsAlone}
 use Rattle.phase_scan.specs.calls.OffCycle.{SupposesOrExcludes}
 use Rattle.phase_scan.specs.calls.Supposed.{IsSupposed}
 use Rattle.phase_scan.specs.inside.Supposing.{KeepsColumn}
-use Rattle.phase_scan.specs.calls.Tables.{awaited_in_findings, event_for, state_of_findings, state_supposed, status_found}
+use Rattle.phase_scan.specs.calls.Tables.{awaited_in_findings, event_for, state_of_findings, state_supposed}
 use Rattle.phase_scan.specs.inside.Behind.{ExcludesCycle}
 use Rattle.phase_scan.specs.inside.Phases.{phase_in}
 use Rattle.phase_scan.proofs.Columns.{read_back}
@@ -60,7 +61,7 @@ returns-clause-supposed c =
     c.requires.made c.id-t.ensures.seat c.id-t.ensures.task (tasks_are at.After-load_column) (column_loads at.After-supposed) c.supposed.ensures.seat
     c.load_column.ensures.count (phasers_are at.After-load_column) c.self.invariant.marked c.in_ok-list.list
     (c.in_ok-list.ensures.statuses
-    ∙ ap (λ xs. given_below (status_found self.phasers (state_supposed (state_of_findings self) c.id-t.result.0 c.args.event (own_phase c.excludes_cycle.new.seat.view)
+    ∙ ap (λ xs. given_below (status_among self.phasers (state_supposed (state_of_findings self) c.id-t.result.0 c.args.event (own_phase c.excludes_cycle.new.seat.view)
     (phase_in xs))
     (updated (awaited_in_findings self) c.args.event.p.0 true)) self.tasks) (column_is at.After-as_slice-column)))
 

@@ -17,6 +17,6 @@ loop-number-preserved c =
       made = c.load_waiting-loaded.ensures.made;
       count = c.keep.ensures.count ∙ i.count;
       keeps =
-          keeps_next c.args.self.now c.args.p.0 c.loop-number.column c.keep.new.column c.loop-number.number c.load_waiting-loaded.result c.phase_used-used.result
+          keeps_next c.args.self.now c.args.p.0 c.loop-number.column c.keep.new.phases c.loop-number.number c.load_waiting-loaded.result c.phase_used-used.result
           c.args.seat.now c.loop-number.seat c.load_waiting-loaded.new.seat i.keeps c.load_waiting-loaded.ensures.load c.phase_used-used.ensures c.keep.ensures.set;
     }

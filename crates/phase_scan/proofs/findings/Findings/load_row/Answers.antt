@@ -1,6 +1,6 @@
 use Rattle.std.proofs.Common.{◌≡◌, ◌+◌, ◌<◌, arith, length, get_or, refl, subst, vec_len, List, ℕ}
+use Rattle.armus_base.specs.calls.StatusLists.{IsNextMarked}
 use Rattle.phase_scan.specs.calls.Collects.{LoadsRow}
-use Rattle.phase_scan.specs.inside.Nexts.{IsNextAsked}
 use Rattle.phase_scan.specs.calls.Tables.{awaited_in_findings, phases_in_found}
 use Rattle.phase_scan.proofs.Keeping.{next_read, others_stay, row_more, row_to_next, still_of}
 use Rattle.phase_scan.proofs.findings.Findings.load_row.Goals as goal
@@ -20,7 +20,7 @@ row-init g c =
       nexts = refl;
       others = λ u n. refl;
       within = next.within;
-      asked = next.asked_for;
+      asked = next.is_marked;
       loads = row_to_next (awaited_in_findings self) c.args.t.0 (phases_in_found self.phases c.args.t.0) self.phasers 0 c.index-p.result.now (g.L.Loads.known c.args.by.now)
           (g.L.Loads.known c.args.by.now) refl next;
     }
@@ -40,7 +40,7 @@ row-preserved g c =
     let few : p < first.phasers = (let test = c.row-test.true in let same = i.phasers in omega arith) in
     let room : length first.nexts.items ≡ first.phasers + 1 = (let count = first.next_count in let counted : vec_len first.nexts ≡ length first.nexts.items = first.nexts.ok.0 in
     omega arith) in
-    let next : IsNextAsked (awaited_in_findings first) first.phasers (p + 1) c.index-p-in-row.result.now =
+    let next : IsNextMarked (awaited_in_findings first) first.phasers (p + 1) c.index-p-in-row.result.now =
     next_read (awaited_in_findings first) first.phasers first.nexts.items (p + 1) c.index-p-in-row.result.now c.requires.nexts room (omega arith)
     (subst (λ (xs : List ℕ). c.index-p-in-row.result.now ≡ get_or xs (p + 1) c.index-p-in-row.result.now) i.nexts c.index-p-in-row.ensures) in
     let more = row_more (awaited_in_findings first) t (phases_in_found self.phases) (phases_in_found c.set.new.self) p answer before between j i.loads (i.asked few) load
@@ -54,7 +54,7 @@ row-preserved g c =
       nexts = i.nexts;
       others = λ u n. others_stay (phases_in_found first.phases) (phases_in_found self.phases) (phases_in_found c.set.new.self) t p answer c.set.ensures.set u n (i.others u n);
       within = next.within;
-      asked = next.asked_for;
+      asked = next.is_marked;
       loads = row_to_next (awaited_in_findings first) t (phases_in_found c.set.new.self t) first.phasers (p + 1) c.index-p-in-row.result.now before j more next;
     }
 

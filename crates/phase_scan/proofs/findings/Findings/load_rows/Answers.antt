@@ -1,11 +1,11 @@
 use Rattle.std.proofs.Common.{◌≡◌, ◌<◌, ◌+◌, ◌∙◌, ap, arith, length, refl, sym, subst, vec_len, false, true, List, Bool, ℕ, None}
+use Rattle.armus_base.specs.calls.StatusLists.{AreNexts, is_marked}
 use Rattle.std.specs.Prelude.{unwrap_or, is_some}
 use Rattle.std.proofs.lemmas.Option.{slice_get_read}
 use Rattle.board.specs.calls.Seats.{IsOf}
 use Rattle.phase_scan.specs.declared.findings.Findings.{Findings}
 use Rattle.phase_scan.specs.calls.Collects.{LoadsRow, LoadsRows}
-use Rattle.phase_scan.specs.inside.Nexts.{AreNexts}
-use Rattle.phase_scan.specs.calls.Tables.{awaited_in_findings, event_for, is_marked, phases_in_found, state_of_findings}
+use Rattle.phase_scan.specs.calls.Tables.{awaited_in_findings, event_for, phases_in_found, state_of_findings}
 use Rattle.phase_scan.proofs.Keeping.{rows_more, rows_skip}
 use Rattle.phase_scan.proofs.findings.Findings.load_rows.Goals.{then-is_some, else-is_some}
 use Rattle.phase_scan.proofs.findings.Findings.load_rows.Goals as goal

@@ -2,7 +2,7 @@ use Rattle.std.proofs.Common.{◌≡◌, ◌<◌, ◌∙◌, ◌+◌, ℕ, ap, l
 use Rattle.std.proofs.lemmas.List.{length-set}
 use Rattle.armus_base.specs.Finals.{is_event_of}
 use Rattle.armus_base.specs.Places.{some_before}
-use Rattle.pl_core.specs.inside.Reading.{is_asked}
+use Rattle.armus_base.specs.calls.StatusLists.{is_marked}
 use Rattle.pl_core.specs.inside.Supposed.{with_also}
 use Rattle.pl_core.specs.calls.Worlds.{state_of}
 use Rattle.pl_core.proofs.Below.{awaited_more, awaited_none}
@@ -18,7 +18,7 @@ loop-t-preserved c =
           let is = ap (λ v. v.items) w.asked-is in
           record {
             len = ap length is ∙ length-set c.loop-t.asked.items w.in-Some.event.p.0 true ∙ c.loop-t.invariant.len;
-            asked = subst (λ xs. (p : ℕ) → p < length xs → is_asked xs p ≡ some_before (λ u. is_event_of p (s.published u)) (t + 1)) (sym is)
+            asked = subst (λ xs. (p : ℕ) → p < length xs → is_marked xs p ≡ some_before (λ u. is_event_of p (s.published u)) (t + 1)) (sym is)
                 (λ p l. awaited_more s c.loop-t.asked.items t c.loop-t.invariant.asked w.in-Some.event (sym c.published_or.ensures.event ∙ w.in-Some.is) p
                 (subst (λ k. p < k) (length-set c.loop-t.asked.items w.in-Some.event.p.0 true) l));
           }
@@ -26,7 +26,7 @@ loop-t-preserved c =
           let is = ap (λ v. v.items) w.asked-is in
           record {
             len = ap length is ∙ c.loop-t.invariant.len;
-            asked = subst (λ xs. (p : ℕ) → p < length xs → is_asked xs p ≡ some_before (λ u. is_event_of p (s.published u)) (t + 1)) (sym is)
+            asked = subst (λ xs. (p : ℕ) → p < length xs → is_marked xs p ≡ some_before (λ u. is_event_of p (s.published u)) (t + 1)) (sym is)
                 (awaited_none s c.loop-t.asked.items t c.loop-t.invariant.asked (sym c.published_or.ensures.event ∙ w.in-None.is));
           }
     ]
