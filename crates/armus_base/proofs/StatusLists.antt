@@ -1,7 +1,6 @@
 -- Lists of statuses, one number more, and up to the next marked phaser.
-use Rattle.std.proofs.Common.{◌≡◌, ℕ, zero, suc, ◌<◌, ◌≤◌, ◌+◌, ◌-◌, Bool, true, false, List, [], ◌∷◌, ◌++◌, Option, Some, None, add-one, arith, sym, ◌∙◌, ap, refl}
-use Rattle.std.specs.Prelude.{if◌then◌else◌, option_map, option_to_list}
-use Rattle.std.proofs.lemmas.List.{append-nil}
+use Rattle.std.proofs.Common.{◌≡◌, ℕ, zero, suc, ◌<◌, ◌≤◌, ◌+◌, ◌-◌, Bool, true, false, List, [], ◌∷◌, ◌++◌, Some, None, arith, sym, ◌∙◌, ap, refl}
+use Rattle.std.specs.Prelude.{if◌then◌else◌, option_map}
 use Rattle.armus_base.specs.declared.event.Event.{Event}
 use Rattle.armus_base.specs.declared.status.Member.{Member}
 use Rattle.armus_base.specs.declared.status.Status.{Status}

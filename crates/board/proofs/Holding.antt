@@ -1,5 +1,5 @@
 -- What a taking, a freeing, a try for the lock and a refusal make of a seat's own facts.
-use Rattle.std.proofs.Common.{◌≡◌, ℕ, ◌<◌, ◌≤◌, Bool, true, false, Option, Some, None, length, sym, refl, ap, ◌∙◌, subst, length-set}
+use Rattle.std.proofs.Common.{◌≡◌, ℕ, ◌<◌, Bool, true, false, Option, Some, None, length, sym, refl, ap, ◌∙◌, subst, length-set}
 use Rattle.std.specs.Prelude.{unwrap_or}
 use Rattle.std.proofs.lemmas.Bool.{false≢true}
 use Rattle.atomic_table.specs.Seated.{TableId}
@@ -8,13 +8,12 @@ use Rattle.armus_base.specs.Plans.{Aim, Plan, Refuses}
 use Rattle.armus_base.specs.Runs.{Place, next_place}
 use Rattle.armus_base.specs.Places.{published_after}
 use Rattle.armus_base.specs.calls.Seats.{AvoidsByWhatIsSeen}
-use Rattle.board.specs.declared.mode.Mode.{Mode}
 use Rattle.board.specs.declared.view.View.{View}
 use Rattle.board.specs.calls.Views.{action_after, avoids, next_action, own_place, place_in, seen, task_of}
 use Rattle.board.specs.calls.Steps.{after_action}
 use Rattle.board.specs.calls.Seats.{Frame, IsOf, IsSeat, Known, MakesStep, event_of}
 use Rattle.board.specs.inside.Sitting.{IsSitting}
-use Rattle.board.specs.calls.Locking.{FindsHeld, FreesLock, MayRefuse, MeetsHolder, with_lock}
+use Rattle.board.specs.calls.Locking.{FindsHeld, FreesLock, MayRefuse, with_lock}
 use Rattle.board.proofs.Sights.{seen_stepped}
 use Rattle.board.proofs.Seated.{event_here, place_next}
 

@@ -7,6 +7,7 @@ mod laws;
 mod loads;
 mod mode;
 mod numbers;
+mod place_loads;
 mod plays;
 mod rule;
 mod seen;

@@ -5,8 +5,6 @@ ghost use Rattle.board.specs.calls.Views.{found_of};
 
 use crate::board::Board;
 use crate::seen::Seen;
-use crate::task_seat::TaskSeat;
-use crate::view_seat::ViewSeat;
 use armus_base::{Phase, PhaserId, TaskId};
 
 /// What both kinds of seat can do. Contracts see what the seat has seen, and the number of its loads.
@@ -25,28 +23,4 @@ pub trait Loads {
         requires task { t.0 < length board.now.plan.parents }
         requires phaser { p.0 < length board.now.plan.makers }
         ensures answer { AnswersPhase t.0 p.0 result (known self.old) (known self.new) };
-}
-
-impl Loads for TaskSeat {
-    ghost known = { λ s. s };
-
-    fn load_await(&mut self, board: &Board, t: TaskId) -> Seen {
-        self.load_await_word(board, t)
-    }
-
-    fn load_phase(&mut self, board: &Board, t: TaskId, p: PhaserId) -> Option<Phase> {
-        self.load_phase_word(board, t, p)
-    }
-}
-
-impl Loads for ViewSeat {
-    ghost known = { λ s. s };
-
-    fn load_await(&mut self, board: &Board, t: TaskId) -> Seen {
-        self.load_await_word(board, t)
-    }
-
-    fn load_phase(&mut self, board: &Board, t: TaskId, p: PhaserId) -> Option<Phase> {
-        self.load_phase_word(board, t, p)
-    }
 }

@@ -15,10 +15,12 @@ ghost use Rattle.board.specs.calls.Locking.{FindsHeld, FreesLock, IsWithLock, Ma
 
 use crate::board::Board;
 use crate::busy::Busy;
-use crate::numbers::{event_number, phase_of, refused_number, seen_of};
+use crate::loads::Loads;
+use crate::numbers::{event_number, phase_of, refused_number};
+use crate::place_loads::{load_await_by, load_phase_by};
 use crate::plays::{
     Acts, Frees, Looks, Opens, Publishes, Recalls, Refuses, SeesUnforked, SplitsChild, Tries,
-    Watches, Withdraws,
+    Withdraws,
 };
 use crate::rule::Place;
 use crate::seen::Seen;
@@ -370,28 +372,17 @@ impl TaskSeat {
         let _ = &self.task;
         self.phase(board, p).unwrap()
     }
+}
 
-    // One load of an await word.
-    pub(crate) fn load_await_word(&mut self, board: &Board, t: TaskId) -> Seen
-        requires made { IsOf self.old board.now }
-        requires task { t.0 < length board.now.plan.parents }
-        ensures answer { AnswersAwait t.0 (found_of result) self.old self.new }
-    {
-        let index = board.await_index(t);
-        let word = board.cells.shared.load::<Watches>(&mut self.place, index);
-        seen_of(word)
+impl Loads for TaskSeat {
+    ghost known = { λ s. s };
+
+    fn load_await(&mut self, board: &Board, t: TaskId) -> Seen {
+        load_await_by(&mut self.place, board, t)
     }
 
-    // One load of a phase word.
-    pub(crate) fn load_phase_word(&mut self, board: &Board, t: TaskId, p: PhaserId) -> Option<Phase>
-        requires made { IsOf self.old board.now }
-        requires task { t.0 < length board.now.plan.parents }
-        requires phaser { p.0 < length board.now.plan.makers }
-        ensures answer { AnswersPhase t.0 p.0 result self.old self.new }
-    {
-        let index = board.phase_index(t, p);
-        let word = board.cells.shared.load::<Looks>(&mut self.place, index);
-        let found = phase_of(word);
+    fn load_phase(&mut self, board: &Board, t: TaskId, p: PhaserId) -> Option<Phase> {
+        let found = load_phase_by(&mut self.place, board, t, p);
         self.scanned = scanned_next(self.awaited, self.scanned, t, p, found);
         found
     }

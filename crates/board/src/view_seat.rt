@@ -4,8 +4,9 @@ ghost use Rattle.board.specs.calls.Views.{found_of, seen};
 ghost use Rattle.board.specs.calls.Seats.{Known, IsOf, IsSeat, IsNewSeat, AnswersAwait, AnswersPhase, TakesIn};
 
 use crate::board::Board;
-use crate::numbers::{phase_of, seen_of};
-use crate::plays::{Copies, Counts, JoinsSeat, Looks, Watches};
+use crate::loads::Loads;
+use crate::place_loads::{load_await_by, load_phase_by};
+use crate::plays::{Copies, Counts, JoinsSeat};
 use crate::rule::Place;
 use crate::seen::Seen;
 use crate::task_seat::TaskSeat;
@@ -48,29 +49,6 @@ impl ViewSeat {
         place
     }
 
-    // One load of an await word.
-    pub(crate) fn load_await_word(&mut self, board: &Board, t: TaskId) -> Seen
-        requires made { IsOf self.old board.now }
-        requires task { t.0 < length board.now.plan.parents }
-        ensures answer { AnswersAwait t.0 (found_of result) self.old self.new }
-    {
-        let index = board.await_index(t);
-        let word = board.cells.shared.load::<Watches>(&mut self.place, index);
-        seen_of(word)
-    }
-
-    // One load of a phase word.
-    pub(crate) fn load_phase_word(&mut self, board: &Board, t: TaskId, p: PhaserId) -> Option<Phase>
-        requires made { IsOf self.old board.now }
-        requires task { t.0 < length board.now.plan.parents }
-        requires phaser { p.0 < length board.now.plan.makers }
-        ensures answer { AnswersPhase t.0 p.0 result self.old self.new }
-    {
-        let index = board.phase_index(t, p);
-        let word = board.cells.shared.load::<Looks>(&mut self.place, index);
-        phase_of(word)
-    }
-
     /// Ends the seat of a task. After it the viewer has seen all that either had seen, and that task's place exactly.
     pub fn take_in(&mut self, board: &Board, seat: TaskSeat)
         requires made { IsOf self.old board.now }
@@ -95,5 +73,17 @@ impl ViewSeat {
         let _ = alloc;
         let place = board.cells.shared.split_seat::<Copies>(&mut self.place);
         Ok(ViewSeat { place })
+    }
+}
+
+impl Loads for ViewSeat {
+    ghost known = { λ s. s };
+
+    fn load_await(&mut self, board: &Board, t: TaskId) -> Seen {
+        load_await_by(&mut self.place, board, t)
+    }
+
+    fn load_phase(&mut self, board: &Board, t: TaskId, p: PhaserId) -> Option<Phase> {
+        load_phase_by(&mut self.place, board, t, p)
     }
 }
