@@ -11,7 +11,7 @@ use Rattle.clock_moves.specs.Moves.{Move, code_of_moves}
 use Rattle.clock_moves.specs.Unfolding.{ClockUnfolding, clock_plan_of, clock_unfolded, plan_of_moves}
 use Rattle.pl_plan.proofs.VisitsLeave.{bind_ok, ok_is}
 use Rattle.clock_origins.specs.ClockOps.{all_op_origins, moving_comings, op_origins_of}
-use Rattle.clock_origins.specs.ClockOrigins.{Begun, MadeThing, all_begun, all_things, begun_by, comings_by, things_in, waits_in}
+use Rattle.clock_origins.specs.ClockOrigins.{StartedActivity, MadeThing, all_begun, all_things, begun_by, comings_by, things_in, waits_in}
 use Rattle.clock_origins.specs.calls.Begun.{begun_in}
 use Rattle.clock_origins.specs.calls.Laws.{AreMovesAt, MovesComeFromStatements, OpsHaveStatements, TasksAndPhasersHaveStatements}
 use Rattle.clock_origins.specs.inside.OpNotes.{code_noted}
@@ -25,16 +25,16 @@ pub moves_come_from_statements : MovesComeFromStatements
 moves_come_from_statements p u t b moves is begun made = moves_come p u is t b moves begun made
 
 pairs_many :
-    (bs : List Begun) (mss : List (List Move)) → length bs ≡ length mss →
-    ((t : ℕ) (b : Begun) (moves : List Move) → slice_get bs t ≡ Some b → slice_get mss t ≡ Some moves → AreMovesAt (moving_comings (comings_by b)) moves) →
-    map length (map (λ (a : Begun × List Move). op_origins_of a.0 a.1) (zip bs mss)) ≡ map length (map code_of_moves mss)
+    (bs : List StartedActivity) (mss : List (List Move)) → length bs ≡ length mss →
+    ((t : ℕ) (b : StartedActivity) (moves : List Move) → slice_get bs t ≡ Some b → slice_get mss t ≡ Some moves → AreMovesAt (moving_comings (comings_by b)) moves) →
+    map length (map (λ (a : StartedActivity × List Move). op_origins_of a.0 a.1) (zip bs mss)) ≡ map length (map code_of_moves mss)
 pairs_many [] [] same come = refl
 pairs_many [] (ms ∷ mss) same come = absurd (omega (arith, same))
 pairs_many (b ∷ bs) [] same come = absurd (omega (arith, same))
 pairs_many (b ∷ bs) (ms ∷ mss) same come =
     let first : length (op_origins_of b ms) ≡ length (code_of_moves ms) = as_many_as_ops b ms (come 0 b ms refl refl) in
     let rest = pairs_many bs mss (omega (arith, same)) (λ t c moves is are. come (suc t) c moves is are) in
-    ap (λ n. n ∷ map length (map (λ (a : Begun × List Move). op_origins_of a.0 a.1) (zip bs mss))) first
+    ap (λ n. n ∷ map length (map (λ (a : StartedActivity × List Move). op_origins_of a.0 a.1) (zip bs mss))) first
     ∙ ap (λ ns. length (code_of_moves ms) ∷ ns) rest
 
 pub begun_many : (p : ClockTree) (u : ClockUnfolding) → clock_unfolded p ≡ Ok u → length (all_begun u) ≡ length u.parents
@@ -48,7 +48,7 @@ ops_have_statements p u is = pairs_many (all_begun u) u.moves (begun_many p u is
 -- the activities that are walked are all, or one more may be walked
 module _ (p : ClockTree) (u : ClockUnfolding) (is : clock_unfolded p ≡ Ok u) where
   things_many :
-      (n t : ℕ) (begun : List Begun) (things : List MadeThing) (waits : List (List ℕ)) → Walked u t begun things waits → max_tasks ≤ t + n →
+      (n t : ℕ) (begun : List StartedActivity) (things : List MadeThing) (waits : List (List ℕ)) → Walked u t begun things waits → max_tasks ≤ t + n →
       length (all_things u) ≡ length u.makers
   things_many zero t begun things waits walked enough =
       let few = walked_few p u t begun things waits is walked in
@@ -56,8 +56,8 @@ module _ (p : ClockTree) (u : ClockUnfolding) (is : clock_unfolded p ≡ Ok u) w
   things_many (suc n) t begun things waits walked enough =
       by (slice_get begun t) refl (λ b. things_many n (t + 1) (begun ++ begun_in (comings_by b)) (things ++ things_in (comings_by b)) (waits ++ waits_in (comings_by b) ∷ []))
     where
-      by : (o : Option Begun) → slice_get begun t ≡ o →
-          ((b : Begun) → Walked u (t + 1) (begun ++ begun_in (comings_by b)) (things ++ things_in (comings_by b)) (waits ++ waits_in (comings_by b) ∷ []) →
+      by : (o : Option StartedActivity) → slice_get begun t ≡ o →
+          ((b : StartedActivity) → Walked u (t + 1) (begun ++ begun_in (comings_by b)) (things ++ things_in (comings_by b)) (waits ++ waits_in (comings_by b) ∷ []) →
           max_tasks ≤ t + 1 + n → length (all_things u) ≡ length u.makers) → length (all_things u) ≡ length u.makers
       by None none rest = walked_made u t begun things waits walked (past_end begun t none)
       by (Some b) some rest = rest b (walked_next u t begun _ things _ waits _ b walked some refl refl refl) (omega (arith, enough))
@@ -73,12 +73,12 @@ tasks_and_phasers_have_statements p u is =
 -- ---- the program
 
 pub pair_at :
-    (bs : List Begun) (mss : List (List Move)) (t : ℕ) (b : Begun) (moves : List Move) → slice_get bs t ≡ Some b → slice_get mss t ≡ Some moves →
-    slice_get (map (λ (a : Begun × List Move). op_origins_of a.0 a.1) (zip bs mss)) t ≡ Some (op_origins_of b moves)
+    (bs : List StartedActivity) (mss : List (List Move)) (t : ℕ) (b : StartedActivity) (moves : List Move) → slice_get bs t ≡ Some b → slice_get mss t ≡ Some moves →
+    slice_get (map (λ (a : StartedActivity × List Move). op_origins_of a.0 a.1) (zip bs mss)) t ≡ Some (op_origins_of b moves)
 pair_at [] mss t b moves is are = absurd cc
 pair_at (x ∷ bs) [] t b moves is are = absurd cc
 pair_at (x ∷ bs) (ms ∷ mss) zero b moves is are =
-    let one : ◌≡◌ {A = Option Begun} (Some x) (Some b) = is in
+    let one : ◌≡◌ {A = Option StartedActivity} (Some x) (Some b) = is in
     let other : ◌≡◌ {A = Option (List Move)} (Some ms) (Some moves) = are in
     let same : x ≡ b = cc in
     let alike : ms ≡ moves = cc in
@@ -92,7 +92,7 @@ code_at (ms ∷ mss) (suc t) moves is = code_at mss t moves is
 
 -- what is noted of the code of a task is from which statements its ops come
 pub noted_at :
-    (p : ClockTree) (u : ClockUnfolding) (t : ℕ) (begun : List Begun) (os : List (Option ℕ)) → clock_unfolded p ≡ Ok u → begun ≡ all_begun u → t < length u.parents →
+    (p : ClockTree) (u : ClockUnfolding) (t : ℕ) (begun : List StartedActivity) (os : List (Option ℕ)) → clock_unfolded p ≡ Ok u → begun ≡ all_begun u → t < length u.parents →
     IfSome (slice_get begun t) (λ b. os ≡ (code_noted b (code_of (plan_of_moves u) t)).origins) → slice_get (all_op_origins u) t ≡ Some os
 noted_at p u t begun os is same lt noted =
     let (b, begun_is) = some_at (all_begun u) t (omega (arith, begun_many p u is)) in
@@ -121,7 +121,7 @@ take_more_of {A} xs t x is = ap (λ k. take k xs) (let e : t + 1 ≡ suc t = ome
 
 -- one task more
 pub origins_next :
-    (p : ClockTree) (u : ClockUnfolding) (plan : Plan) (t : ℕ) (begun : List Begun) (os : List (Option ℕ)) (all next : List (List (Option ℕ))) → clock_unfolded p ≡ Ok u →
+    (p : ClockTree) (u : ClockUnfolding) (plan : Plan) (t : ℕ) (begun : List StartedActivity) (os : List (Option ℕ)) (all next : List (List (Option ℕ))) → clock_unfolded p ≡ Ok u →
     clock_plan_of p ≡ Ok plan → begun ≡ all_begun u → t < length plan.parents → IfSome (slice_get begun t) (λ b. os ≡ (code_noted b (code_of plan t)).origins) →
     all ≡ take t (all_op_origins u) → next ≡ all ++ os ∷ [] → next ≡ take (t + 1) (all_op_origins u)
 origins_next p u plan t begun os all next is plan_is same lt noted so_far more =

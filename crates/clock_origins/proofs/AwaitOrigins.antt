@@ -18,7 +18,7 @@ use Rattle.clock_syntax.specs.Trees.{advance, clock, drop, resume, skip}
 use Rattle.clock_moves.specs.Moves.{Move, Standing, advances, after_move, begins, code_from, code_of_moves, drops, ends, no_standing, opens, ops_of, resumes, starts, stops}
 use Rattle.clock_moves.specs.Unfolding.{ClockComing, ClockPart, a_close, a_finish, a_loop, a_plain, a_turn, an_async, plan_of_moves}
 use Rattle.clock_origins.specs.ClockOps.{is_await, makes_move, moving_comings, op_origins_from, op_origins_of}
-use Rattle.clock_origins.specs.ClockOrigins.{Begun, all_begun, all_waits, comings_by, wait_at, waits_in}
+use Rattle.clock_origins.specs.ClockOrigins.{StartedActivity, all_begun, all_waits, comings_by, wait_at, waits_in}
 use Rattle.clock_origins.specs.calls.Laws.{AreMovesAt, AwaitsComeFromWaits, ComeFromWaits, IsMoveAt}
 use Rattle.clock_origins.proofs.AllOrigins.{begun_many, code_at, pair_at}
 use Rattle.clock_origins.proofs.MovesOf.{moves_come, moves_many}
@@ -157,8 +157,8 @@ awaits_come_from_waits p u t origins waits is origins_are waits_are =
     (subst (λ os. ComeFromWaits (code_of (plan_of_moves u) t) os (waits_in (moving_comings (comings_by b)))) same_origins
     (subst (λ ops. ComeFromWaits ops (op_origins_of b moves) (waits_in (moving_comings (comings_by b)))) (sym code) own))
   where
-    waits_at : (bs : List Begun) (k : ℕ) (b : Begun) → slice_get bs k ≡ Some b → slice_get (map (λ c. waits_in (comings_by c)) bs) k ≡ Some (waits_in (comings_by b))
+    waits_at : (bs : List StartedActivity) (k : ℕ) (b : StartedActivity) → slice_get bs k ≡ Some b → slice_get (map (λ c. waits_in (comings_by c)) bs) k ≡ Some (waits_in (comings_by b))
     waits_at [] k b begun = absurd cc
     waits_at (c ∷ bs) zero b begun =
-        let one : ◌≡◌ {A = Option Begun} (Some c) (Some b) = begun in let same : c ≡ b = cc in ap (λ z. Some (waits_in (comings_by z))) same
+        let one : ◌≡◌ {A = Option StartedActivity} (Some c) (Some b) = begun in let same : c ≡ b = cc in ap (λ z. Some (waits_in (comings_by z))) same
     waits_at (c ∷ bs) (suc k) b begun = waits_at bs k b begun

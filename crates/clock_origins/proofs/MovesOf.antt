@@ -16,7 +16,7 @@ use Rattle.clock_text.proofs.Numbers.{AreRows, known_rows, next_rows, opening_ro
 use Rattle.clock_text.proofs.PointComings.{comings_at, first_left, none_left, whole_body}
 use Rattle.clock_text.proofs.UnfoldsByPoints.{unfolding_is_unfolded}
 use Rattle.clock_origins.specs.ClockOps.{moving_comings}
-use Rattle.clock_origins.specs.ClockOrigins.{Begun, all_begun, begun_by, comings_by}
+use Rattle.clock_origins.specs.ClockOrigins.{StartedActivity, all_begun, begun_by, comings_by}
 use Rattle.clock_origins.specs.calls.Laws.{AreMovesAt}
 
 -- ---- one part
@@ -151,7 +151,7 @@ module _ (p : ClockTree) (u : ClockUnfolding) (e : clock_unfolded p ≡ Ok u) wh
   moves_many = moved.1.rows.moves_many
 
   -- the moves of each activity
-  pub moves_come : (t : ℕ) (b : Begun) (moves : List Move) → slice_get (all_begun u) t ≡ Some b → slice_get u.moves t ≡ Some moves →
+  pub moves_come : (t : ℕ) (b : StartedActivity) (moves : List Move) → slice_get (all_begun u) t ≡ Some b → slice_get u.moves t ≡ Some moves →
       AreMovesAt (moving_comings (comings_by b)) moves
   moves_come t b moves is are =
       let (start, found, same) = start_found u.starts t b is in
@@ -159,7 +159,7 @@ module _ (p : ClockTree) (u : ClockUnfolding) (e : clock_unfolded p ≡ Ok u) wh
       subst (λ z. AreMovesAt (moving_comings (comings_by z)) moves) same
       (subst (AreMovesOfStart start) (get_or_from_slice_get u.moves t moves [] are) (moved.1.each t start (omega (arith, within, moved.2)) found))
     where
-      start_found : (xs : List ClockStart) (t : ℕ) (b : Begun) → slice_get (map begun_by xs) t ≡ Some b → (start : ClockStart) × (slice_get xs t ≡ Some start) × (begun_by start ≡ b)
+      start_found : (xs : List ClockStart) (t : ℕ) (b : StartedActivity) → slice_get (map begun_by xs) t ≡ Some b → (start : ClockStart) × (slice_get xs t ≡ Some start) × (begun_by start ≡ b)
       start_found [] t b is = absurd cc
-      start_found (x ∷ xs) zero b is = (x, refl, (let one : ◌≡◌ {A = Option Begun} (Some (begun_by x)) (Some b) = is in cc))
+      start_found (x ∷ xs) zero b is = (x, refl, (let one : ◌≡◌ {A = Option StartedActivity} (Some (begun_by x)) (Some b) = is in cc))
       start_found (x ∷ xs) (suc t) b is = start_found xs t b is

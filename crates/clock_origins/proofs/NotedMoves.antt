@@ -11,7 +11,7 @@ use Rattle.clock_moves.specs.Moves.{Move, Standing, advances, after_move, begins
 use Rattle.clock_moves.specs.Unfolding.{ClockComing, ClockPart, a_close, a_finish, a_loop, a_plain, a_turn, an_async}
 use Rattle.clock_moves.proofs.PlanSteps.{map-append}
 use Rattle.clock_origins.specs.ClockOps.{makes_move, moving_comings, op_origins_from, op_origins_of}
-use Rattle.clock_origins.specs.ClockOrigins.{Begun, comings_by}
+use Rattle.clock_origins.specs.ClockOrigins.{StartedActivity, comings_by}
 use Rattle.clock_origins.specs.calls.Laws.{AreMovesAt, IsMoveAt}
 use Rattle.clock_origins.specs.inside.OpNotes.{OpNotesValue, all_noted, code_noted, ops_noted, part_noted, start_noted, stop_noted}
 
@@ -133,7 +133,7 @@ moves_noted (m ∷ ms) s moves os are =
     by false is moves are rest = ap (λ k. all_noted (ops_noted ms k)) (no_move_noted m.statement m.part (notes (code_from s moves) os) is) ∙ rest s moves os are
 
 -- what is noted of an activity that makes these moves
-pub code_is_noted : (b : Begun) (moves : List Move) → AreMovesAt (moving_comings (comings_by b)) moves →
+pub code_is_noted : (b : StartedActivity) (moves : List Move) → AreMovesAt (moving_comings (comings_by b)) moves →
     (code_noted b (code_of_moves moves)).origins ≡ op_origins_of b moves
 code_is_noted b moves are = ap (λ (k : OpNotesValue). k.origins) (moves_noted (comings_by b) no_standing moves [] are)
 
@@ -152,5 +152,5 @@ origins_many (m ∷ ms) s (move ∷ moves) are =
     many_more (Some m.statement) (ops_of s move) _ _ (origins_many ms (after_move move s) moves are.1)
 
 -- an activity has an origin for each op
-pub as_many_as_ops : (b : Begun) (moves : List Move) → AreMovesAt (moving_comings (comings_by b)) moves → length (op_origins_of b moves) ≡ length (code_of_moves moves)
+pub as_many_as_ops : (b : StartedActivity) (moves : List Move) → AreMovesAt (moving_comings (comings_by b)) moves → length (op_origins_of b moves) ≡ length (code_of_moves moves)
 as_many_as_ops b moves are = origins_many (moving_comings (comings_by b)) no_standing moves are

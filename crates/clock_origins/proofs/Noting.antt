@@ -11,12 +11,12 @@ use Rattle.clock_syntax.specs.calls.Bodies.{clock_followed_by, clock_tree_of}
 use Rattle.clock_syntax.proofs.ClockParts.{clock_counts}
 use Rattle.clock_moves.specs.Unfolding.{ClockComing, a_close, a_finish, a_turn, an_async, coming, comings_of}
 use Rattle.clock_moves.proofs.NextComings.{next_comings_of, times_more}
-use Rattle.clock_origins.specs.ClockOrigins.{Begun, MadeThing, made_thing_at, things_in, wait_at, waits_in}
+use Rattle.clock_origins.specs.ClockOrigins.{StartedActivity, MadeThing, made_thing_at, things_in, wait_at, waits_in}
 use Rattle.clock_origins.specs.calls.Begun.{begun_at, begun_in}
 use Rattle.clock_origins.specs.inside.Notes.{NotesValue, noted, noted_all}
 
 same_notes :
-    (a a' : List Begun) (b b' : List MadeThing) (c c' : List ℕ) → a ≡ a' → b ≡ b' → c ≡ c' →
+    (a a' : List StartedActivity) (b b' : List MadeThing) (c c' : List ℕ) → a ≡ a' → b ≡ b' → c ≡ c' →
     let k : NotesValue = record { begun = a; things = b; waits = c } in let l : NotesValue = record { begun = a'; things = b'; waits = c' } in k ≡ l
 same_notes a a' b b' c c' x y z = cc
 

@@ -17,7 +17,7 @@ use Rattle.clock_text.specs.calls.ClockUnfolds.{GoesToEnd, UnfoldsFrom, after_pa
 use Rattle.clock_text.specs.calls.ProgramPoints.{ProgramPoint, behind, first_point}
 use Rattle.clock_text.proofs.PointComings.{comings_at, first_left, none_left, whole_body}
 use Rattle.clock_text.proofs.UnfoldsByPoints.{unfolding_is_unfolded}
-use Rattle.clock_origins.specs.ClockOrigins.{Begun, MadeThing, all_begun, all_things, begun_by, comings_by, made_thing_at, things_in, waits_in}
+use Rattle.clock_origins.specs.ClockOrigins.{StartedActivity, MadeThing, all_begun, all_things, begun_by, comings_by, made_thing_at, things_in, waits_in}
 use Rattle.clock_origins.specs.calls.Begun.{begun_at, begun_in}
 use Rattle.clock_origins.specs.calls.Values.{AreOriginsOf}
 
@@ -104,7 +104,7 @@ activity_adds t start u w goes =
 -- ---- all activities
 
 -- what is found of the first t activities
-pub record Walked (u : ClockUnfolding) (t : ℕ) (begun : List Begun) (things : List MadeThing) (waits : List (List ℕ)) : Type 0 where
+pub record Walked (u : ClockUnfolding) (t : ℕ) (begun : List StartedActivity) (things : List MadeThing) (waits : List (List ℕ)) : Type 0 where
   pub so_far : ClockUnfolding
   pub goes : UnfoldsFrom t so_far u
   pub begun_are : begun ≡ all_begun so_far
@@ -125,7 +125,7 @@ walked_first p u is = record {
 }
 
 pub walked_start :
-    (p : ClockTree) (u : ClockUnfolding) (begun : List Begun) (things : List MadeThing) (waits : List (List ℕ)) → clock_unfolded p ≡ Ok u →
+    (p : ClockTree) (u : ClockUnfolding) (begun : List StartedActivity) (things : List MadeThing) (waits : List (List ℕ)) → clock_unfolded p ≡ Ok u →
     begun ≡ record { first = 1; body = p } ∷ [] → things ≡ [] → waits ≡ [] → Walked u 0 begun things waits
 walked_start p u begun things waits is eb et ew =
     subst (λ w. Walked u 0 begun things w) (sym ew) (subst (λ z. Walked u 0 begun z []) (sym et)
@@ -136,12 +136,12 @@ take_one [] ys t x is = absurd cc
 take_one (y ∷ xs) ys zero x is = (let same : y ≡ x = cc in ap (λ z. z ∷ []) same)
 take_one (y ∷ xs) ys (suc t) x is = ap (λ zs. y ∷ zs) (take_one xs ys t x is)
 
-start_is : (xs : List ClockStart) (t : ℕ) (start : ClockStart) (b : Begun) → slice_get xs t ≡ Some start → slice_get (map begun_by xs) t ≡ Some b → begun_by start ≡ b
+start_is : (xs : List ClockStart) (t : ℕ) (start : ClockStart) (b : StartedActivity) → slice_get xs t ≡ Some start → slice_get (map begun_by xs) t ≡ Some b → begun_by start ≡ b
 start_is [] t start b is that = absurd cc
-start_is (x ∷ xs) zero start b is that = (let same : x ≡ start = cc in let one : ◌≡◌ {A = Option Begun} (Some (begun_by x)) (Some b) = that in let other : begun_by x ≡ b = cc in ap begun_by (sym same) ∙ other)
+start_is (x ∷ xs) zero start b is that = (let same : x ≡ start = cc in let one : ◌≡◌ {A = Option StartedActivity} (Some (begun_by x)) (Some b) = that in let other : begun_by x ≡ b = cc in ap begun_by (sym same) ∙ other)
 start_is (x ∷ xs) (suc t) start b is that = start_is xs t start b is that
 
-none_there : (xs : List ClockStart) (t : ℕ) (b : Begun) → slice_get xs t ≡ None → slice_get (map begun_by xs) t ≡ Some b → ⊥
+none_there : (xs : List ClockStart) (t : ℕ) (b : StartedActivity) → slice_get xs t ≡ None → slice_get (map begun_by xs) t ≡ Some b → ⊥
 none_there [] t b none some = cc
 none_there (x ∷ xs) zero b none some = cc
 none_there (x ∷ xs) (suc t) b none some = none_there xs t b none some
@@ -153,7 +153,7 @@ some_within (x ∷ xs) (suc t) start is = (let h = some_within xs t start is in 
 
 -- one activity more
 pub walked_next :
-    (u : ClockUnfolding) (t : ℕ) (begun next : List Begun) (things more : List MadeThing) (waits others : List (List ℕ)) (b : Begun) →
+    (u : ClockUnfolding) (t : ℕ) (begun next : List StartedActivity) (things more : List MadeThing) (waits others : List (List ℕ)) (b : StartedActivity) →
     Walked u t begun things waits → slice_get begun t ≡ Some b → next ≡ begun ++ begun_in (comings_by b) → more ≡ things ++ things_in (comings_by b) →
     others ≡ waits ++ waits_in (comings_by b) ∷ [] → Walked u (t + 1) next more others
 walked_next u t begun next things more waits others b h is next_is more_is others_are =
@@ -209,7 +209,7 @@ later_more t v u (one_more {v = w} start path goes rest) =
     (omega (arith, adds.parents, more.0), omega (arith, adds.makers, more.1))
 
 -- there are no more activities, clocks and finishes than a plan may have
-pub walked_few : (p : ClockTree) (u : ClockUnfolding) (t : ℕ) (begun : List Begun) (things : List MadeThing) (waits : List (List ℕ)) → clock_unfolded p ≡ Ok u →
+pub walked_few : (p : ClockTree) (u : ClockUnfolding) (t : ℕ) (begun : List StartedActivity) (things : List MadeThing) (waits : List (List ℕ)) → clock_unfolded p ≡ Ok u →
     Walked u t begun things waits → (length begun ≤ max_tasks) × (length things ≤ max_phasers)
 walked_few p u t begun things waits is h =
     let checked = clock_plan_is_checked p (plan_of_moves u) (plan_is p u is) in
@@ -220,7 +220,7 @@ walked_few p u t begun things waits is h =
 
 -- ---- the end
 
-pub walked_end : (u : ClockUnfolding) (t : ℕ) (begun : List Begun) (things : List MadeThing) (waits : List (List ℕ)) → Walked u t begun things waits → length begun ≤ t →
+pub walked_end : (u : ClockUnfolding) (t : ℕ) (begun : List StartedActivity) (things : List MadeThing) (waits : List (List ℕ)) → Walked u t begun things waits → length begun ≤ t →
     AreOriginsOf u (record { begun = begun; things = things; waits = waits })
 walked_end u t begun things waits h le = end h.so_far h.goes h.begun_are
   where
@@ -237,7 +237,7 @@ walked_end u t begun things waits h le = end h.so_far h.goes h.begun_are
         absurd (let within = some_within v.starts t start path in let many = ap length are ∙ length-map v.starts begun_by in omega (arith, le))
 
 -- and there are as many clocks and finishes as makers
-pub walked_made : (u : ClockUnfolding) (t : ℕ) (begun : List Begun) (things : List MadeThing) (waits : List (List ℕ)) → Walked u t begun things waits → length begun ≤ t →
+pub walked_made : (u : ClockUnfolding) (t : ℕ) (begun : List StartedActivity) (things : List MadeThing) (waits : List (List ℕ)) → Walked u t begun things waits → length begun ≤ t →
     length (all_things u) ≡ length u.makers
 walked_made u t begun things waits h le = ap length (sym (walked_end u t begun things waits h le).things) ∙ end h.so_far h.goes h.begun_are h.makers_many
   where

@@ -6,7 +6,7 @@ use Rattle.clock_syntax.specs.Trees.{ClockTree, advance, clock}
 use Rattle.clock_moves.specs.Unfolding.{ClockComing, ClockPart, ClockStart, ClockUnfolding, a_close, a_finish, a_plain, comings_of}
 
 -- an activity as it is started: the number of the first statement of its body, and the body
-pub record Begun : Type 0 where
+pub record StartedActivity : Type 0 where
   pub first : ℕ
   pub body : ClockTree
 
@@ -32,7 +32,7 @@ wait_at n part = []
 -- ---- origins
 
 -- what an activity comes to that is started so
-abbrev pub comings_by : Begun → List ClockComing
+abbrev pub comings_by : StartedActivity → List ClockComing
 comings_by b = comings_of b.first b.body
 
 -- the clocks and finishes that are made there, in order
@@ -44,11 +44,11 @@ abbrev pub waits_in : List ClockComing → List ℕ
 waits_in ms = flat_map (λ (m : ClockComing). wait_at m.statement m.part) ms
 
 -- an activity of an unfolding
-abbrev pub begun_by : ClockStart → Begun
+abbrev pub begun_by : ClockStart → StartedActivity
 begun_by start = record { first = start.first; body = start.body }
 
 -- the activities of an unfolding, in order of number
-abbrev pub all_begun : ClockUnfolding → List Begun
+abbrev pub all_begun : ClockUnfolding → List StartedActivity
 all_begun u = map begun_by u.starts
 
 -- its clocks and finishes, in order of number

@@ -1,3 +1,3 @@
-pub mod Begun
+pub mod StartedActivity
 pub mod Laws
 pub mod Values

@@ -23,9 +23,9 @@ impl<'p> Model for ClockBegun<'p> {
     ghost use Rattle.std.specs.Coded.{codes};
     ghost use Rattle.clock_syntax.specs.Trees.{clock_count};
     ghost use Rattle.clock_syntax.specs.calls.Trees.{clock_tree_code};
-    ghost use Rattle.clock_origins.specs.ClockOrigins.{Begun};
+    ghost use Rattle.clock_origins.specs.ClockOrigins.{StartedActivity};
 
-    ghost Value = { Begun };
+    ghost Value = { StartedActivity };
 
     ghost coded = { Prim.hlevel (codes, clock_tree_code) };
 

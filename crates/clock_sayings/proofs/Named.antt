@@ -18,7 +18,7 @@ use Rattle.armus_base.proofs.Fixed.{some_before_from}
 use Rattle.armus_base.proofs.StatusesAre.{member_at, phases_are, phases_from, status_is}
 use Rattle.clock_sayings.specs.ClockExplanations.{is_below, is_missing, line_if_missing, missing_line}
 use Rattle.clock_sayings.specs.ClockFacts.{ClockFacts}
-use Rattle.clock_sayings.specs.calls.ParagraphLaws.{IsBehind, IsWaitingIn}
+use Rattle.clock_sayings.specs.calls.ParagraphLaws.{IsMemberBelow, IsWaitingIn}
 
 -- the activities of these statuses that keep the event from being reached
 abbrev pub named_in : Event → List Status → List ℕ
@@ -124,14 +124,14 @@ module _ (plan : Plan) (s : State) (of : IsOfPlan plan s) (wait : (t q n : ℕ) 
       some_before_from (λ v. is_event_of e.p.0 (s.published v)) (length plan.parents) t (of.published t e published)
       (ap (is_event_of e.p.0) published ∙ eq-eqb e.p.0 e.p.0 refl)
 
-  pub behind : (v : ℕ) → Contains (named_in e blocked) v → IsBehind s e v
+  pub behind : (v : ℕ) → Contains (named_in e blocked) v → IsMemberBelow s e v
   behind v inside =
       let found = named_is e blocked v inside in
       let below = below_is e found.0.phases found.3 in
       let has = phases_are plan s (is_awaited plan s) v e.p.0 below.0 (found.0, found.1, found.2, below.1) in
       (below.0, has.phase, below.2)
 
-  pub from_behind : (v : ℕ) → IsBehind s e v → Contains (named_in e blocked) v
+  pub from_behind : (v : ℕ) → IsMemberBelow s e v → Contains (named_in e blocked) v
   from_behind v (n, member, less) =
       let waits = wait v e.p.0 n member in
       let listed = phases_from plan s (is_awaited plan s) v e.p.0 n (record {

@@ -13,7 +13,7 @@ use Rattle.accounts.proofs.AtSomeOp.{at_some_op}
 use Rattle.clock_syntax.specs.Trees.{ClockTree}
 use Rattle.clock_moves.specs.Unfolding.{ClockUnfolding}
 use Rattle.clock_origins.specs.ClockOffsets.{clock_offsets}
-use Rattle.clock_origins.specs.ClockOrigins.{Begun, MadeThing, all_begun, all_things, all_waits}
+use Rattle.clock_origins.specs.ClockOrigins.{StartedActivity, MadeThing, all_begun, all_things, all_waits}
 use Rattle.clock_origins.specs.ClockOps.{is_await}
 use Rattle.clock_sayings.specs.ClockExplanations.{clock_lines, some_activity_waits}
 use Rattle.clock_sayings.specs.ClockFacts.{AreClockFacts, AreTextFacts, ClockFacts, ClockWait, IsWaitBy, TextFacts, is_pending}
@@ -23,7 +23,7 @@ use Rattle.clock_sayings.proofs.Told.{AreTold, one_list, told_all, told_more, to
 -- ---- one
 
 same_text_facts :
-    (a a' : List ℕ) (b b' : Option (List ℕ)) (c c' : List ℕ) (d d' : List Begun) (e e' : List MadeThing) → a ≡ a' → b ≡ b' → c ≡ c' → d ≡ d' → e ≡ e' →
+    (a a' : List ℕ) (b b' : Option (List ℕ)) (c c' : List ℕ) (d d' : List StartedActivity) (e e' : List MadeThing) → a ≡ a' → b ≡ b' → c ≡ c' → d ≡ d' → e ≡ e' →
     let x : TextFacts = record { text = a; file = b; offsets = c; begun = d; things = e } in
     let y : TextFacts = record { text = a'; file = b'; offsets = c'; begun = d'; things = e' } in x ≡ y
 same_text_facts a a' b b' c c' d d' e e' p q r s t = cc

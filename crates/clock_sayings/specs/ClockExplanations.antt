@@ -12,7 +12,7 @@ use Rattle.pl_syntax.specs.Printed.{line}
 use Rattle.clock_syntax.specs.Grammar.{IsClockText}
 use Rattle.clock_syntax.specs.Trees.{ClockTree}
 use Rattle.clock_moves.specs.Unfolding.{ClockUnfolding, clock_unfolded, plan_of_moves}
-use Rattle.clock_origins.specs.ClockOrigins.{Begun, MadeThing}
+use Rattle.clock_origins.specs.ClockOrigins.{StartedActivity, MadeThing}
 use Rattle.clock_sayings.specs.ClockFacts.{AreClockFacts, ClockFacts, ClockWait, TextFacts}
 use Rattle.clock_sayings.specs.ClockWords.{activity_words, front_of, made_clock_words, made_finish_words, standing_words, waits_at}
 
@@ -127,7 +127,7 @@ paragraph_of_thing f t e None = []
 paragraph_of_thing f t e (Some thing) = waiting_paragraph f t e thing
 
 -- the statement that starts an activity, if there is one
-abbrev pub started_at : Option Begun → Option ℕ
+abbrev pub started_at : Option StartedActivity → Option ℕ
 started_at None = None
 started_at (Some b) = Some (b.first - 1)
 

@@ -13,7 +13,7 @@ use Rattle.pl_core.specs.Tasks.{IsAtOp}
 use Rattle.clock_syntax.specs.Trees.{ClockTree}
 use Rattle.clock_moves.specs.Unfolding.{ClockUnfolding}
 use Rattle.clock_origins.specs.ClockOffsets.{clock_offsets}
-use Rattle.clock_origins.specs.ClockOrigins.{Begun, MadeThing, all_begun, all_things, all_waits}
+use Rattle.clock_origins.specs.ClockOrigins.{StartedActivity, MadeThing, all_begun, all_things, all_waits}
 use Rattle.clock_origins.specs.ClockOps.{is_await}
 
 -- where an activity waits: the statement; and for each clock and finish, in order of number, whether it is pending there: the activity has signalled on it, and not
@@ -28,7 +28,7 @@ pub record TextFacts : Type 0 where
   pub text : List ℕ
   pub file : Option (List ℕ)
   pub offsets : List ℕ
-  pub begun : List Begun
+  pub begun : List StartedActivity
   pub things : List MadeThing
 
 -- what is known of the text; how each activity has ended, as its task; the statuses of those that wait; and where each waits

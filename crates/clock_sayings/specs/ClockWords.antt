@@ -3,7 +3,7 @@ use Rattle.std.specs.Prelude.{ℕ, zero, suc, ◌-◌, ◌==◌, if◌then◌els
 use Rattle.text_places.specs.TextPlaces.{text_place}
 use Rattle.text_places.specs.PlaceWords.{front_words, place_words}
 use Rattle.text_places.specs.declared.place.TextPlace.{TextPlace}
-use Rattle.clock_origins.specs.ClockOrigins.{Begun}
+use Rattle.clock_origins.specs.ClockOrigins.{StartedActivity}
 use Rattle.clock_sayings.specs.ClockFacts.{ClockFacts, ClockWait, TextFacts}
 
 -- ---- places
@@ -38,7 +38,7 @@ abbrev pub async_words : TextFacts → ℕ → List ℕ
 async_words f n = if n == 0 then [] else codes " (async at " ++ statement_place_words f n ++ codes ")"
 
 -- where it is started, if there is such an activity
-abbrev pub started_words : TextFacts → Option Begun → List ℕ
+abbrev pub started_words : TextFacts → Option StartedActivity → List ℕ
 started_words f None = []
 started_words f (Some b) = async_words f (b.first - 1)
 

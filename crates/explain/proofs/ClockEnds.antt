@@ -32,7 +32,7 @@ use Rattle.clock_sayings.specs.declared.explaining.ClockExplanation.{ClockExplan
 use Rattle.world_runs.specs.calls.EndWorlds.{IsWorldEnd}
 use Rattle.world_runs.specs.declared.world_end.WorldEnd.{WorldEnd}
 use Rattle.armus_words.specs.Words.{Text}
-use Rattle.explain.specs.ClockExplained.{HasSomeClockFault, IsClockExplanationOf, IsClockRunOf}
+use Rattle.explain.specs.ClockExplained.{HasSomeClockFault, IsClockExplanationOf, IsMaximalClockRun}
 use Rattle.explain.specs.Explained.{WaitsIn}
 use Rattle.armus_top.proofs.TextEnds.{unfolding_of}
 
@@ -57,7 +57,7 @@ checked_moves program u is = clock_plan_is_checked program (plan_of_moves u) (pl
 -- ---- runs
 
 pub clock_run : (text : Text) (program : ClockTree) (u : ClockUnfolding) (steps : List Step) → IsClockText text program → clock_unfolded program ≡ Ok u →
-    IsPlainRun (plan_of_moves u) steps → IsMaximal (plan_of_moves u) steps → IsClockRunOf text program u steps
+    IsPlainRun (plan_of_moves u) steps → IsMaximal (plan_of_moves u) steps → IsMaximalClockRun text program u steps
 clock_run text program u steps reads is run maximal = record {
   reads = reads;
   unfolds = is;
@@ -72,7 +72,7 @@ pub record EndAlike (p q : ClockTree) (u v : ClockUnfolding) (g h : List Step) :
   pub unfoldings : u ≡ v
   pub ends : ((t : ℕ) → places g t ≡ places h t) × (state_after g ≡ state_after h)
 
-pub end_alike : (text : Text) (p q : ClockTree) (u v : ClockUnfolding) (g h : List Step) → IsClockRunOf text p u g → IsClockRunOf text q v h → EndAlike p q u v g h
+pub end_alike : (text : Text) (p q : ClockTree) (u v : ClockUnfolding) (g h : List Step) → IsMaximalClockRun text p u g → IsMaximalClockRun text q v h → EndAlike p q u v g h
 end_alike text p q u v g h a b =
     let programs : p ≡ q = one_clock_tree text p q a.reads b.reads in
     let opens : clock_unfolded q ≡ Ok u = subst (λ r. clock_unfolded r ≡ Ok u) programs a.unfolds in
@@ -83,7 +83,7 @@ end_alike text p q u v g h a b =
     record { programs = programs; unfoldings = unfoldings; ends = (ends.0, ends.1) }
 
 -- a text that has a run has no fault
-pub run_or_fault : (text : Text) (p : ClockTree) (u : ClockUnfolding) (h : List Step) → IsClockRunOf text p u h → HasSomeClockFault text → ⊥
+pub run_or_fault : (text : Text) (p : ClockTree) (u : ClockUnfolding) (h : List Step) → IsMaximalClockRun text p u h → HasSomeClockFault text → ⊥
 run_or_fault text p u h run (inl (fault, has)) = not_both_clocks text p fault run.reads has
 run_or_fault text p u h run (inr (q, fault, reads, fails)) =
     let same : q ≡ p = one_clock_tree text q p reads run.reads in
@@ -159,7 +159,7 @@ published_end true None None on = absurd cc
 published_end false None None on = absurd cc
 
 pub clocks_tell_waiting :
-    (file : Option Text) (text : Text) (p : ClockTree) (u : ClockUnfolding) (steps : List Step) (lines : List ℕ) (some : Bool) → IsClockRunOf text p u steps →
+    (file : Option Text) (text : Text) (p : ClockTree) (u : ClockUnfolding) (steps : List Step) (lines : List ℕ) (some : Bool) → IsMaximalClockRun text p u steps →
     ExplainsActivities file text p u (plan_of_moves u) (places steps) lines some → (some ≡ true) ↔ ((t : ℕ) × WaitsIn (state_after steps) t)
 clocks_tell_waiting file text p u steps lines some ended is =
     let plan = plan_of_moves u in

@@ -17,7 +17,7 @@ use Rattle.clock_sayings.specs.ClockExplanations.{ExplainsActivities}
 use Rattle.clock_sayings.specs.ClockRefusals.{clock_fault_lines, clock_syntax_lines}
 use Rattle.clock_sayings.proofs.OneExplanation.{clock_explanation_exists, one_clock_explanation}
 use Rattle.armus_words.specs.Words.{Text}
-use Rattle.explain.specs.ClockExplained.{AnswersClock, ClockEndsSo, HasSomeClockFault, IsClockExplanationOf, IsClockRefusedWith, IsClockRunOf, IsClockStatusOf}
+use Rattle.explain.specs.ClockExplained.{AnswersClock, ClockEndsSo, HasSomeClockFault, IsClockExplanationOf, IsClockRefusedWith, IsMaximalClockRun, IsClockStatusOf}
 use Rattle.explain.specs.Explained.{WaitsIn}
 use Rattle.explain.specs.calls.Laws.{EachClockTextIsMet, OneClockOutput}
 use Rattle.explain.proofs.ClockEnds.{checked_moves, clock_run, clocks_tell_waiting, end_alike, run_or_fault}
@@ -102,7 +102,7 @@ each_clock_text_is_met file text =
 -- ---- the status
 
 -- what holds of the final state of one run of a text holds of that of another one
-one_state : (text : Text) (Holds : State → Type 0) (p : ClockTree) (u : ClockUnfolding) (h : List Step) → IsClockRunOf text p u h → ClockEndsSo text Holds → Holds (state_after h)
+one_state : (text : Text) (Holds : State → Type 0) (p : ClockTree) (u : ClockUnfolding) (h : List Step) → IsMaximalClockRun text p u h → ClockEndsSo text Holds → Holds (state_after h)
 one_state text Holds p u h run is =
     subst Holds (end_alike text is.program p is.unfolded u is.steps h is.ended run).ends.1 is.holds
 

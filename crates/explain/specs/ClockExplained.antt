@@ -16,7 +16,7 @@ use Rattle.explain.specs.Explained.{WaitsIn}
 
 -- The text is this clock program, which has this unfolding, and these steps are a run of the unfolding's plan up to its end. Where it ends, each task has
 -- ended as its activity stands at the ends of the machine on the text.
-pub record IsClockRunOf (text : Text) (program : ClockTree) (unfolded : ClockUnfolding) (steps : List Step) : Type 0 where
+pub record IsMaximalClockRun (text : Text) (program : ClockTree) (unfolded : ClockUnfolding) (steps : List Step) : Type 0 where
   pub reads : IsClockText text program
   pub unfolds : clock_unfolded program ≡ Ok unfolded
   pub run : IsPlainRun (plan_of_moves unfolded) steps
@@ -29,20 +29,20 @@ pub record IsClockExplanationOf (file : Option Text) (text : Text) (status : ℕ
   pub program : ClockTree
   pub unfolded : ClockUnfolding
   pub steps : List Step
-  pub ended : IsClockRunOf text program unfolded steps
+  pub ended : IsMaximalClockRun text program unfolded steps
   pub waits : Bool
   pub explains : ExplainsActivities file text program unfolded (plan_of_moves unfolded) (places steps) lines waits
   pub status_is : status ≡ (if waits then 1 else 0)
 
 -- the unfolding of this program has this first fault
-abbrev pub FailsAt : ClockTree → CheckFault → Type 0
-FailsAt program fault = clock_unfolded program ≡ Err fault
+abbrev pub HasFirstFault : ClockTree → CheckFault → Type 0
+HasFirstFault program fault = clock_unfolded program ≡ Err fault
 
 -- the lines of a clock text that is refused: for its first syntax fault, or else for the first fault of its unfolding
 abbrev pub IsClockRefusedWith : Option Text → Text → Text → Type 0
 IsClockRefusedWith file text lines =
     ((fault : SyntaxFault) × HasClockFault text fault × (lines ≡ clock_syntax_lines file text fault))
-    ⊎ ((program : ClockTree) × (fault : CheckFault) × IsClockText text program × FailsAt program fault
+    ⊎ ((program : ClockTree) × (fault : CheckFault) × IsClockText text program × HasFirstFault program fault
     × (lines ≡ clock_fault_lines file text (clock_offsets text program) fault))
 
 -- a whole output for this clock text, of the file with this name or of none, with its status: 0 or 1 with its explanation, or 3 with the lines of a refusal
@@ -54,14 +54,14 @@ AnswersClock file text status lines = IsClockExplanationOf file text status line
 -- the clock text has a fault
 abbrev pub HasSomeClockFault : Text → Type 0
 HasSomeClockFault text =
-    ((fault : SyntaxFault) × HasClockFault text fault) ⊎ ((program : ClockTree) × (fault : CheckFault) × IsClockText text program × FailsAt program fault)
+    ((fault : SyntaxFault) × HasClockFault text fault) ⊎ ((program : ClockTree) × (fault : CheckFault) × IsClockText text program × HasFirstFault program fault)
 
 -- the clock text is not refused, and this holds of its final state, in which a run of it ends
 pub record ClockEndsSo (text : Text) (Holds : State → Type 0) : Type 0 where
   pub program : ClockTree
   pub unfolded : ClockUnfolding
   pub steps : List Step
-  pub ended : IsClockRunOf text program unfolded steps
+  pub ended : IsMaximalClockRun text program unfolded steps
   pub holds : Holds (state_after steps)
 
 -- an activity of its final state waits

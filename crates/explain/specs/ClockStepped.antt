@@ -8,7 +8,7 @@ use Rattle.clock_sayings.specs.ClockExplanations.{ExplainsActivities}
 use Rattle.step_lines.specs.SerialRuns.{IsSerialRun}
 use Rattle.clock_steps.specs.ShownClockSteps.{AreClockShown}
 use Rattle.armus_words.specs.Words.{Text}
-use Rattle.explain.specs.ClockExplained.{IsClockRefusedWith, IsClockRunOf}
+use Rattle.explain.specs.ClockExplained.{IsClockRefusedWith, IsMaximalClockRun}
 
 -- The lines show the steps of the serial plain run of a clock text, of the file with this name or of none, and then explain how its activities stand where this
 -- run has ended; and the status is 1 where one of them waits, else 0.
@@ -16,7 +16,7 @@ pub record AreClockStepsOf (file : Option Text) (text : Text) (status : ℕ) (li
   pub program : ClockTree
   pub unfolded : ClockUnfolding
   pub steps : List Step
-  pub ended : IsClockRunOf text program unfolded steps
+  pub ended : IsMaximalClockRun text program unfolded steps
   pub serial : IsSerialRun (plan_of_moves unfolded) steps
   pub shown : Text
   pub are_shown : AreClockShown text program unfolded (plan_of_moves unfolded) steps shown

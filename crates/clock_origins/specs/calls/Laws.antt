@@ -8,7 +8,7 @@ use Rattle.clock_moves.specs.Moves.{Move, advances, begins, drops, ends, opens, 
 use Rattle.clock_moves.specs.Unfolding.{ClockComing, ClockPart, ClockUnfolding, a_close, a_finish, a_plain, an_async, clock_unfolded, plan_of_moves}
 use Rattle.clock_origins.specs.ClockOffsets.{clock_offsets}
 use Rattle.clock_origins.specs.ClockOps.{all_op_origins, is_await, moving_comings}
-use Rattle.clock_origins.specs.ClockOrigins.{Begun, all_begun, all_things, all_waits, comings_by}
+use Rattle.clock_origins.specs.ClockOrigins.{StartedActivity, all_begun, all_things, all_waits, comings_by}
 
 -- the text of a program has an offset for each statement
 abbrev pub StatementsHaveOffsets : Type 0
@@ -36,7 +36,7 @@ AreMovesAt ms moves = ⊥
 -- the moves of each activity are one for each coming at which a move is made, of its kind, and then its stop
 abbrev pub MovesComeFromStatements : Type 0
 MovesComeFromStatements =
-    (p : ClockTree) (u : ClockUnfolding) (t : ℕ) (b : Begun) (moves : List Move) → clock_unfolded p ≡ Ok u → slice_get (all_begun u) t ≡ Some b →
+    (p : ClockTree) (u : ClockUnfolding) (t : ℕ) (b : StartedActivity) (moves : List Move) → clock_unfolded p ≡ Ok u → slice_get (all_begun u) t ≡ Some b →
     slice_get u.moves t ≡ Some moves → AreMovesAt (moving_comings (comings_by b)) moves
 
 -- each activity has an origin for each op of its code

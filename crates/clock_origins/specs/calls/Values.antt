@@ -1,11 +1,11 @@
 -- What contracts see of the origins of a clock program.
 use Rattle.std.specs.Prelude.{◌≡◌, ℕ, List}
 use Rattle.clock_moves.specs.Unfolding.{ClockUnfolding}
-use Rattle.clock_origins.specs.ClockOrigins.{Begun, MadeThing, all_begun, all_things, all_waits}
+use Rattle.clock_origins.specs.ClockOrigins.{StartedActivity, MadeThing, all_begun, all_things, all_waits}
 
 -- activities, clocks and finishes, and waits
 pub record OriginsValue : Type 0 where
-  pub begun : List Begun
+  pub begun : List StartedActivity
   pub things : List MadeThing
   pub waits : List (List ℕ)
 

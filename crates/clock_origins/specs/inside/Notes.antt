@@ -1,12 +1,12 @@
 -- What is noted of the comings of one activity.
 use Rattle.std.specs.Prelude.{ℕ, List, ◌++◌}
 use Rattle.clock_moves.specs.Unfolding.{ClockComing}
-use Rattle.clock_origins.specs.ClockOrigins.{Begun, MadeThing, made_thing_at, things_in, wait_at, waits_in}
+use Rattle.clock_origins.specs.ClockOrigins.{StartedActivity, MadeThing, made_thing_at, things_in, wait_at, waits_in}
 use Rattle.clock_origins.specs.calls.Begun.{begun_at, begun_in}
 
 -- activities, clocks and finishes, and waits
 pub record NotesValue : Type 0 where
-  pub begun : List Begun
+  pub begun : List StartedActivity
   pub things : List MadeThing
   pub waits : List ℕ
 

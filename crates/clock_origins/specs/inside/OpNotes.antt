@@ -4,7 +4,7 @@ use Rattle.armus_base.specs.declared.op.Op.{Op}
 use Rattle.armus_base.specs.declared.op.Op.TheVariants.{Adv, Fork}
 use Rattle.clock_syntax.specs.Trees.{ClockPlain, advance, clock, drop, resume, skip}
 use Rattle.clock_moves.specs.Unfolding.{ClockComing, ClockPart, a_close, a_finish, a_loop, a_plain, a_turn, an_async}
-use Rattle.clock_origins.specs.ClockOrigins.{Begun, comings_by}
+use Rattle.clock_origins.specs.ClockOrigins.{StartedActivity, comings_by}
 
 -- the ops of which nothing is noted yet, and the origins of those before them
 pub record OpNotesValue : Type 0 where
@@ -68,5 +68,5 @@ abbrev pub all_noted : OpNotesValue → OpNotesValue
 all_noted k = stop_noted k.left k.origins
 
 -- what is noted of an activity that is started so and has this code
-abbrev pub code_noted : Begun → List Op → OpNotesValue
+abbrev pub code_noted : StartedActivity → List Op → OpNotesValue
 code_noted b code = all_noted (ops_noted (comings_by b) (record { left = code; origins = [] }))

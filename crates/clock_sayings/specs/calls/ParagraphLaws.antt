@@ -45,8 +45,8 @@ EachHasItsParagraph =
 -- ---- who is named
 
 -- activity v keeps the event from being reached: it is a member of that clock or finish with a phase below
-abbrev pub IsBehind : State → Event → ℕ → Type 0
-IsBehind s e v = (n : ℕ) × s.phases v e.p.0 ≡ Some n × n < e.n
+abbrev pub IsMemberBelow : State → Event → ℕ → Type 0
+IsMemberBelow s e v = (n : ℕ) × s.phases v e.p.0 ≡ Some n × n < e.n
 
 -- The activities that are named to one who waits for this event, whose signal is missing or who have not ended: in order of number, each once; exactly those
 -- that keep the event from being reached; and each of them waits itself.
@@ -54,7 +54,7 @@ pub record NamesThoseBehind (f : ClockFacts) (s : State) (e : Event) : Type 0 wh
   pub named : List ℕ
   pub lines_are : (name : Option (List ℕ)) → missing_lines f e name ≡ flat_map (missing_line f name) named
   pub ascend : AllPairs (λ v w. v < w) named
-  pub exact : (v : ℕ) → Contains named v ↔ IsBehind s e v
+  pub exact : (v : ℕ) → Contains named v ↔ IsMemberBelow s e v
   pub wait : (v : ℕ) → Contains named v → IsWaitingIn s v
 
 -- the explanation of a final state names those to each who waits

@@ -1,6 +1,6 @@
 use Rattle.std.proofs.Common.{[], ◌∷◌, ◌++◌, ap, arith, sym, subst, ◌∙◌}
 use Rattle.clock_moves.specs.Unfolding.{ClockUnfolding}
-use Rattle.clock_origins.specs.ClockOrigins.{Begun}
+use Rattle.clock_origins.specs.ClockOrigins.{StartedActivity}
 use Rattle.clock_origins.specs.calls.Values.{AreOriginsOf, OriginsValue}
 use Rattle.clock_origins.specs.inside.Notes.{NotesValue}
 use Rattle.clock_origins.proofs.Walked.{same_unfolding, walked_end, walked_few, walked_next, walked_start}
@@ -11,7 +11,7 @@ loop-t-init c =
     let (u, e) = c.requires.unfolds in
     let b = c.in_ok-begin.ensures in
     let n = c.new-notes.ensures in
-    let first : Begun = record { first = 1; body = c.args.program.now.body } in (
+    let first : StartedActivity = record { first = 1; body = c.args.program.now.body } in (
       u,
       e,
       walked_start c.args.program.now.body u _ _ _ e (ap (λ (k : NotesValue). k.begun) b ∙ ap (λ (k : NotesValue). k.begun ++ first ∷ []) n)
