@@ -1,10 +1,12 @@
 -- The part of a body from a statement on.
-use Rattle.std.proofs.Common.{◌≡◌, ℕ, ◌+◌, ◌<◌, ◌≤◌, List, [], ◌∷◌, ◌++◌, length, drop, get_or, sym, ap, ◌∙◌, arith}
-use Rattle.std.proofs.lemmas.List.{drop_more, drop_all}
+use Rattle.std.proofs.Common.{◌≡◌, ℕ, ◌+◌, ◌<◌, List, [], ◌∷◌, length, drop, get_or, sum_by, refl, sym, ap, ◌∙◌, arith}
+use Rattle.std.proofs.lemmas.List.{drop_more}
+use Rattle.std.proofs.lemmas.List.Sums.{sum_by-cons}
 use Rattle.clock_syntax.specs.declared.tree.ClockStmt.{ClockStmt}
 use Rattle.clock_syntax.specs.declared.tree.ClockStmt.TheVariants as s
 use Rattle.clock_syntax.specs.Trees.{ClockTree, done, clock_count}
 use Rattle.clock_syntax.specs.calls.Bodies.{clock_followed_by, clock_tree_of}
+use Rattle.clock_syntax.specs.inside.ClockReading.{clock_stmt_count}
 
 pub clock_count_first : (q : ClockStmt) (p : ClockTree) →
     clock_count (clock_followed_by q p) ≡ clock_count (clock_followed_by q done) + clock_count p
@@ -24,15 +26,7 @@ clock_counts items i q lt is =
     ∙ ap (λ (x : ClockStmt). clock_followed_by x (clock_tree_of (drop (i + 1) items))) (sym is))
     ∙ clock_count_first q (clock_tree_of (drop (i + 1) items))
 
-pub clock_nothing : (items : List ClockStmt) (i : ℕ) → length items ≤ i → clock_count (clock_tree_of (drop i items)) ≡ 0
-clock_nothing items i le = ap (λ (x : List ClockStmt). clock_count (clock_tree_of x)) (drop_all i items le)
-
--- one statement more
-pub clock_count_push : (items : List ClockStmt) (q : ClockStmt) →
-    clock_count (clock_tree_of (items ++ q ∷ [])) ≡ clock_count (clock_tree_of items) + clock_count (clock_followed_by q done)
-clock_count_push [] q = omega arith
-clock_count_push (s ∷ ss) q =
-    let h = clock_count_push ss q in
-    let a = clock_count_first s (clock_tree_of (ss ++ q ∷ [])) in
-    let b = clock_count_first s (clock_tree_of ss) in
-    omega arith
+-- all statements of a list, each with its body
+pub clock_count_is : (items : List ClockStmt) → clock_count (clock_tree_of items) ≡ sum_by clock_stmt_count items
+clock_count_is [] = refl
+clock_count_is (s ∷ ss) = clock_count_first s (clock_tree_of ss) ∙ ap (λ n. clock_stmt_count s + n) (clock_count_is ss) ∙ sym (sum_by-cons clock_stmt_count s ss)

@@ -1,41 +1,30 @@
 -- Reading a statement gives the tree of it, or the place where the machine is stuck.
-use Rattle.std.proofs.Common.{◌≡◌, ℕ, ◌+◌, ◌-◌, ◌<◌, ◌≤◌, true, false, List, [], ◌∷◌, ◌++◌, length, None, Result, Ok, Err, refl, subst, arith, inl, inr}
+use Rattle.std.proofs.Common.{◌≡◌, ℕ, ◌+◌, ◌-◌, ◌≤◌, true, false, List, [], ◌∷◌, ◌++◌, Some, None, Ok, Err, refl, ap, subst, arith, inl, inr}
 use Rattle.pl_syntax.specs.declared.scan.Scan.{Scan}
 use Rattle.pl_syntax.specs.declared.limits.TheConstants.{MAX_OPEN_BRACES}
+use Rattle.pl_syntax.specs.declared.statement.Begun.{Begun}
+use Rattle.pl_syntax.specs.declared.statement.Begun.TheVariants.{Whole, Head}
+use Rattle.pl_syntax.specs.declared.token.Keyword.{Keyword}
 use Rattle.pl_syntax.specs.declared.token.Keyword.TheVariants as k
-use Rattle.pl_syntax.specs.declared.token.Sign.TheVariants.{Equals, OpenParen, CloseParen, Comma, Semicolon, OpenBrace, CloseBrace, Plus, Minus}
+use Rattle.pl_syntax.specs.declared.token.Sign.TheVariants.{OpenParen, CloseParen, Comma, Semicolon, OpenBrace, CloseBrace}
 use Rattle.pl_syntax.specs.declared.fault.SyntaxFault.{SyntaxFault}
-use Rattle.pl_syntax.specs.Tokens.{Token, the_end, sign, word, name, number, front, Leads}
-use Rattle.pl_syntax.specs.Grammar.{StaysShallow}
-use Rattle.pl_syntax.specs.inside.Reading.{unexpected, sign_at, name_at, number_at, named_at, braced_at, ends_list}
-use Rattle.pl_syntax.proofs.Fronts.{front_le}
-use Rattle.pl_syntax.proofs.Machine.{a_sign, some_names, first_step, s_end, s_named, s_loop}
-use Rattle.pl_syntax.proofs.Leaves.{after_sign, after_name, name_ok, name_err, bind_ok, bind_err, ok_is, Stuck, Leads-append, sign_ok, sign_err, number_ok, number_err, refused, after_number}
-use Rattle.pl_syntax.proofs.Groups.{named_ok, named_err}
-use Rattle.pl_syntax.proofs.Blocks as blocks
-use Rattle.pl_syntax.proofs.Blocks.{goes_first, leads_le, begun, block_ok, block_err}
+use Rattle.pl_syntax.specs.Tokens.{Token, the_end, sign, word, name, number, front}
+use Rattle.pl_syntax.specs.Grammar.{with_name, StaysShallow}
+use Rattle.pl_syntax.specs.inside.Reading.{unexpected, sign_at, name_at, whole_by, ends_list}
+use Rattle.pl_syntax.specs.inside.Statements.{named_by, statement_at}
+use Rattle.pl_syntax.proofs.Machine.{some_names, at, first_step, s_end, s_named}
+use Rattle.pl_syntax.proofs.Leaves.{after_sign, after_name, name_ok, name_err, bind_ok, bind_err, ok_is, Stuck, sign_ok, sign_err, refused}
+use Rattle.pl_syntax.proofs.Blocks.{ReadBody, TookBegun, goes_first, is_own, begun, flat_took, named_took, named_stuck, whole_ok, whole_err}
+use Rattle.clock_syntax.specs.declared.reader.ClockHead.{ClockHead}
+use Rattle.clock_syntax.specs.declared.reader.ClockHead.TheVariants as h
 use Rattle.clock_syntax.specs.declared.tree.ClockStmt.{ClockStmt}
 use Rattle.clock_syntax.specs.declared.tree.ClockStmt.TheVariants as s
 use Rattle.clock_syntax.specs.Trees.{ClockPlain, clock, advance, resume, drop, skip, ClockTree, done, plain, async, finish, loop, clock_height}
 use Rattle.clock_syntax.specs.calls.Bodies.{clock_followed_by, clock_tree_of}
 use Rattle.clock_syntax.specs.Grammar.{names_tokens, clock_plain_tokens, clock_tokens}
-use Rattle.clock_syntax.specs.inside.ClockReading.{ClockBlock, clock_at, advance_at, resume_at, drop_at, clock_skip_at, names_at, async_at, finish_at, clock_loop_at, clock_statement_in}
+use Rattle.clock_syntax.specs.inside.ClockReading.{ClockRead, clock_at, names_at, async_at, clock_begun, clock_holding, clock_stmts}
 use Rattle.clock_syntax.proofs.ClockBegun.{clock_firsts, run_clock_tree, s_clock, s_body, s_async}
 use Rattle.clock_syntax.proofs.ClockNames.{names_ok, names_err, after_names, names_shallow}
-
--- ---- what was read
-
--- a tree was read from the front, where d braces are open
-abbrev Took : Scan → List ℕ → ClockTree → List ℕ → ℕ → Type 0
-Took scan text p rest d = blocks.Took ClockTree clock_tokens clock_height scan text p rest d
-
--- a tree in braces was read
-abbrev Inside : Scan → List ℕ → ClockTree → List ℕ → ℕ → Type 0
-Inside scan text p rest d = blocks.Inside ClockTree clock_tokens clock_height scan text p rest d
-
--- what reads statements does so, on texts shorter than m
-abbrev Lawful : Scan → ClockBlock → ℕ → Type 0
-Lawful scan body m = blocks.Lawful ClockStmt ClockTree clock_tokens clock_height clock_tree_of clock_firsts scan body m
 
 -- ---- trees
 
@@ -70,7 +59,7 @@ module _ (scan : Scan) where
       (l, (l, (l, clock_stays b (d + 1) (sign CloseBrace ∷ clock_tokens p rest) (omega arith) after_body)))
 
 -- a statement and those after it
-pub clock_tokens_first : (q : ClockStmt) (p : ClockTree) (us : List Token) → clock_tokens (clock_followed_by q done) (clock_tokens p us) ≡ clock_tokens (clock_followed_by q p) us
+clock_tokens_first : (q : ClockStmt) (p : ClockTree) (us : List Token) → clock_tokens (clock_followed_by q done) (clock_tokens p us) ≡ clock_tokens (clock_followed_by q p) us
 clock_tokens_first (s.Clock x) p us = refl
 clock_tokens_first (s.Advance x) p us = refl
 clock_tokens_first (s.Resume x) p us = refl
@@ -80,7 +69,7 @@ clock_tokens_first (s.Async xs b) p us = refl
 clock_tokens_first (s.Finish b) p us = refl
 clock_tokens_first (s.Loop n b) p us = refl
 
-pub clock_deep_first : (q : ClockStmt) (p : ClockTree) (d : ℕ) → clock_height (clock_followed_by q done) + d ≤ MAX_OPEN_BRACES → clock_height p + d ≤ MAX_OPEN_BRACES →
+clock_deep_first : (q : ClockStmt) (p : ClockTree) (d : ℕ) → clock_height (clock_followed_by q done) + d ≤ MAX_OPEN_BRACES → clock_height p + d ≤ MAX_OPEN_BRACES →
     clock_height (clock_followed_by q p) + d ≤ MAX_OPEN_BRACES
 clock_deep_first (s.Clock x) p d a b = b
 clock_deep_first (s.Advance x) p d a b = b
@@ -91,7 +80,7 @@ clock_deep_first (s.Async xs q) p d a b = omega arith
 clock_deep_first (s.Finish q) p d a b = omega arith
 clock_deep_first (s.Loop n q) p d a b = omega arith
 
-pub clock_tokens_go : (q : ClockStmt) → goes_first (clock_tokens (clock_followed_by q done) []) ≡ true
+clock_tokens_go : (q : ClockStmt) → goes_first (clock_tokens (clock_followed_by q done) []) ≡ true
 clock_tokens_go (s.Clock x) = refl
 clock_tokens_go (s.Advance x) = refl
 clock_tokens_go (s.Resume x) = refl
@@ -101,28 +90,52 @@ clock_tokens_go (s.Async xs b) = refl
 clock_tokens_go (s.Finish b) = refl
 clock_tokens_go (s.Loop n b) = refl
 
+-- ---- what was read
+
+-- the first token of what stands before a body
+abbrev first_of : ClockHead → Token
+first_of (h.Async xs) = word k.Async
+first_of h.Finish = word k.Finish
+first_of (h.Loop n) = word k.Loop
+
+-- and those behind it
+abbrev behind_first : ClockHead → List Token
+behind_first (h.Async xs) = sign OpenParen ∷ names_tokens xs (sign CloseParen ∷ [])
+behind_first h.Finish = []
+behind_first (h.Loop n) = number n ∷ []
+
+-- a statement alone
+abbrev alone : ClockStmt → ClockTree
+alone s = clock_followed_by s done
+
+height_held : (h : ClockHead) (ss : List ClockStmt) → clock_height (alone (clock_holding h ss)) ≡ clock_height (clock_tree_of ss) + 1
+height_held (h.Async xs) ss = omega arith
+height_held h.Finish ss = omega arith
+height_held (h.Loop n) ss = omega arith
+
+names_more : (xs : List (List ℕ)) (us : List Token) → names_tokens xs (sign CloseParen ∷ []) ++ us ≡ names_tokens xs (sign CloseParen ∷ us)
+names_more [] us = refl
+names_more (x ∷ []) us = refl
+names_more (x ∷ y ∷ ys) us = ap (λ (ts : List Token). name x ∷ sign Comma ∷ ts) (names_more (y ∷ ys) us)
+
+tokens_held : (h : ClockHead) (ss : List ClockStmt) (us : List Token) →
+    first_of h ∷ (behind_first h ++ (sign OpenBrace ∷ clock_tokens (clock_tree_of ss) (sign CloseBrace ∷ us))) ≡ clock_tokens (alone (clock_holding h ss)) us
+tokens_held (h.Async xs) ss us = ap (λ (ts : List Token). word k.Async ∷ sign OpenParen ∷ ts) (names_more xs _)
+tokens_held h.Finish ss us = refl
+tokens_held (h.Loop n) ss us = refl
+
 module _ (scan : Scan) where
-  -- ---- statements without a body
+  abbrev StmtTook : Token → List ℕ → List ℕ → Begun ClockStmt ClockHead × List ℕ → ℕ → Type 0
+  StmtTook t before text y d = TookBegun ClockStmt ClockHead ClockTree clock_tokens clock_height clock_firsts alone first_of behind_first scan t before text y.0 y.1 d
 
-  plain_took : (c : ClockPlain) (t : Token) (ts : List Token) (d : ℕ) (before text rest : List ℕ) → d ≤ MAX_OPEN_BRACES → front scan before ≡ Ok (t, text) →
-      Leads scan text ts rest → ((us : List Token) → t ∷ (ts ++ us) ≡ clock_plain_tokens c us)
-      → Took scan before (plain c done) rest d
-  plain_took c t ts d before text rest le here leads spelled = record {
-    leads = λ us end h. subst (λ (x : List Token). Leads scan before x end) (spelled us) (text, here, Leads-append scan text ts rest us end leads h);
-    deep = omega arith;
-  }
-
-  StmtTook : List ℕ → ClockStmt × List ℕ → ℕ → Type 0
-  StmtTook before y d = Took scan before (clock_followed_by y.0 done) y.1 d
-
-  make_ok : (d : ℕ) (before text : List ℕ) (y : ClockStmt × List ℕ) → d ≤ MAX_OPEN_BRACES → front scan before ≡ Ok (word k.Clock, text) → clock_at scan text ≡ Ok y →
-      StmtTook before y d
-  unfolding clock_at StmtTook
+  make_ok : (d : ℕ) (before text : List ℕ) (y : Begun ClockStmt ClockHead × List ℕ) → d ≤ MAX_OPEN_BRACES → front scan before ≡ Ok (word k.Clock, text) → clock_at scan text ≡ Ok y →
+      StmtTook (word k.Clock) before text y d
+  unfolding clock_at
   make_ok d before text y le here e =
       let a = bind_ok (name_at scan text) _ y e in
       let b = bind_ok (sign_at scan Semicolon a.0.1) _ y a.2 in
-      subst (λ (z : ClockStmt × List ℕ). Took scan before (clock_followed_by z.0 done) z.1 d) (ok_is (s.Clock a.0.0, b.0) y b.2)
-      (plain_took (clock a.0.0) (word k.Clock) (name a.0.0 ∷ sign Semicolon ∷ []) d before text b.0 le here
+      subst (λ (z : Begun ClockStmt ClockHead × List ℕ). StmtTook (word k.Clock) before text z d) (ok_is (Whole (s.Clock a.0.0), b.0) y b.2)
+      (flat_took scan ClockTree clock_tokens clock_height (plain (clock a.0.0) done) (word k.Clock) (name a.0.0 ∷ sign Semicolon ∷ []) d before text b.0 refl le here
       (a.0.1, name_ok scan text a.0 a.1, (b.0, sign_ok scan Semicolon a.0.1 b.0 b.1, refl)) (λ us. refl))
 
   make_err : (d : ℕ) (before text : List ℕ) (f : SyntaxFault) → d ≤ MAX_OPEN_BRACES → front scan before ≡ Ok (word k.Clock, text) → clock_at scan text ≡ Err f →
@@ -139,224 +152,89 @@ module _ (scan : Scan) where
             ])
       ])
 
-  advance_ok : (d : ℕ) (before text : List ℕ) (y : ClockStmt × List ℕ) → d ≤ MAX_OPEN_BRACES → front scan before ≡ Ok (word k.Advance, text) → advance_at scan text ≡ Ok y →
-      StmtTook before y d
-  unfolding advance_at StmtTook
-  advance_ok d before text y le here e =
-      let b = bind_ok (named_at scan text) _ y e in
-      subst (λ (z : ClockStmt × List ℕ). Took scan before (clock_followed_by z.0 done) z.1 d) (ok_is (s.Advance b.0.0, b.0.1) y b.2)
-      (plain_took (advance b.0.0) (word k.Advance) (sign OpenParen ∷ name b.0.0 ∷ sign CloseParen ∷ sign Semicolon ∷ []) d before text b.0.1 le here
-      (named_ok scan text b.0 b.1) (λ us. refl))
+  async_ok : (d : ℕ) (before text : List ℕ) (y : Begun ClockStmt ClockHead × List ℕ) → d ≤ MAX_OPEN_BRACES → front scan before ≡ Ok (word k.Async, text) →
+      async_at scan text ≡ Ok y → StmtTook (word k.Async) before text y d
+  unfolding async_at
+  async_ok d before text y le here e =
+      let o = bind_ok (sign_at scan OpenParen text) _ y e in
+      let a = bind_ok (names_at scan o.0) _ y o.2 in
+      subst (λ (z : Begun ClockStmt ClockHead × List ℕ). StmtTook (word k.Async) before text z d) (ok_is (Head (h.Async a.0.0), a.0.1) y a.2) (
+        refl,
+        (o.0, sign_ok scan OpenParen text o.0 o.1, names_ok scan o.0 a.0 a.1 [] a.0.1 refl),
+        λ f stuck.
+            begun scan clock_firsts (word k.Async) s_async d before text f le here refl refl
+            (after_sign scan clock_firsts OpenParen (some_names ∷ s_body) d text o.0 f refl le o.1 (after_names scan s_body d o.0 a.0 f le a.1 stuck)),
+      )
 
-  advance_err : (d : ℕ) (before text : List ℕ) (f : SyntaxFault) → d ≤ MAX_OPEN_BRACES → front scan before ≡ Ok (word k.Advance, text) → advance_at scan text ≡ Err f →
+  async_err : (d : ℕ) (before text : List ℕ) (f : SyntaxFault) → d ≤ MAX_OPEN_BRACES → front scan before ≡ Ok (word k.Async, text) → async_at scan text ≡ Err f →
       Stuck scan clock_firsts [] d before f
-  unfolding advance_at
-  advance_err d before text f le here e =
-      elim (bind_err (named_at scan text) _ f e) [
-        | inl p ↦ begun scan clock_firsts (word k.Advance) s_named d before text f le here refl refl (named_err scan clock_firsts d text f le p)
-        | inr b ↦ absurd (let q = b.2 in cc)
-      ]
+  unfolding async_at
+  async_err d before text f le here e =
+      begun scan clock_firsts (word k.Async) s_async d before text f le here refl refl
+      (elim (bind_err (sign_at scan OpenParen text) _ f e) [
+        | inl p ↦ sign_err scan clock_firsts OpenParen (some_names ∷ s_body) d text f le p
+        | inr o ↦ after_sign scan clock_firsts OpenParen (some_names ∷ s_body) d text o.0 f refl le o.1
+            (elim (bind_err (names_at scan o.0) _ f o.2) [
+              | inl p ↦ names_err scan s_body d o.0 f le p
+              | inr a ↦ absurd (let q = a.2 in cc)
+            ])
+      ])
 
-  resume_ok : (d : ℕ) (before text : List ℕ) (y : ClockStmt × List ℕ) → d ≤ MAX_OPEN_BRACES → front scan before ≡ Ok (word k.Resume, text) → resume_at scan text ≡ Ok y →
-      StmtTook before y d
-  unfolding resume_at StmtTook
-  resume_ok d before text y le here e =
-      let b = bind_ok (named_at scan text) _ y e in
-      subst (λ (z : ClockStmt × List ℕ). Took scan before (clock_followed_by z.0 done) z.1 d) (ok_is (s.Resume b.0.0, b.0.1) y b.2)
-      (plain_took (resume b.0.0) (word k.Resume) (sign OpenParen ∷ name b.0.0 ∷ sign CloseParen ∷ sign Semicolon ∷ []) d before text b.0.1 le here
-      (named_ok scan text b.0 b.1) (λ us. refl))
+  named_begun : (make : List ℕ → ClockStmt) (w : Keyword) (d : ℕ) (before text : List ℕ) (y : Begun ClockStmt ClockHead × List ℕ) → d ≤ MAX_OPEN_BRACES →
+      front scan before ≡ Ok (word w, text) → ((x : List ℕ) → clock_height (alone (make x)) ≡ 0)
+      → ((x : List ℕ) (us : List Token) → word w ∷ with_name x (sign Semicolon ∷ us) ≡ clock_tokens (alone (make x)) us) → named_by make scan text ≡ Ok y
+      → StmtTook (word w) before text y d
+  named_begun make w d before text y le here flat spelled e =
+      named_took scan ClockStmt ClockHead ClockTree clock_tokens clock_height clock_firsts alone first_of behind_first make w d before text le here y flat spelled e
 
-  resume_err : (d : ℕ) (before text : List ℕ) (f : SyntaxFault) → d ≤ MAX_OPEN_BRACES → front scan before ≡ Ok (word k.Resume, text) → resume_at scan text ≡ Err f →
-      Stuck scan clock_firsts [] d before f
-  unfolding resume_at
-  resume_err d before text f le here e =
-      elim (bind_err (named_at scan text) _ f e) [
-        | inl p ↦ begun scan clock_firsts (word k.Resume) s_named d before text f le here refl refl (named_err scan clock_firsts d text f le p)
-        | inr b ↦ absurd (let q = b.2 in cc)
-      ]
+  -- ---- any statement
 
-  drop_ok : (d : ℕ) (before text : List ℕ) (y : ClockStmt × List ℕ) → d ≤ MAX_OPEN_BRACES → front scan before ≡ Ok (word k.Drop, text) → drop_at scan text ≡ Ok y →
-      StmtTook before y d
-  unfolding drop_at StmtTook
-  drop_ok d before text y le here e =
-      let b = bind_ok (named_at scan text) _ y e in
-      subst (λ (z : ClockStmt × List ℕ). Took scan before (clock_followed_by z.0 done) z.1 d) (ok_is (s.Drop b.0.0, b.0.1) y b.2)
-      (plain_took (drop b.0.0) (word k.Drop) (sign OpenParen ∷ name b.0.0 ∷ sign CloseParen ∷ sign Semicolon ∷ []) d before text b.0.1 le here
-      (named_ok scan text b.0 b.1) (λ us. refl))
+  begun_ok : (d : ℕ) (t : Token) (before text : List ℕ) (y : Begun ClockStmt ClockHead × List ℕ) → d ≤ MAX_OPEN_BRACES → front scan before ≡ Ok (t, text) →
+      clock_begun scan t before text ≡ Ok y → StmtTook t before text y d
+  begun_ok d (word k.Clock) before text y le here e = make_ok d before text y le here e
+  begun_ok d (word k.Advance) before text y le here e = named_begun s.Advance k.Advance d before text y le here (λ x. refl) (λ x us. refl) e
+  begun_ok d (word k.Resume) before text y le here e = named_begun s.Resume k.Resume d before text y le here (λ x. refl) (λ x us. refl) e
+  begun_ok d (word k.Drop) before text y le here e = named_begun s.Drop k.Drop d before text y le here (λ x. refl) (λ x us. refl) e
+  begun_ok d (word k.Async) before text y le here e = async_ok d before text y le here e
+  begun_ok d (word k.Finish) before text y le here e =
+      subst (λ (z : Begun ClockStmt ClockHead × List ℕ). StmtTook (word k.Finish) before text z d) (ok_is (Head h.Finish, text) y e)
+      (refl, refl, λ f stuck. begun scan clock_firsts (word k.Finish) s_body d before text f le here refl refl stuck)
+  begun_ok d _ before text y le here e = absurd cc
 
-  drop_err : (d : ℕ) (before text : List ℕ) (f : SyntaxFault) → d ≤ MAX_OPEN_BRACES → front scan before ≡ Ok (word k.Drop, text) → drop_at scan text ≡ Err f →
-      Stuck scan clock_firsts [] d before f
-  unfolding drop_at
-  drop_err d before text f le here e =
-      elim (bind_err (named_at scan text) _ f e) [
-        | inl p ↦ begun scan clock_firsts (word k.Drop) s_named d before text f le here refl refl (named_err scan clock_firsts d text f le p)
-        | inr b ↦ absurd (let q = b.2 in cc)
-      ]
+  wrong : (t : Token) (d : ℕ) (before text : List ℕ) (f : SyntaxFault) → d ≤ MAX_OPEN_BRACES → front scan before ≡ Ok (t, text) → first_step clock_firsts d t ≡ None →
+      ◌≡◌ {A = ClockRead} (Err (unexpected scan before)) (Err f) → Stuck scan clock_firsts [] d before f
+  wrong t d before text f le here stops e = refused scan clock_firsts [] d before f le record { token = t; rest = text; here = here; no_step = stops; fault_is = cc }
 
-  skip_ok : (d : ℕ) (before text : List ℕ) (y : ClockStmt × List ℕ) → d ≤ MAX_OPEN_BRACES → front scan before ≡ Ok (word k.Skip, text) → clock_skip_at scan text ≡ Ok y →
-      StmtTook before y d
-  unfolding clock_skip_at StmtTook
-  skip_ok d before text y le here e =
-      let b = bind_ok (sign_at scan Semicolon text) _ y e in
-      subst (λ (z : ClockStmt × List ℕ). Took scan before (clock_followed_by z.0 done) z.1 d) (ok_is (s.Skip, b.0) y b.2)
-      (plain_took skip (word k.Skip) (sign Semicolon ∷ []) d before text b.0 le here (b.0, sign_ok scan Semicolon text b.0 b.1, refl) (λ us. refl))
+  named_err_at : (make : List ℕ → ClockStmt) (w : Keyword) (d : ℕ) (before text : List ℕ) (f : SyntaxFault) → d ≤ MAX_OPEN_BRACES → front scan before ≡ Ok (word w, text)
+      → first_step clock_firsts d (word w) ≡ Some (at s_named d) → named_by {S = ClockStmt} {H = ClockHead} make scan text ≡ Err f → Stuck scan clock_firsts [] d before f
+  named_err_at make w d before text f le here steps e =
+      named_stuck scan ClockStmt ClockHead ClockTree clock_tokens clock_height clock_firsts alone first_of behind_first make w d before text le here f steps e
 
-  skip_err : (d : ℕ) (before text : List ℕ) (f : SyntaxFault) → d ≤ MAX_OPEN_BRACES → front scan before ≡ Ok (word k.Skip, text) → clock_skip_at scan text ≡ Err f →
-      Stuck scan clock_firsts [] d before f
-  unfolding clock_skip_at
-  skip_err d before text f le here e =
-      elim (bind_err (sign_at scan Semicolon text) _ f e) [
-        | inl p ↦ begun scan clock_firsts (word k.Skip) s_end d before text f le here refl refl (sign_err scan clock_firsts Semicolon [] d text f le p)
-        | inr b ↦ absurd (let q = b.2 in cc)
-      ]
+  begun_err : (d : ℕ) (t : Token) (before text : List ℕ) (f : SyntaxFault) → d ≤ MAX_OPEN_BRACES → front scan before ≡ Ok (t, text) → ends_list t ≡ false →
+      is_own t ≡ true → clock_begun scan t before text ≡ Err f → Stuck scan clock_firsts [] d before f
+  begun_err d (word k.Clock) before text f le here goes own e = make_err d before text f le here e
+  begun_err d (word k.Advance) before text f le here goes own e = named_err_at s.Advance k.Advance d before text f le here refl e
+  begun_err d (word k.Resume) before text f le here goes own e = named_err_at s.Resume k.Resume d before text f le here refl e
+  begun_err d (word k.Drop) before text f le here goes own e = named_err_at s.Drop k.Drop d before text f le here refl e
+  begun_err d (word k.Async) before text f le here goes own e = async_err d before text f le here e
+  begun_err d (word k.Finish) before text f le here goes own e = absurd cc
+  begun_err d (word k.Skip) before text f le here goes own e = absurd cc
+  begun_err d (word k.Loop) before text f le here goes own e = absurd cc
+  begun_err d the_end before text f le here goes own e = absurd cc
+  begun_err d (sign CloseBrace) before text f le here goes own e = absurd cc
+  begun_err d t before text f le here goes own e = wrong t d before text f le here refl e
 
-  -- ---- statements with a body
+  -- ---- lists of statements
 
-  module _ (body : ClockBlock) (m : ℕ) (law : Lawful scan body m) where
-    inside_ok : (d : ℕ) (text : List ℕ) (y : ClockTree × List ℕ) → d ≤ MAX_OPEN_BRACES → length text < m → braced_at clock_tree_of body scan d text ≡ Ok y → Inside scan text y.0 y.1 d
-    inside_ok d text y le lt e =
-        block_ok ClockStmt ClockTree clock_tokens clock_height clock_tree_of clock_firsts scan run_clock_tree (clock_stays scan) body m law d text y le lt e
+  pub clock_stmts_ok : (text : List ℕ) (ss : List ClockStmt) → whole_by (statement_at clock_stmts) scan text ≡ Ok ss →
+      ReadBody ClockTree clock_tokens clock_height scan text (clock_tree_of ss)
+  clock_stmts_ok text ss e =
+      whole_ok ClockStmt ClockTree clock_tokens clock_height clock_tree_of clock_firsts scan run_clock_tree (clock_stays scan) alone (λ us. refl) refl
+      (λ s ss us. clock_tokens_first s (clock_tree_of ss) us) (λ s ss d a b. clock_deep_first s (clock_tree_of ss) d a b) clock_tokens_go ClockHead clock_stmts first_of
+      behind_first refl refl refl (λ us. refl) (λ n. refl) (λ n. refl) height_held tokens_held begun_ok begun_err text ss e
 
-    inside_err : (d : ℕ) (text : List ℕ) (f : SyntaxFault) → d ≤ MAX_OPEN_BRACES → length text < m → braced_at clock_tree_of body scan d text ≡ Err f →
-        Stuck scan clock_firsts (a_sign OpenBrace ∷ []) d text f
-    inside_err d text f le lt e =
-        block_err ClockStmt ClockTree clock_tokens clock_height clock_tree_of clock_firsts scan run_clock_tree (clock_stays scan) body m law d text f le lt e
-
-    async_ok : (d : ℕ) (before text : List ℕ) (y : ClockStmt × List ℕ) → d ≤ MAX_OPEN_BRACES → length text < m → front scan before ≡ Ok (word k.Async, text) →
-        async_at body scan d text ≡ Ok y → StmtTook before y d
-    unfolding async_at StmtTook
-    async_ok d before text y le lt here e =
-        let o = bind_ok (sign_at scan OpenParen text) _ y e in
-        let a = bind_ok (names_at scan o.0) _ y o.2 in
-        let b = bind_ok (braced_at clock_tree_of body scan d a.0.1) _ y a.2 in
-        let first = sign_ok scan OpenParen text o.0 o.1 in
-        let l = front_le scan text (sign OpenParen) o.0 first in
-        let x = names_ok scan o.0 a.0 a.1 in
-        let n = leads_le scan o.0 (names_tokens a.0.0 (sign CloseParen ∷ [])) a.0.1 (x [] a.0.1 refl) in
-        let i = inside_ok d a.0.1 b.0 le (omega arith) b.1 in
-        subst (λ (z : ClockStmt × List ℕ). Took scan before (clock_followed_by z.0 done) z.1 d) (ok_is (s.Async a.0.0 b.0.0, b.0.1) y b.2)
-        record {
-          leads = λ us end h. (text, here, (o.0, first, x (sign OpenBrace ∷ clock_tokens b.0.0 (sign CloseBrace ∷ us)) end (i.leads us end h)));
-          deep = (let q = i.deep in omega arith);
-        }
-
-    async_err : (d : ℕ) (before text : List ℕ) (f : SyntaxFault) → d ≤ MAX_OPEN_BRACES → length text < m → front scan before ≡ Ok (word k.Async, text) →
-        async_at body scan d text ≡ Err f → Stuck scan clock_firsts [] d before f
-    unfolding async_at
-    async_err d before text f le lt here e =
-        begun scan clock_firsts (word k.Async) s_async d before text f le here refl refl
-        (elim (bind_err (sign_at scan OpenParen text) _ f e) [
-          | inl p ↦ sign_err scan clock_firsts OpenParen (some_names ∷ s_body) d text f le p
-          | inr o ↦ after_sign scan clock_firsts OpenParen (some_names ∷ s_body) d text o.0 f refl le o.1
-              (elim (bind_err (names_at scan o.0) _ f o.2) [
-                | inl p ↦ names_err scan s_body d o.0 f le p
-                | inr a ↦ after_names scan s_body d o.0 a.0 f le a.1
-                    (let l = front_le scan text (sign OpenParen) o.0 (sign_ok scan OpenParen text o.0 o.1) in
-                    let n = leads_le scan o.0 (names_tokens a.0.0 (sign CloseParen ∷ [])) a.0.1 (names_ok scan o.0 a.0 a.1 [] a.0.1 refl) in
-                    elim (bind_err (braced_at clock_tree_of body scan d a.0.1) _ f a.2) [
-                      | inl p ↦ inside_err d a.0.1 f le (omega arith) p
-                      | inr b ↦ absurd (let q = b.2 in cc)
-                    ])
-              ])
-        ])
-
-    finish_ok : (d : ℕ) (before text : List ℕ) (y : ClockStmt × List ℕ) → d ≤ MAX_OPEN_BRACES → length text < m → front scan before ≡ Ok (word k.Finish, text) →
-        finish_at body scan d text ≡ Ok y → StmtTook before y d
-    unfolding finish_at StmtTook
-    finish_ok d before text y le lt here e =
-        let b = bind_ok (braced_at clock_tree_of body scan d text) _ y e in
-        let i = inside_ok d text b.0 le lt b.1 in
-        subst (λ (z : ClockStmt × List ℕ). Took scan before (clock_followed_by z.0 done) z.1 d) (ok_is (s.Finish b.0.0, b.0.1) y b.2)
-        record {
-          leads = λ us end h. (text, here, i.leads us end h);
-          deep = (let q = i.deep in omega arith);
-        }
-
-    finish_err : (d : ℕ) (before text : List ℕ) (f : SyntaxFault) → d ≤ MAX_OPEN_BRACES → length text < m → front scan before ≡ Ok (word k.Finish, text) →
-        finish_at body scan d text ≡ Err f → Stuck scan clock_firsts [] d before f
-    unfolding finish_at
-    finish_err d before text f le lt here e =
-        begun scan clock_firsts (word k.Finish) s_body d before text f le here refl refl
-        (elim (bind_err (braced_at clock_tree_of body scan d text) _ f e) [
-          | inl p ↦ inside_err d text f le lt p
-          | inr b ↦ absurd (let q = b.2 in cc)
-        ])
-
-    loop_ok : (d : ℕ) (before text : List ℕ) (y : ClockStmt × List ℕ) → d ≤ MAX_OPEN_BRACES → length text < m → front scan before ≡ Ok (word k.Loop, text) →
-        clock_loop_at body scan d text ≡ Ok y → StmtTook before y d
-    unfolding clock_loop_at StmtTook
-    loop_ok d before text y le lt here e =
-        let a = bind_ok (number_at scan text) _ y e in
-        let b = bind_ok (braced_at clock_tree_of body scan d a.0.1) _ y a.2 in
-        let x = number_ok scan text a.0 a.1 in
-        let l = front_le scan text (number a.0.0) a.0.1 x in
-        let i = inside_ok d a.0.1 b.0 le (omega arith) b.1 in
-        subst (λ (z : ClockStmt × List ℕ). Took scan before (clock_followed_by z.0 done) z.1 d) (ok_is (s.Loop a.0.0 b.0.0, b.0.1) y b.2)
-        record {
-          leads = λ us end h. (text, here, (a.0.1, x, i.leads us end h));
-          deep = (let q = i.deep in omega arith);
-        }
-
-    loop_err : (d : ℕ) (before text : List ℕ) (f : SyntaxFault) → d ≤ MAX_OPEN_BRACES → length text < m → front scan before ≡ Ok (word k.Loop, text) →
-        clock_loop_at body scan d text ≡ Err f → Stuck scan clock_firsts [] d before f
-    unfolding clock_loop_at
-    loop_err d before text f le lt here e =
-        begun scan clock_firsts (word k.Loop) s_loop d before text f le here refl refl
-        (elim (bind_err (number_at scan text) _ f e) [
-          | inl p ↦ number_err scan clock_firsts s_body d text f le p
-          | inr a ↦ after_number scan clock_firsts s_body d text a.0 f le a.1
-              (let l = front_le scan text (number a.0.0) a.0.1 (number_ok scan text a.0 a.1) in
-              elim (bind_err (braced_at clock_tree_of body scan d a.0.1) _ f a.2) [
-                | inl p ↦ inside_err d a.0.1 f le (omega arith) p
-                | inr b ↦ absurd (let q = b.2 in cc)
-              ])
-        ])
-
-    -- ---- any statement
-
-    pub clock_statement_ok : (d : ℕ) (t : Token) (before text : List ℕ) (y : ClockStmt × List ℕ) → d ≤ MAX_OPEN_BRACES → length text < m →
-        front scan before ≡ Ok (t, text) → clock_statement_in body scan d t before text ≡ Ok y → Took scan before (clock_followed_by y.0 done) y.1 d
-    unfolding StmtTook
-    clock_statement_ok d (word k.Clock) before text y le lt here e = make_ok d before text y le here e
-    clock_statement_ok d (word k.Advance) before text y le lt here e = advance_ok d before text y le here e
-    clock_statement_ok d (word k.Resume) before text y le lt here e = resume_ok d before text y le here e
-    clock_statement_ok d (word k.Drop) before text y le lt here e = drop_ok d before text y le here e
-    clock_statement_ok d (word k.Skip) before text y le lt here e = skip_ok d before text y le here e
-    clock_statement_ok d (word k.Async) before text y le lt here e = async_ok d before text y le lt here e
-    clock_statement_ok d (word k.Finish) before text y le lt here e = finish_ok d before text y le lt here e
-    clock_statement_ok d (word k.Loop) before text y le lt here e = loop_ok d before text y le lt here e
-    clock_statement_ok d _ before text y le lt here e = absurd cc
-
-    wrong : (t : Token) (d : ℕ) (before text : List ℕ) (f : SyntaxFault) → d ≤ MAX_OPEN_BRACES → front scan before ≡ Ok (t, text) → first_step clock_firsts d t ≡ None →
-        ◌≡◌ {A = Result (ClockStmt × List ℕ) SyntaxFault} (Err (unexpected scan before)) (Err f) → Stuck scan clock_firsts [] d before f
-    wrong t d before text f le here stops e = refused scan clock_firsts [] d before f le record { token = t; rest = text; here = here; no_step = stops; fault_is = cc }
-
-    pub clock_statement_err : (d : ℕ) (t : Token) (before text : List ℕ) (f : SyntaxFault) → d ≤ MAX_OPEN_BRACES → length text < m →
-        front scan before ≡ Ok (t, text) → ends_list t ≡ false → clock_statement_in body scan d t before text ≡ Err f → Stuck scan clock_firsts [] d before f
-    clock_statement_err d (word k.Clock) before text f le lt here goes e = make_err d before text f le here e
-    clock_statement_err d (word k.Advance) before text f le lt here goes e = advance_err d before text f le here e
-    clock_statement_err d (word k.Resume) before text f le lt here goes e = resume_err d before text f le here e
-    clock_statement_err d (word k.Drop) before text f le lt here goes e = drop_err d before text f le here e
-    clock_statement_err d (word k.Skip) before text f le lt here goes e = skip_err d before text f le here e
-    clock_statement_err d (word k.Async) before text f le lt here goes e = async_err d before text f le lt here e
-    clock_statement_err d (word k.Finish) before text f le lt here goes e = finish_err d before text f le lt here e
-    clock_statement_err d (word k.Loop) before text f le lt here goes e = loop_err d before text f le lt here e
-    clock_statement_err d the_end before text f le lt here goes e = absurd cc
-    clock_statement_err d (sign CloseBrace) before text f le lt here goes e = absurd cc
-    clock_statement_err d (name x) before text f le lt here goes e = wrong (name x) d before text f le here refl e
-    clock_statement_err d (number n) before text f le lt here goes e = wrong (number n) d before text f le here refl e
-    clock_statement_err d (sign Equals) before text f le lt here goes e = wrong (sign Equals) d before text f le here refl e
-    clock_statement_err d (sign OpenParen) before text f le lt here goes e = wrong (sign OpenParen) d before text f le here refl e
-    clock_statement_err d (sign CloseParen) before text f le lt here goes e = wrong (sign CloseParen) d before text f le here refl e
-    clock_statement_err d (sign Comma) before text f le lt here goes e = wrong (sign Comma) d before text f le here refl e
-    clock_statement_err d (sign Semicolon) before text f le lt here goes e = wrong (sign Semicolon) d before text f le here refl e
-    clock_statement_err d (sign OpenBrace) before text f le lt here goes e = wrong (sign OpenBrace) d before text f le here refl e
-    clock_statement_err d (sign Plus) before text f le lt here goes e = wrong (sign Plus) d before text f le here refl e
-    clock_statement_err d (sign Minus) before text f le lt here goes e = wrong (sign Minus) d before text f le here refl e
-    clock_statement_err d (word k.NewTid) before text f le lt here goes e = wrong (word k.NewTid) d before text f le here refl e
-    clock_statement_err d (word k.NewPhaser) before text f le lt here goes e = wrong (word k.NewPhaser) d before text f le here refl e
-    clock_statement_err d (word k.Fork) before text f le lt here goes e = wrong (word k.Fork) d before text f le here refl e
-    clock_statement_err d (word k.Reg) before text f le lt here goes e = wrong (word k.Reg) d before text f le here refl e
-    clock_statement_err d (word k.Dereg) before text f le lt here goes e = wrong (word k.Dereg) d before text f le here refl e
-    clock_statement_err d (word k.Adv) before text f le lt here goes e = wrong (word k.Adv) d before text f le here refl e
-    clock_statement_err d (word k.Await) before text f le lt here goes e = wrong (word k.Await) d before text f le here refl e
+  pub clock_stmts_err : (text : List ℕ) (f : SyntaxFault) → whole_by (statement_at clock_stmts) scan text ≡ Err f → Stuck scan clock_firsts [] 0 text f
+  clock_stmts_err text f e =
+      whole_err ClockStmt ClockTree clock_tokens clock_height clock_tree_of clock_firsts scan run_clock_tree (clock_stays scan) alone (λ us. refl) refl
+      (λ s ss us. clock_tokens_first s (clock_tree_of ss) us) (λ s ss d a b. clock_deep_first s (clock_tree_of ss) d a b) clock_tokens_go ClockHead clock_stmts first_of
+      behind_first refl refl refl (λ us. refl) (λ n. refl) (λ n. refl) height_held tokens_held begun_ok begun_err text f e

@@ -79,15 +79,12 @@ impl Model for ClockBody {
 }
 
 impl ClockBody {
-    // The body of these statements.
-    pub(crate) fn new(items: Vec<ClockStmt>) -> ClockBody
-        requires { clock_count (clock_tree_of items.items) < 2 ^ 32 }
-        ensures { result ≡ clock_tree_of items.items }
+    // The body of these statements, of which there are so many, those inside of others included.
+    pub(crate) fn new(items: Vec<ClockStmt>, statements: u32) -> ClockBody
+        requires { statements ≡ clock_count (clock_tree_of items.items) }
+        ensures tree { result ≡ clock_tree_of items.items }
+        ensures counted { clock_count result ≡ statements }
     {
-        let mut statements = 0;
-        for stmt in &items {
-            statements += stmt.statements();
-        }
         ClockBody { items, statements }
     }
 

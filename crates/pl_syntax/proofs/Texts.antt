@@ -6,36 +6,19 @@ use Rattle.std.proofs.lemmas.Slice.Eq.{bytes_eq-Decides}
 use Rattle.pl_syntax.specs.declared.token.Sign.TheVariants.{Semicolon}
 use Rattle.pl_syntax.specs.declared.fault.SyntaxFault.{SyntaxFault}
 use Rattle.pl_syntax.specs.declared.tree.Program.{Program}
-use Rattle.pl_syntax.specs.declared.tree.Stmt.{Stmt}
 use Rattle.pl_syntax.specs.Tokens.{Token, the_end, sign, word, name, number, front, Leads}
-use Rattle.pl_syntax.specs.Tree.{Tree, done, height}
-use Rattle.pl_syntax.specs.calls.Bodies.{followed_by, tree_of}
-use Rattle.pl_syntax.specs.Grammar.{tokens, header, scan_of, IsText, HasFault, Begins, IsAtFault, no_token, cannot_stand}
-use Rattle.pl_syntax.specs.inside.Reading.{◌>>=◌, statement_read, sign_in, sign_at, is_pl, is_two, behind_two, behind_pl, header_at, body_at, program_at}
+use Rattle.pl_syntax.specs.Tree.{Tree}
+use Rattle.pl_syntax.specs.calls.Bodies.{tree_of}
+use Rattle.pl_syntax.specs.Grammar.{header, scan_of, IsText, HasFault, Begins, IsAtFault, no_token, cannot_stand}
+use Rattle.pl_syntax.specs.inside.Reading.{◌>>=◌, sign_in, sign_at, is_pl, is_two, behind_two, behind_pl, header_at}
+use Rattle.pl_syntax.specs.inside.PlReading.{stmts_at, program_at}
 use Rattle.pl_syntax.proofs.Fronts.{chosen, ok_pair}
 use Rattle.pl_syntax.proofs.Machine.{a_sign, fits, Shape, State, at, step, run}
-use Rattle.pl_syntax.proofs.Begun.{firsts, run_tree}
+use Rattle.pl_syntax.proofs.Begun.{firsts}
 use Rattle.pl_syntax.proofs.Forest.{begins_if, runs_if}
 use Rattle.pl_syntax.proofs.Leaves.{bind_ok, bind_err, ok_is, sign_ok, sign_fault, Stuck}
-use Rattle.pl_syntax.proofs.Blocks as blocks
-use Rattle.pl_syntax.proofs.Blocks.{whole_ok, whole_err}
 use Rattle.pl_syntax.proofs.Stopped.{goes_on_from, stops_by, stuck_here}
-use Rattle.pl_syntax.proofs.Statements.{stays, tokens_first, deep_first, tokens_go, statement_ok, statement_err}
-
--- ---- the statements of a text
-
-abbrev ReadBody : Scan → List ℕ → Tree → Type 0
-ReadBody scan text p = blocks.ReadBody Tree tokens height scan text p
-
-body_ok : (scan : Scan) (text : List ℕ) (p : Tree) → body_at scan text ≡ Ok p → ReadBody scan text p
-body_ok scan text p e =
-    whole_ok Stmt Tree tokens height tree_of firsts scan run_tree stays (λ s. followed_by s done) (λ us. refl) refl (λ s ss us. tokens_first s (tree_of ss) us)
-    (λ s ss d a b. deep_first s (tree_of ss) d a b) tokens_go statement_read (statement_ok scan) (statement_err scan) text p e
-
-body_err : (scan : Scan) (text : List ℕ) (f : SyntaxFault) → body_at scan text ≡ Err f → Stuck scan firsts [] 0 text f
-body_err scan text f e =
-    whole_err Stmt Tree tokens height tree_of firsts scan run_tree stays (λ s. followed_by s done) (λ us. refl) refl (λ s ss us. tokens_first s (tree_of ss) us)
-    (λ s ss d a b. deep_first s (tree_of ss) d a b) tokens_go statement_read (statement_ok scan) (statement_err scan) text f e
+use Rattle.pl_syntax.proofs.Statements.{ReadBody, stmts_ok, stmts_err}
 
 -- ---- the header
 
@@ -184,9 +167,9 @@ pub program_ok : (text : List ℕ) (p : Program) → program_at text ≡ Ok p �
 unfolding program_at
 program_ok text p e =
     let h = bind_ok (header_at (scan_of false text) text) _ p e in
-    let b = bind_ok (body_at (scan_of h.0.0 text) h.0.1) _ p h.2 in
-    subst (λ (q : Program). IsText text q) (ok_is (record { two = h.0.0; body = b.0 }) p b.2)
-    (program_of text h.0 b.0 (header_ok text h.0 h.1) (body_ok (scan_of h.0.0 text) h.0.1 b.0 b.1))
+    let b = bind_ok (stmts_at (scan_of h.0.0 text) h.0.1) _ p h.2 in
+    subst (λ (q : Program). IsText text q) (ok_is (record { two = h.0.0; body = tree_of b.0 }) p b.2)
+    (program_of text h.0 (tree_of b.0) (header_ok text h.0 h.1) (stmts_ok (scan_of h.0.0 text) h.0.1 b.0 b.1))
 
 fault_of_body : (text : List ℕ) (z : Bool × List ℕ) (f : SyntaxFault) → Begun text z → Stuck (scan_of z.0 text) firsts [] 0 z.1 f → HasFault text f
 fault_of_body text z f (inl one) s =
@@ -278,8 +261,8 @@ unfolding program_at
 program_err text f e =
     elim (bind_err (header_at (scan_of false text) text) _ f e) [
       | inl p ↦ header_err text f p
-      | inr h ↦ elim (bind_err (body_at (scan_of h.0.0 text) h.0.1) _ f h.2) [
-        | inl p ↦ fault_of_body text h.0 f (header_ok text h.0 h.1) (body_err (scan_of h.0.0 text) h.0.1 f p)
+      | inr h ↦ elim (bind_err (stmts_at (scan_of h.0.0 text) h.0.1) _ f h.2) [
+        | inl p ↦ fault_of_body text h.0 f (header_ok text h.0 h.1) (stmts_err (scan_of h.0.0 text) h.0.1 f p)
         | inr b ↦ absurd (let q = b.2 in cc)
       ]
     ]

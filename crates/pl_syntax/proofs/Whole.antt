@@ -6,7 +6,8 @@ use Rattle.pl_syntax.specs.declared.fault.ParseEnd.TheVariants as ends
 use Rattle.pl_syntax.specs.declared.tree.Program.{Program}
 use Rattle.pl_syntax.specs.Grammar.{IsText, HasFault}
 use Rattle.pl_syntax.specs.calls.Parsing.{GivesProgram, GivesFault, IsFirstIfFault}
-use Rattle.pl_syntax.specs.inside.Reading.{Fails, program_at}
+use Rattle.pl_syntax.specs.inside.Reading.{Fails}
+use Rattle.pl_syntax.specs.inside.PlReading.{program_at}
 use Rattle.pl_syntax.proofs.Texts.{program_ok, program_err}
 use Rattle.pl_syntax.proofs.Unique.{one_tree, one_fault, text_or_fault}
 

@@ -1,6 +1,7 @@
 //! The language PL as text: its statements, its reader and its printer.
 //!
-//! The four public modules are what another language is read with: how a text is read, its tokens, the next token, and readers of a few tokens.
+//! The six public modules are what another language is read with: how a text is read, its tokens, the next token, readers of a few tokens, what a language
+//! says of its statements, and the reader of statements with their bodies.
 #![tactic(auto)]
 
 mod ends;
@@ -10,11 +11,13 @@ mod laws;
 pub mod lexer;
 mod limits;
 mod name;
+pub mod nested;
 mod offsets;
 mod printer;
 mod reader;
 mod round_trip;
 pub mod scan;
+pub mod statement;
 pub mod token;
 mod tree;
 mod word;

@@ -1,8 +1,8 @@
 // Programs as trees.
 
-ghost use Rattle.std.specs.Prelude.{◌≡◌, ◌<◌, ◌^◌};
-ghost use Rattle.pl_syntax.specs.Tree.{count, done};
-ghost use Rattle.pl_syntax.specs.calls.Bodies.{followed_by, tree_of};
+ghost use Rattle.std.specs.Prelude.{◌≡◌};
+ghost use Rattle.pl_syntax.specs.Tree.{count};
+ghost use Rattle.pl_syntax.specs.calls.Bodies.{tree_of};
 
 use crate::name::Name;
 use armus_base::Offset;
@@ -65,15 +65,12 @@ impl Model for Body {
 }
 
 impl Body {
-    // The body of these statements.
-    pub(crate) fn new(items: Vec<Stmt>) -> Body
-        requires { count (tree_of items.items) < 2 ^ 32 }
-        ensures { result ≡ tree_of items.items }
+    // The body of these statements, of which there are so many, those inside of others included.
+    pub(crate) fn new(items: Vec<Stmt>, statements: u32) -> Body
+        requires { statements ≡ count (tree_of items.items) }
+        ensures tree { result ≡ tree_of items.items }
+        ensures counted { count result ≡ statements }
     {
-        let mut statements = 0;
-        for stmt in &items {
-            statements += stmt.statements();
-        }
         Body { items, statements }
     }
 
@@ -97,18 +94,4 @@ impl Body {
 pub struct Program {
     pub two: bool,
     pub body: Body,
-}
-
-impl Stmt {
-    // How many statements this one is, its body's included.
-    fn statements(&self) -> u32
-        requires { count (followed_by self.now done) < 2 ^ 32 }
-        ensures { result ≡ count (followed_by self.now done) }
-    {
-        match self {
-            Stmt::Fork { x: _, body } => body.statements() + 1,
-            Stmt::Loop { k: _, body } => body.statements() + 1,
-            _ => 1,
-        }
-    }
 }

@@ -1,54 +1,33 @@
--- What each function of the reader gives, as a function on bytes. No public clause and no definition of the language names these:
--- proofs/ shows that what they give is the tree of the grammar, or the first fault.
+-- The statements of the language of clocks, as they are read. No public clause and no definition of the language names these: proofs/ shows that what they give
+-- is the tree of the grammar, or the first fault.
 use Rattle.std.specs.Prelude.{ℕ, ◌+◌, Bool, true, false, List, [], ◌∷◌, length, Result, Ok, Err}
 use Rattle.pl_syntax.specs.declared.token.Sign.TheVariants.{OpenParen, CloseParen, Comma, Semicolon}
 use Rattle.pl_syntax.specs.declared.token.Keyword.TheVariants as k
 use Rattle.pl_syntax.specs.declared.fault.SyntaxFault.{SyntaxFault}
 use Rattle.pl_syntax.specs.declared.scan.Scan.{Scan}
+use Rattle.pl_syntax.specs.declared.statement.Begun.{Begun}
+use Rattle.pl_syntax.specs.declared.statement.Begun.TheVariants.{Whole, Head}
 use Rattle.pl_syntax.specs.Tokens.{Token, sign, word, name, front}
-use Rattle.pl_syntax.specs.inside.Reading.{◌>>=◌, unexpected, sign_at, name_at, number_at, named_at, BlockOf, braced_at, listed_by, statements_by, whole_by}
+use Rattle.pl_syntax.specs.inside.Reading.{◌>>=◌, unexpected, sign_at, name_at, BlockOf, listed_by, whole_by}
+use Rattle.pl_syntax.specs.inside.Statements.{Statements, named_by, statement_at}
+use Rattle.clock_syntax.specs.declared.reader.ClockHead.{ClockHead}
+use Rattle.clock_syntax.specs.declared.reader.ClockHead.TheVariants as h
 use Rattle.clock_syntax.specs.declared.tree.ClockStmt.{ClockStmt}
 use Rattle.clock_syntax.specs.declared.tree.ClockStmt.TheVariants as s
-use Rattle.clock_syntax.specs.Trees.{ClockTree}
-use Rattle.clock_syntax.specs.calls.Bodies.{clock_tree_of}
+use Rattle.clock_syntax.specs.Trees.{clock_count, done}
+use Rattle.clock_syntax.specs.calls.Bodies.{clock_followed_by, clock_tree_of}
 use Rattle.clock_syntax.specs.Grammar.{clock_scan}
 
--- what reads statements of the language of clocks
-abbrev pub ClockBlock : Type 0
-ClockBlock = BlockOf ClockStmt
+-- what is read of a statement
+abbrev pub ClockRead : Type 0
+ClockRead = Result (Begun ClockStmt ClockHead × List ℕ) SyntaxFault
 
--- ---- statements without a body, behind their first word
-
--- `x ;`
-unfoldable pub clock_at : Scan → List ℕ → Result (ClockStmt × List ℕ) SyntaxFault
+-- `clock x;`, behind its first word
+unfoldable pub clock_at : Scan → List ℕ → ClockRead
 clock_at scan text = do
   x ← name_at scan text
   rest ← sign_at scan Semicolon x.1
-  Ok (s.Clock x.0, rest)
-
--- `( x ) ;`
-unfoldable pub advance_at : Scan → List ℕ → Result (ClockStmt × List ℕ) SyntaxFault
-advance_at scan text = do
-  x ← named_at scan text
-  Ok (s.Advance x.0, x.1)
-
--- `( x ) ;`
-unfoldable pub resume_at : Scan → List ℕ → Result (ClockStmt × List ℕ) SyntaxFault
-resume_at scan text = do
-  x ← named_at scan text
-  Ok (s.Resume x.0, x.1)
-
--- `( x ) ;`
-unfoldable pub drop_at : Scan → List ℕ → Result (ClockStmt × List ℕ) SyntaxFault
-drop_at scan text = do
-  x ← named_at scan text
-  Ok (s.Drop x.0, x.1)
-
--- `;`
-unfoldable pub clock_skip_at : Scan → List ℕ → Result (ClockStmt × List ℕ) SyntaxFault
-clock_skip_at scan text = do
-  rest ← sign_at scan Semicolon text
-  Ok (s.Skip, rest)
+  Ok (Whole (s.Clock x.0), rest)
 
 -- ---- names
 
@@ -87,45 +66,39 @@ names_in scan text _ rest = Err (unexpected scan text)
 unfoldable pub names_at : Scan → List ℕ → Result (List (List ℕ) × List ℕ) SyntaxFault
 names_at scan text = front scan text >>= λ x. names_in scan text x.0 x.1
 
--- ---- statements with a body, behind their first word
+-- ---- statements
 
--- `( x , y .. ) { .. }`
-unfoldable pub async_at : ClockBlock → Scan → ℕ → List ℕ → Result (ClockStmt × List ℕ) SyntaxFault
-async_at body scan depth text = do
+-- `async(x, y, ..)`, behind its first word
+unfoldable pub async_at : Scan → List ℕ → ClockRead
+async_at scan text = do
   open_ ← sign_at scan OpenParen text
   xs ← names_at scan open_
-  b ← braced_at clock_tree_of body scan depth xs.1
-  Ok (s.Async xs.0 b.0, b.1)
+  Ok (Head (h.Async xs.0), xs.1)
 
--- `{ .. }`
-unfoldable pub finish_at : ClockBlock → Scan → ℕ → List ℕ → Result (ClockStmt × List ℕ) SyntaxFault
-finish_at body scan depth text = do
-  b ← braced_at clock_tree_of body scan depth text
-  Ok (s.Finish b.0, b.1)
+-- what is read of the statement that this token begins; before is the text from that token on
+abbrev pub clock_begun : Scan → Token → List ℕ → List ℕ → ClockRead
+clock_begun scan (word k.Clock) before text = clock_at scan text
+clock_begun scan (word k.Advance) before text = named_by s.Advance scan text
+clock_begun scan (word k.Resume) before text = named_by s.Resume scan text
+clock_begun scan (word k.Drop) before text = named_by s.Drop scan text
+clock_begun scan (word k.Async) before text = async_at scan text
+clock_begun scan (word k.Finish) before text = Ok (Head h.Finish, text)
+clock_begun scan _ before text = Err (unexpected scan before)
 
--- `k { .. }`
-unfoldable pub clock_loop_at : ClockBlock → Scan → ℕ → List ℕ → Result (ClockStmt × List ℕ) SyntaxFault
-clock_loop_at body scan depth text = do
-  n ← number_at scan text
-  b ← braced_at clock_tree_of body scan depth n.1
-  Ok (s.Loop n.0 b.0, b.1)
+-- the statement with this before its body and these in it
+abbrev pub clock_holding : ClockHead → List ClockStmt → ClockStmt
+clock_holding (h.Async xs) items = s.Async xs (clock_tree_of items)
+clock_holding h.Finish items = s.Finish (clock_tree_of items)
+clock_holding (h.Loop k) items = s.Loop k (clock_tree_of items)
 
--- the statement that this token begins; before is the text from that token on
-abbrev pub clock_statement_in : ClockBlock → Scan → ℕ → Token → List ℕ → List ℕ → Result (ClockStmt × List ℕ) SyntaxFault
-clock_statement_in body scan depth (word k.Clock) before text = clock_at scan text
-clock_statement_in body scan depth (word k.Advance) before text = advance_at scan text
-clock_statement_in body scan depth (word k.Resume) before text = resume_at scan text
-clock_statement_in body scan depth (word k.Drop) before text = drop_at scan text
-clock_statement_in body scan depth (word k.Skip) before text = clock_skip_at scan text
-clock_statement_in body scan depth (word k.Async) before text = async_at body scan depth text
-clock_statement_in body scan depth (word k.Finish) before text = finish_at body scan depth text
-clock_statement_in body scan depth (word k.Loop) before text = clock_loop_at body scan depth text
-clock_statement_in body scan depth _ before text = Err (unexpected scan before)
+-- how many statements this is, those of its body included
+abbrev pub clock_stmt_count : ClockStmt → ℕ
+clock_stmt_count s = clock_count (clock_followed_by s done)
 
--- the statements up to the end of a body or of the text
-abbrev pub clock_statements_at : ℕ → Scan → ClockBlock
-clock_statements_at n scan depth text = statements_by clock_statement_in n scan depth text
+-- the statements of the language of clocks
+abbrev pub clock_stmts : Statements ClockStmt ClockHead
+clock_stmts = record { skip = s.Skip; looped = h.Loop; begun = clock_begun; holding = clock_holding }
 
--- the tree of a whole text
-abbrev pub clock_program_at : List ℕ → Result ClockTree SyntaxFault
-clock_program_at text = whole_by clock_tree_of clock_statement_in (clock_scan text) text
+-- the statements of a whole text
+abbrev pub clock_stmts_at : List ℕ → Result (List ClockStmt) SyntaxFault
+clock_stmts_at text = whole_by (statement_at clock_stmts) (clock_scan text) text

@@ -13,12 +13,6 @@ use Rattle.pl_syntax.specs.declared.fault.ParseEnd.TheVariants as ends
 use Rattle.armus_base.specs.declared.offset.Offset.{Offset}
 use Rattle.armus_base.specs.declared.offset.Offset.TheVariants.{Ahead, Back, Here}
 use Rattle.pl_syntax.specs.declared.scan.Scan.{Scan}
-use Rattle.pl_syntax.specs.declared.tree.Program.{Program}
-use Rattle.pl_syntax.specs.declared.tree.Stmt.{Stmt}
-use Rattle.pl_syntax.specs.declared.tree.Stmt.TheVariants as s
-use Rattle.pl_syntax.specs.Tree.{Tree}
-use Rattle.pl_syntax.specs.calls.Bodies.{tree_of}
-use Rattle.pl_syntax.specs.Grammar.{scan_of}
 use Rattle.pl_syntax.specs.Tokens.{Token, the_end, sign, word, name, number, front, place}
 
 infixl 10 ◌>>=◌
@@ -166,94 +160,17 @@ opened_at scan depth text = do
 
 -- ---- statements
 
-abbrev pub drawn_stmt : List ℕ → Bool → Stmt
-drawn_stmt x true = s.NewTask x
-drawn_stmt x false = s.NewPhaser x
-
--- the rest of a statement that begins with a name
-unfoldable pub drawing_at : Scan → List ℕ → List ℕ → Result (Stmt × List ℕ) SyntaxFault
-drawing_at scan x text = do
-  made ← drawn_at scan text
-  Ok (drawn_stmt x made.0, made.1)
-
--- `reg(x, y);`, behind its first word
-unfoldable pub reg_at : Scan → List ℕ → Result (Stmt × List ℕ) SyntaxFault
-reg_at scan text = do
-  p ← pair_at scan text
-  Ok (s.Reg p.0 p.1, p.2)
-
--- `dereg(x);`, behind its first word
-unfoldable pub dereg_at : Scan → List ℕ → Result (Stmt × List ℕ) SyntaxFault
-dereg_at scan text = do
-  x ← named_at scan text
-  Ok (s.Dereg x.0, x.1)
-
--- `adv(x);`, behind its first word
-unfoldable pub adv_at : Scan → List ℕ → Result (Stmt × List ℕ) SyntaxFault
-adv_at scan text = do
-  x ← named_at scan text
-  Ok (s.Adv x.0, x.1)
-
--- `await(x);`, `await(x - k);` or `await(x + k);`, behind its first word
-unfoldable pub await_at : Scan → List ℕ → Result (Stmt × List ℕ) SyntaxFault
-await_at scan text = do
-  open_ ← sign_at scan OpenParen text
-  x ← name_at scan open_
-  off ← offset_at scan x.1
-  rest ← sign_at scan Semicolon off.1
-  Ok (s.Await x.0 off.0, rest)
-
--- `skip;`, behind its first word
-unfoldable pub skip_at : Scan → List ℕ → Result (Stmt × List ℕ) SyntaxFault
-skip_at scan text = do
-  rest ← sign_at scan Semicolon text
-  Ok (s.Skip, rest)
-
 -- what reads statements of some kind, where so many braces are open
 abbrev pub BlockOf : Type 0 → Type 0
 BlockOf S = ℕ → List ℕ → Result (List S × List ℕ) SyntaxFault
 
--- `{`, statements, `}`, as the tree of the statements
-unfoldable pub braced_at : {S T : Type 0} → (List S → T) → BlockOf S → Scan → ℕ → List ℕ → Result (T × List ℕ) SyntaxFault
-braced_at tree body scan depth text = do
+-- `{`, statements, `}`
+unfoldable pub braced_at : {S : Type 0} → BlockOf S → Scan → ℕ → List ℕ → Result (List S × List ℕ) SyntaxFault
+braced_at body scan depth text = do
   open_ ← opened_at scan depth text
   inner ← body (depth + 1) open_
   close ← sign_at scan CloseBrace inner.1
-  Ok (tree inner.0, close)
-
--- what reads statements of PL
-abbrev pub Block : Type 0
-Block = BlockOf Stmt
-
--- the same of PL
-abbrev pub block_at : Block → Scan → ℕ → List ℕ → Result (Tree × List ℕ) SyntaxFault
-block_at body scan depth text = braced_at tree_of body scan depth text
-
--- `fork(x) { .. }`, behind its first word
-unfoldable pub fork_at : Block → Scan → ℕ → List ℕ → Result (Stmt × List ℕ) SyntaxFault
-fork_at body scan depth text = do
-  x ← in_parens_at scan text
-  b ← block_at body scan depth x.1
-  Ok (s.Fork x.0 b.0, b.1)
-
--- `loop k { .. }`, behind its first word
-unfoldable pub loop_at : Block → Scan → ℕ → List ℕ → Result (Stmt × List ℕ) SyntaxFault
-loop_at body scan depth text = do
-  n ← number_at scan text
-  b ← block_at body scan depth n.1
-  Ok (s.Loop n.0 b.0, b.1)
-
--- the statement that this token begins; before is the text from that token on
-abbrev pub statement_read : Block → Scan → ℕ → Token → List ℕ → List ℕ → Result (Stmt × List ℕ) SyntaxFault
-statement_read body scan depth (name x) before text = drawing_at scan x text
-statement_read body scan depth (word k.Reg) before text = reg_at scan text
-statement_read body scan depth (word k.Dereg) before text = dereg_at scan text
-statement_read body scan depth (word k.Adv) before text = adv_at scan text
-statement_read body scan depth (word k.Await) before text = await_at scan text
-statement_read body scan depth (word k.Skip) before text = skip_at scan text
-statement_read body scan depth (word k.Fork) before text = fork_at body scan depth text
-statement_read body scan depth (word k.Loop) before text = loop_at body scan depth text
-statement_read body scan depth _ before text = Err (unexpected scan before)
+  Ok (inner.0, close)
 
 -- a list of statements ends before these tokens
 abbrev pub ends_list : Token → Bool
@@ -275,29 +192,20 @@ listed_by closes one (suc n) scan depth text =
 abbrev pub statements_by : {S : Type 0} → (BlockOf S → Scan → ℕ → Token → List ℕ → List ℕ → Result (S × List ℕ) SyntaxFault) → ℕ → Scan → BlockOf S
 statements_by one n scan depth text = listed_by ends_list one n scan depth text
 
--- the tree of what was read, where this token is the end
-abbrev pub ended_at : {S T : Type 0} → (List S → T) → Scan → List S → List ℕ → Token → Result T SyntaxFault
-ended_at tree scan items text the_end = Ok (tree items)
-ended_at tree scan items text (sign _) = Err (unexpected scan text)
-ended_at tree scan items text (word _) = Err (unexpected scan text)
-ended_at tree scan items text (name _) = Err (unexpected scan text)
-ended_at tree scan items text (number _) = Err (unexpected scan text)
+-- what was read, where this token is the end
+abbrev pub ended_at : {S : Type 0} → Scan → List S → List ℕ → Token → Result (List S) SyntaxFault
+ended_at scan items text the_end = Ok items
+ended_at scan items text (sign _) = Err (unexpected scan text)
+ended_at scan items text (word _) = Err (unexpected scan text)
+ended_at scan items text (name _) = Err (unexpected scan text)
+ended_at scan items text (number _) = Err (unexpected scan text)
 
--- the tree of the statements of a whole text
-unfoldable pub whole_by :
-    {S T : Type 0} → (List S → T) → (BlockOf S → Scan → ℕ → Token → List ℕ → List ℕ → Result (S × List ℕ) SyntaxFault) → Scan → List ℕ → Result T SyntaxFault
-whole_by tree one scan text = do
+-- the statements of what is left of a text, each read by this function
+unfoldable pub whole_by : {S : Type 0} → (BlockOf S → Scan → ℕ → Token → List ℕ → List ℕ → Result (S × List ℕ) SyntaxFault) → Scan → List ℕ → Result (List S) SyntaxFault
+whole_by one scan text = do
   all ← statements_by one (length text + 1) scan 0 text
   last ← front scan all.1
-  ended_at tree scan all.0 all.1 last.0
-
--- the statements of PL up to the end of a body or of the text
-abbrev pub statements_at : ℕ → Scan → Block
-statements_at n scan depth text = statements_by statement_read n scan depth text
-
--- the statements of a whole text of PL, of which this is left behind the header
-abbrev pub body_at : Scan → List ℕ → Result Tree SyntaxFault
-body_at scan text = whole_by tree_of statement_read scan text
+  ended_at scan all.0 all.1 last.0
 
 -- this token is the name `pl`
 abbrev pub is_pl : Token → Bool
@@ -322,10 +230,3 @@ behind_pl scan text first =
 -- whether the text is one of PL 2, and what is left behind its header
 unfoldable pub header_at : Scan → List ℕ → Result (Bool × List ℕ) SyntaxFault
 header_at scan text = front scan text >>= λ first. behind_pl scan text first
-
--- the program of a whole text
-unfoldable pub program_at : List ℕ → Result Program SyntaxFault
-program_at text = do
-  begun ← header_at (scan_of false text) text
-  body ← body_at (scan_of begun.0 text) begun.1
-  Ok (record { two = begun.0; body = body })
