@@ -13,16 +13,25 @@ use Rattle.order_graph.specs.calls.Adding.{HasEdgeMore, IsNearest, IsNearestWalk
 use Rattle.order_graph.specs.calls.Following.{AnswersFollowing, Follows, StopsAtCycle}
 use Rattle.order_graph.specs.declared.answers.Followed.{Followed}
 use Rattle.order_graph.specs.declared.answers.Followed.TheVariants.{Kept, Dead}
-use Rattle.order_graph.specs.calls.Orders.{OrderValue, IsEdge, IsOrder, position_of}
+use Rattle.order_graph.specs.calls.Orders.{OrderValue, IsEdge, IsOrder, position_of, successors_of}
 use Rattle.order_graph.specs.calls.Waits.{Awaits, own_set}
 use Rattle.order_graph.specs.declared.waits.Waits.{Waits}
 use Rattle.order_graph.specs.inside.Rows.{KeepsOnly}
-use Rattle.order_graph.specs.inside.Steps.{AddsAll, AnswersEdges, KeepsPairs, PairsBelow, StopsAt, ToWanted}
+use Rattle.order_graph.specs.inside.Steps.{AddsAll, AnswersEdges, HasOthers, KeepsPairs, PairsFrom, StopsAt, ToWanted}
 use Rattle.order_graph.proofs.Climbing.{from_task, no_cycle, walk_along}
 
 -- of the edges from the first n tasks just the pairs are left
 abbrev pub KeepsPairsBelow : (TaskId → TaskId → Type 0) → ℕ → OrderValue → OrderValue → Type 0
 KeepsPairsBelow Pair n old new = (a b : TaskId) → IsEdge new a b ↔ (IsEdge old a b × (a.0 < n → Pair a b))
+
+-- there is an edge for each pair from the first n tasks that is not from one of these
+abbrev pub HasOthersBelow : (TaskId → TaskId → Type 0) → ℕ → List TaskId → OrderValue → Type 0
+HasOthersBelow Pair n behind o = (a b : TaskId) → a.0 < n → Pair a b → IsEdge o a b ⊎ Contains behind a
+
+-- one more is noted
+pub others_noted :
+    (Pair : TaskId → TaskId → Type 0) (n : ℕ) (t : TaskId) (behind : List TaskId) (o : OrderValue) → HasOthersBelow Pair n behind o → HasOthersBelow Pair n (behind ++ t ∷ []) o
+others_noted Pair n t behind o others a b lt p = elim (others a b lt p) [ inl m ↦ inl m | inr m ↦ inr (Contains-append_left behind (t ∷ []) a m) ]
 
 module _ (Pair : TaskId → TaskId → Type 0) where
   pub keeps_below_none : (o : OrderValue) → KeepsPairsBelow Pair 0 o o
@@ -44,6 +53,24 @@ module _ (Pair : TaskId → TaskId → Type 0) where
         ),
     λ (o, w). (only.edges a b).1 ((below a b).1 (o, λ lt. w (omega arith)), λ e. (is b).1 (subst (λ x. Pair x b) e (w (omega (arith, ap (λ (x : TaskId). x.0) e))))),
   )
+
+  -- one more task, which has all its pairs, or is noted
+  pub others_more :
+      (t : TaskId) (wanted behind : List TaskId) (mid new : OrderValue) → KeepsOnly t wanted mid new → ((b : TaskId) → Contains wanted b ↔ Pair t b) →
+      HasOthersBelow Pair t.0 behind mid → successors_of new t ≡ wanted ⊎ Contains behind t → HasOthersBelow Pair (t.0 + 1) behind new
+  others_more t wanted behind mid new only is others here a b lt p =
+      elim (cases_eq a.0 t.0) [
+        | inl e ↦
+            let same : a ≡ t = same_task a t e in
+            elim here [
+              | inl all ↦ inl (subst (λ x. IsEdge new x b) (sym same) (subst (λ ts. Contains {X = TaskId} ts b) (sym all) ((is b).1 (subst (λ x. Pair x b) same p))))
+              | inr m ↦ inr (subst (λ x. Contains behind x) (sym same) m)
+            ]
+        | inr ne ↦ elim (others a b (omega arith) p) [
+          | inl m ↦ inl ((only.edges a b).1 (m, λ e. absurd (ne (ap (λ (x : TaskId). x.0) e))))
+          | inr m ↦ inr m
+        ]
+      ]
 
   pub keeps_below_all :
       (n : ℕ) (old new : OrderValue) → IsOrder old → n ≡ length old.positions → new.positions ≡ old.positions → KeepsPairsBelow Pair n old new → KeepsPairs Pair old new
@@ -145,20 +172,28 @@ wanted_more t b wanted i lt at x y =
 pub in_whole : (ts : List TaskId) (i : ℕ) (t : TaskId) → Contains (take i ts) t → Contains ts t
 in_whole ts i t m = rw take-append-drop at (Contains-append_left (take i ts) (drop i ts) t m)
 
--- the pairs of one more task
+-- the pairs from one more task of a list
 pub pairs_more :
-    (Pair : TaskId → TaskId → Type 0) (t : TaskId) (wanted : List TaskId) → ((b : TaskId) → Contains wanted b ↔ Pair t b) → (x y : TaskId) →
-    PairsBelow Pair (t.0 + 1) x y ↔ (PairsBelow Pair t.0 x y ⊎ ToWanted t wanted x y)
-pairs_more Pair t wanted is x y = (
-  λ (lt, w). elim (cases_eq x.0 t.0) [
-    | inl e ↦ let same : x ≡ t = same_task x t e in inr (same, (is y).1 (subst (λ z. Pair z y) same w))
-    | inr ne ↦ inl (omega arith, w)
-  ],
-  λ h. elim h [
-    | inl (lt, w) ↦ (omega arith, w)
-    | inr (e, m) ↦ (omega (arith, ap (λ (z : TaskId). z.0) e), subst (λ z. Pair z y) (sym e) ((is y).0 m))
-  ],
-)
+    (Pair : TaskId → TaskId → Type 0) (t : TaskId) (wanted ts : List TaskId) (i : ℕ) → i < length ts → t ≡ get_or ts i t → ((b : TaskId) → Contains wanted b ↔ Pair t b) →
+    (x y : TaskId) → PairsFrom Pair (take (i + 1) ts) x y ↔ (PairsFrom Pair (take i ts) x y ⊎ ToWanted t wanted x y)
+pairs_more Pair t wanted ts i lt at is x y =
+    let e : take (i + 1) ts ≡ take i ts ++ t ∷ [] = rw at (take_more ts i t lt) in
+    rw e (
+      λ (m, p). elim (Contains-push_cases (take i ts) t x m) [
+        | inl l ↦ inl (l, p)
+        | inr f ↦ inr (sym f, (is y).1 (subst (λ z. Pair z y) (sym f) p))
+      ],
+      λ h. elim h [
+        | inl (m, p) ↦ (Contains-append_left (take i ts) (t ∷ []) x m, p)
+        | inr (f, m) ↦ (subst (λ z. Contains (take i ts ++ t ∷ []) z) (sym f) (Contains-push (take i ts) t), subst (λ z. Pair z y) (sym f) ((is y).0 m))
+      ],
+    )
+
+-- the pairs from the first tasks of a list, and from the next one, are pairs from its tasks
+pub pairs_so_far :
+    (Pair : TaskId → TaskId → Type 0) (t : TaskId) (wanted ts : List TaskId) (i : ℕ) → i < length ts → t ≡ get_or ts i t → ((b : TaskId) → Contains wanted b ↔ Pair t b) →
+    (x y : TaskId) → PairsFrom Pair (take i ts) x y ⊎ ToWanted t wanted x y → PairsFrom Pair ts x y
+pairs_so_far Pair t wanted ts i lt at is x y h = let (m, p) = (pairs_more Pair t wanted ts i lt at is x y).1 h in (in_whole ts (i + 1) x m, p)
 
 -- a relation with the same pairs reaches the same cycles
 same_cycle : (R S : TaskId → TaskId → Type 0) → ((a b : TaskId) → R a b → S a b) → (t : TaskId) → ReachesCycle R t → ReachesCycle S t
@@ -171,14 +206,14 @@ same_cycle R S more t h =
       cycle = walk_along R S more (suc h.more) h.node h.node h.cycle;
     }
 
-module _ (Pair : TaskId → TaskId → Type 0) (n : ℕ) (old mid new : OrderValue) (below : (a b : TaskId) → Pair a b → a.0 < n) (kept : KeepsPairs Pair old mid) where
+module _ (Pair : TaskId → TaskId → Type 0) (ts : List TaskId) (old mid new : OrderValue) (others : HasOthers Pair ts mid) (kept : KeepsPairs Pair old mid) where
   -- all pairs were added
-  followed : AddsAll (PairsBelow Pair n) mid new → IsOrder new → Follows Pair old new
+  followed : AddsAll (PairsFrom Pair ts) mid new → IsOrder new → Follows Pair old new
   followed adds ok =
       let edges : (a b : TaskId) → IsEdge new a b ↔ Pair a b =
       λ a b. (
         λ h. elim ((adds.edges a b).0 h) [ inl m ↦ ((kept.edges a b).0 m).1 | inr p ↦ p.1 ],
-        λ w. (adds.edges a b).1 (inr (below a b w, w)),
+        λ w. (adds.edges a b).1 (elim (others a b w) [ inl m ↦ inl m | inr from ↦ inr (from, w) ]),
       ) in
       record {
         edges = edges;
@@ -187,7 +222,7 @@ module _ (Pair : TaskId → TaskId → Type 0) (n : ℕ) (old mid new : OrderVal
       }
 
   -- some pairs were added, and another one closes a cycle
-  finds_cycle : StopsAt (PairsBelow Pair n) mid new → StopsAtCycle Pair old new
+  finds_cycle : StopsAt (PairsFrom Pair ts) mid new → StopsAtCycle Pair old new
   finds_cycle stop =
       let some : (a b : TaskId) → IsEdge new a b → Pair a b = λ a b h. elim (stop.some a b h) [ inl m ↦ ((kept.edges a b).0 m).1 | inr p ↦ p.1 ] in
       let (t, b, k, p, w) = stop.cycle in
@@ -198,7 +233,7 @@ module _ (Pair : TaskId → TaskId → Type 0) (n : ℕ) (old mid new : OrderVal
       }
 
   -- what came of all pairs is what a call answers that follows them
-  pub answers_following : IsOrder new → (f : Followed) → AnswersEdges (PairsBelow Pair n) mid new f → AnswersFollowing Pair old new f
+  pub answers_following : IsOrder new → (f : Followed) → AnswersEdges (PairsFrom Pair ts) mid new f → AnswersFollowing Pair old new f
   answers_following ok Kept adds = followed adds ok
   answers_following ok Dead stop = finds_cycle stop
 

@@ -41,17 +41,20 @@ module _ (words : List ℕ) (n : ℕ) (room : n / 64 < length words) where
       set_word (bit_and old (18446744073709551615 - 1 * 2 ^ (n % 64) % 18446744073709551616)) 0 (bit_at_clear_same w64 old (n % 64) (omega arith))
       (λ i lt ne. bit_at_clear_other w64 old (n % 64) (omega arith) i lt ne)
 
--- words of which each was and-ed with one of others
-pub common_words : (old new other : List ℕ) → length new ≡ length old → ((j : ℕ) → j < length old → get_or new j 0 ≡ bit_and (get_or old j 0) (get_or other j 0)) → (n : ℕ) →
-    bit_of new n ≡ min (bit_of old n) (bit_of other n)
-common_words old new other sized each n =
-    elim (cases_lt (n / 64) (length old)) [
-      | inl lt ↦ ap (λ w. bit_at w (n % 64)) (each (n / 64) lt) ∙ bit_at_and (get_or old (n / 64) 0) (get_or other (n / 64) 0) (n % 64)
-      | inr past ↦
-          let a : bit_of new n ≡ 0 = past_words new n (omega arith) in
-          let b : bit_of old n ≡ 0 = past_words old n (omega arith) in
-          omega arith
-    ]
+-- words of which each was and-ed with one of others, as many as both have
+module _ (old new other : List ℕ) (sized : length new ≡ min (length other) (length old)) where
+  pub common_words :
+      ((j : ℕ) → j < length new → get_or new j 0 ≡ bit_and (get_or old j 0) (get_or other j 0)) → (n : ℕ) → bit_of new n ≡ min (bit_of old n) (bit_of other n)
+  common_words each n =
+      elim (cases_lt (n / 64) (length new)) [
+        | inl lt ↦ ap (λ w. bit_at w (n % 64)) (each (n / 64) lt) ∙ bit_at_and (get_or old (n / 64) 0) (get_or other (n / 64) 0) (n % 64)
+        | inr past ↦
+            let a : bit_of new n ≡ 0 = past_words new n (omega arith) in
+            elim (cases_lt (n / 64) (length old)) [
+              | inl lt ↦ let b : bit_of other n ≡ 0 = past_words other n (omega (arith, past, lt, sized)) in omega (arith, a, b)
+              | inr beyond ↦ let b : bit_of old n ≡ 0 = past_words old n (omega (arith, beyond)) in omega (arith, a, b)
+            ]
+      ]
 
 -- the bits of a word that are 0 in another one
 pub less_bits : (word other : ℕ) → other < 2 ^ 64 → (i : ℕ) → i < 64 → bit_at (bit_and word (18446744073709551615 - other)) i ≡ min (bit_at word i) (1 - bit_at other i)

@@ -1,12 +1,12 @@
 // The edges of an order are made the pairs of a relation.
-ghost use Rattle.std.specs.Prelude.{◌≡◌, ◌<◌, length, All, IfOk};
+ghost use Rattle.std.specs.Prelude.{◌≡◌, ◌<◌, length, All, IfOk, OnOk};
 ghost use Rattle.order_graph.specs.calls.Orders.{IsOrder, IsTaskOf};
 ghost use Rattle.order_graph.specs.calls.Waits.{AreWaitsAmong, Awaits, own_set};
-ghost use Rattle.order_graph.specs.inside.Steps.{AnswersEdges, KeepsPairs, PairsBelow, ToWanted};
+ghost use Rattle.order_graph.specs.inside.Steps.{AnswersEdges, HasOthers, KeepsPairs, PairsFrom, ToWanted};
 
 use crate::{Added, Followed, Order, Row, Waits};
 use armus_base::{NoMemory, TaskId};
-use std::alloc::Global;
+use std::alloc::{AllocError, Global};
 
 // The set of those for whom a task waits.
 fn own_set(waits: &Waits, t: u32) -> &Row
@@ -17,32 +17,44 @@ fn own_set(waits: &Waits, t: u32) -> &Row
     &waits.sets[waits.own[t as usize] as usize]
 }
 
-/// Takes away each edge that is no pair.
-pub(crate) fn drop_others(order: &mut Order, waits: &Waits)
+/// Takes away each edge that is no pair, and tells which tasks may have too few.
+pub(crate) fn drop_others(
+    alloc: Global,
+    order: &mut Order,
+    waits: &Waits,
+) -> Result<Vec<TaskId>, AllocError>
     requires among { AreWaitsAmong (length order.old.positions) waits.now }
     ensures order { IsOrder order.new }
     ensures tasks { length order.new.positions ≡ length order.old.positions }
-    ensures pairs { KeepsPairs (Awaits waits.now) order.old order.new }
+    ensures pairs { OnOk result (KeepsPairs (Awaits waits.now) order.old order.new) }
+    ensures behind { IfOk result (λ behind. All (IsTaskOf order.old) behind.items) }
+    ensures others { IfOk result (λ behind. HasOthers (Awaits waits.now) behind.items order.new) }
 {
+    let mut behind = Vec::new(alloc);
     for t in 0..order.tasks() {
-        order.keep_only(TaskId(t), own_set(waits, t));
+        if !order.keep_only(TaskId(t), own_set(waits, t)) {
+            behind.push(TaskId(t))?;
+        }
     }
+    Ok(behind)
 }
 
-/// Adds the pairs that are missing, task by task.
+/// Adds the pairs of some tasks that are missing, task by task.
 pub(crate) fn add_missing(
     alloc: Global,
     order: &mut Order,
     waits: &Waits,
+    behind: &[TaskId],
 ) -> Result<Followed, NoMemory>
     requires order { IsOrder order.old }
     requires among { AreWaitsAmong (length order.old.positions) waits.now }
+    requires tasks { All (IsTaskOf order.old) behind.now }
     ensures order { IsOrder order.new }
     ensures tasks { length order.new.positions ≡ length order.old.positions }
-    ensures pairs { IfOk result (AnswersEdges (PairsBelow (Awaits waits.now) (length order.old.positions)) order.old order.new) }
+    ensures pairs { IfOk result (AnswersEdges (PairsFrom (Awaits waits.now) behind.now) order.old order.new) }
 {
-    for t in 0..order.tasks() {
-        if let Followed::Dead = add_row(alloc, order, TaskId(t), own_set(waits, t))? {
+    for t in behind {
+        if let Followed::Dead = add_row(alloc, order, *t, own_set(waits, t.0))? {
             return Ok(Followed::Dead);
         }
     }

@@ -1,5 +1,5 @@
 // An order of tasks that is kept while edges come and go.
-ghost use Rattle.std.specs.Prelude.{◌≡◌, ◌≤◌, ◌<◌, ◌+◌, List, length, All, IfOk, OnErr, OnOk, MatchBool};
+ghost use Rattle.std.specs.Prelude.{◌≡◌, ◌≤◌, ◌<◌, ◌+◌, List, length, All, IfOk, IsTrue, OnErr, OnOk, MatchBool};
 ghost use Rattle.armus_base.specs.declared.ids.TaskId.{TaskId};
 ghost use Rattle.armus_base.specs.declared.status.Status.{Status};
 ghost use Rattle.armus_base.specs.calls.Statuses.{IsInOrder};
@@ -142,8 +142,8 @@ impl Order {
         ensures order { IsOrder self.new }
         ensures followed { IfOk result (AnswersFollowing (Awaits waits.now) self.old self.new) }
     {
-        following::drop_others(self, waits);
-        following::add_missing(alloc, self, waits)
+        let behind = following::drop_others(alloc, self, waits)?;
+        following::add_missing(alloc, self, waits, &behind)
     }
 
     // The tasks to which there is an edge from a task.
@@ -197,12 +197,13 @@ impl Order {
         Ok(())
     }
 
-    // Takes the edges from a task away that do not lead to wanted tasks.
-    pub(crate) fn keep_only(&mut self, t: TaskId, wanted: &Row)
+    // Takes the edges from a task away that do not lead to wanted tasks; true only where all edges to wanted tasks are there.
+    pub(crate) fn keep_only(&mut self, t: TaskId, wanted: &Row) -> bool
         requires task { IsTaskOf self.old t }
         ensures kept { KeepsOnly t wanted.now self.old self.new }
+        ensures all { IsTrue result → successors_of self.new t ≡ wanted.now }
         ensures order { IsOrder self.new }
     {
-        self.rows[t.0 as usize].keep_common(wanted);
+        self.rows[t.0 as usize].keep_common(wanted)
     }
 }

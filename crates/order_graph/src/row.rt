@@ -63,12 +63,13 @@ impl Row {
         words::clear_bit(&mut self.words, t.0);
     }
 
-    /// Leaves the tasks alone that are of another set too.
-    pub fn keep_common(&mut self, other: &Row)
+    /// Leaves the tasks alone that are of another set too; true only where these are all of that set.
+    pub fn keep_common(&mut self, other: &Row) -> bool
         ensures ascends { Ascend self.new }
         ensures members { (u : TaskId) → Contains self.new u ↔ (Contains self.old u × Contains other.now u) }
+        ensures same { IsTrue result → self.new ≡ other.now }
     {
-        words::keep_common(&mut self.words, &other.words);
+        words::keep_common(&mut self.words, &other.words)
     }
 
     /// Whether two sets have the same tasks.

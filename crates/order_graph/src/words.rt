@@ -1,5 +1,5 @@
 // Words of bits, 64 to each: bit n stands in word n / 64.
-ghost use Rattle.std.specs.Prelude.{◌≡◌, ℕ, ◌/◌, ◌*◌, ◌+◌, ◌-◌, ◌<◌, ◌≤◌, ◌^◌, length, min, IfOk, IsTrue, MatchBool, OnOk, slice_index};
+ghost use Rattle.std.specs.Prelude.{◌≡◌, ℕ, ◌/◌, ◌*◌, ◌+◌, ◌-◌, ◌<◌, ◌≤◌, ◌^◌, length, min, bit_and, IfOk, IsTrue, MatchBool, OnOk, slice_index};
 ghost use Rattle.std.specs.Int.{bit_at};
 ghost use Rattle.order_graph.specs.inside.Bits.{IsWithBit, bit_less, bit_of, tasks_by};
 
@@ -53,14 +53,30 @@ pub(crate) fn clear_bit(words: &mut [u64], n: u32)
     }
 }
 
-/// Clears each bit that is clear in other words.
-pub(crate) fn keep_common(words: &mut [u64], other: &[u64])
+// Clears each bit that is clear in other words, of which there are as many at least, and tells whether the words are then the others.
+fn clear_others(words: &mut [u64], other: &[u64]) -> bool
+    requires sized { length words.old ≤ length other.now }
     ensures sized { length words.new ≡ length words.old }
-    ensures bits { (m : ℕ) → bit_of words.new m ≡ min (bit_of words.old m) (bit_of other.now m) }
+    ensures words { (j : ℕ) → j < length words.old → slice_index words.new j ≡ bit_and (slice_index words.old j) (slice_index other.now j) }
+    ensures same { IsTrue result → words.new ≡ other.now }
 {
+    let mut same = words.len() == other.len();
     for k in 0..words.len() {
-        words[k] = words[k] & word_at(other, k);
+        let kept = words[k] & other[k];
+        same = same && kept == other[k];
+        words[k] = kept;
     }
+    same
+}
+
+/// Clears each bit that is clear in other words; true only where the words are then the others.
+pub(crate) fn keep_common(words: &mut Vec<u64>, other: &[u64]) -> bool
+    ensures sized { length words.new.items ≤ length words.old.items }
+    ensures bits { (m : ℕ) → bit_of words.new.items m ≡ min (bit_of words.old.items m) (bit_of other.now m) }
+    ensures same { IsTrue result → words.new.items ≡ other.now }
+{
+    words.truncate(other.len());
+    clear_others(words, other)
 }
 
 /// Whether the same bits are set in both.

@@ -26,9 +26,13 @@ pub record StopsAt (Adds : TaskId → TaskId → Type 0) (old new : OrderValue) 
 abbrev pub ToWanted : TaskId → List TaskId → TaskId → TaskId → Type 0
 ToWanted t wanted a b = (a ≡ t) × Contains wanted b
 
--- pairs from the tasks below n
-abbrev pub PairsBelow : (TaskId → TaskId → Type 0) → ℕ → TaskId → TaskId → Type 0
-PairsBelow Pair n a b = (a.0 < n) × Pair a b
+-- pairs from some tasks
+abbrev pub PairsFrom : (TaskId → TaskId → Type 0) → List TaskId → TaskId → TaskId → Type 0
+PairsFrom Pair ts a b = Contains ts a × Pair a b
+
+-- there is an edge for each pair that is not from these tasks
+abbrev pub HasOthers : (TaskId → TaskId → Type 0) → List TaskId → OrderValue → Type 0
+HasOthers Pair ts o = (a b : TaskId) → Pair a b → IsEdge o a b ⊎ Contains ts a
 
 -- what came of edges that were to be added
 abbrev pub AnswersEdges : (TaskId → TaskId → Type 0) → OrderValue → OrderValue → Followed → Type 0

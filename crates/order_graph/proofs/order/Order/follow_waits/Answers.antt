@@ -1,8 +1,7 @@
-use Rattle.std.proofs.Common.{arith, length}
 use Rattle.std.proofs.lemmas.Result.{IfOk-weaker}
 use Rattle.order_graph.specs.calls.Following.{AnswersFollowing}
 use Rattle.order_graph.specs.calls.Waits.{Awaits}
-use Rattle.order_graph.specs.inside.Steps.{AnswersEdges, PairsBelow}
+use Rattle.order_graph.specs.inside.Steps.{AnswersEdges, PairsFrom}
 use Rattle.order_graph.proofs.PairEdges.{answers_following}
 use Rattle.order_graph.proofs.order.Order.follow_waits.Goals as goal
 
@@ -11,7 +10,8 @@ returns-clause-followed c =
     let old = c.args.self.now in
     let mid = c.drop_others.new.order in
     let new = c.add_missing.new.order in
-    let w = c.args.waits.now in
-    IfOk-weaker c.add_missing.result (AnswersEdges (PairsBelow (Awaits w) (length mid.positions)) mid new) (AnswersFollowing (Awaits w) old new)
-    (answers_following (Awaits w) (length mid.positions) old mid new (λ a b p. omega (arith, p.0, c.requires.sized, c.drop_others.ensures.tasks)) c.drop_others.ensures.pairs
-    c.add_missing.ensures.order) c.add_missing.ensures.pairs
+    let pair = Awaits c.args.waits.now in
+    let behind = c.in_ok-behind.behind.items in
+    IfOk-weaker c.add_missing.result (AnswersEdges (PairsFrom pair behind) mid new) (AnswersFollowing pair old new)
+    (answers_following pair behind old mid new c.in_ok-behind.ensures.others c.in_ok-behind.ensures.pairs c.add_missing.ensures.order)
+    (rw c.deref.ensures.value at c.add_missing.ensures.pairs)
