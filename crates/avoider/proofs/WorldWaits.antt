@@ -13,7 +13,7 @@ use Rattle.armus_base.specs.calls.Places.{IsConsistent}
 use Rattle.armus_base.specs.Places.{refused_at}
 use Rattle.armus_base.specs.Plans.{Plan}
 use Rattle.armus_base.specs.Runs.{IsReachable}
-use Rattle.armus_base.specs.States.{State}
+use Rattle.armus_base.specs.States.{IsReached, State}
 use Rattle.armus_base.specs.declared.event.Event.{Event}
 use Rattle.armus_base.specs.declared.ids.TaskId.{TaskId}
 use Rattle.armus_base.proofs.Published.{published_after_is, published_undropped}
@@ -31,6 +31,13 @@ use Rattle.pl_core.specs.declared.stand.Stand.TheVariants.{Unforked, Done, Refus
 use Rattle.pl_core.proofs.GoingOn.{passes_when_waiting}
 use Rattle.avoider.specs.inside.Waiting.{AreImpederSets, AreImpeders, HavePlaces, IsPlaceOfEvent}
 use Rattle.avoider.proofs.SamePairs.{IsPair, awaited_by, pair_from, pair_is}
+
+-- nobody impedes an event that is reached
+pub impeders_of_reached : (s : State) (tasks : ℕ) (e : Event) → IsReached s e → AreImpeders s tasks e []
+impeders_of_reached s tasks e reached u = (
+  λ m. absurd (nothing_in_nil u m),
+  λ (lt, impedes). let low = impedes.4 in let least = reached u.0 impedes.2 impedes.3 in absurd (omega arith),
+)
 
 -- who does not wait is not published
 module _ (w : WorldValue) (checked : IsCheckedPlan w.plan) (reach : IsReachable w.plan (places_of w)) (t : ℕ) where

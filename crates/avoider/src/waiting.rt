@@ -116,7 +116,7 @@ fn is_impeder(world: &World, places: &Places, u: TaskId, event: Event) -> bool
     }
 }
 
-// The published tasks that impede an event.
+// The published tasks that impede an event; no task is looked at where it is reached.
 fn impeders(alloc: Global, world: &World, places: &Places, event: Event) -> Result<Row, AllocError>
     requires phaser { event.p.0 < length world.now.plan.makers }
     requires sized { length places.now.own.items ≡ length world.now.plan.parents }
@@ -124,6 +124,9 @@ fn impeders(alloc: Global, world: &World, places: &Places, event: Event) -> Resu
         IfOk result (AreImpeders (if_published (state_of world.now) t e) (length world.now.plan.parents) event) }
 {
     let mut row = Row::none(alloc);
+    if world.is_reached(event) {
+        return Ok(row);
+    }
     for u in 0..world.plan().tasks() {
         if is_impeder(world, places, TaskId(u), event) {
             row.put(TaskId(u))?;

@@ -4,7 +4,7 @@ use Rattle.armus_base.specs.States.{State, if_published}
 use Rattle.armus_base.specs.declared.ids.TaskId.{TaskId}
 use Rattle.pl_core.specs.calls.Worlds.{state_of}
 use Rattle.avoider.specs.inside.Waiting.{AreImpeders}
-use Rattle.avoider.proofs.WorldWaits.{impeders_more, impeders_skip}
+use Rattle.avoider.proofs.WorldWaits.{impeders_more, impeders_of_reached, impeders_skip}
 use Rattle.avoider.proofs.waiting.impeders.Goals as goal
 use Rattle.avoider.proofs.waiting.impeders.Goals.{then-is_impeder+in_ok-put, else-is_impeder}
 
@@ -21,6 +21,11 @@ loop-u-preserved c t e are =
       | else-is_impeder w ↦
           subst (AreImpeders s (u.0 + 1) c.args.event) (sym w.row-is) (impeders_skip s u c.args.event c.loop-u.row before (rw w.if-is_impeder.false at told))
     ]
+
+pub returns-then-is_reached : goal.returns-then-is_reached
+returns-then-is_reached c t e are =
+    rw c.none-row.ensures (impeders_of_reached (if_published (state_of c.args.world.now) t e) (length c.args.world.now.plan.parents) c.args.event
+    (c.is_reached.ensures.0 c.if-is_reached.true))
 
 pub returns : goal.returns
 returns c t e are =
