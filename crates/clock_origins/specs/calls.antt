@@ -1,3 +1,3 @@
-pub mod StartedActivity
+pub mod Begun
 pub mod Laws
 pub mod Values
