@@ -1,6 +1,7 @@
 // Records: the text of a run with the journal of its steps.
 ghost use Rattle.std.specs.Prelude.{◌≡◌, ◌++◌, IfOk, OnOk};
-ghost use Rattle.schedule.specs.Records.{IsClosedText, IsRecord, step_line, step_lines};
+ghost use Rattle.schedule.specs.Records.{IsClosedText, IsRecord, step_lines};
+ghost use Rattle.schedule.specs.inside.StepLines.{IsLineOf};
 
 use armus_base::{List, NoMemory, TaskId};
 use std::alloc::{AllocError, Global};
@@ -15,21 +16,43 @@ fn last_end(text: &[u8]) -> &'static [u8]
     }
 }
 
-// The line of a step.
-fn put_step(alloc: Global, out: &mut Vec<u8>, task: TaskId) -> Result<(), AllocError>
-    ensures { OnOk result (out.new.items ≡ out.old.items ++ step_line task) }
-{
-    let t = task.0;
-    let text = format!(in alloc; "t {t}\n")?;
-    out.extend_from_slice(text.as_bytes())
+// The line of a task's steps.
+#[derive(Drop)]
+pub(crate) struct StepLine {
+    pub(crate) task: TaskId,
+    pub(crate) line: Vec<u8>,
 }
 
-// The lines of a journal.
+// The line of a task.
+fn line_of(alloc: Global, task: TaskId) -> Result<StepLine, AllocError>
+    ensures { IfOk result (IsLineOf task) }
+{
+    let t = task.0;
+    let mut line = Vec::new(alloc);
+    let text = format!(in alloc; "t {t}\n")?;
+    line.extend_from_slice(text.as_bytes())?;
+    Ok(StepLine { task, line })
+}
+
+// The line of a task, which is made anew where another one's is kept.
+fn line_for(alloc: Global, kept: StepLine, task: TaskId) -> Result<StepLine, AllocError>
+    requires kept { IsLineOf kept.task kept }
+    ensures { IfOk result (IsLineOf task) }
+{
+    if kept.task == task {
+        return Ok(kept);
+    }
+    line_of(alloc, task)
+}
+
+// The lines of a journal. The line of a task is kept while it goes on.
 fn put_steps(alloc: Global, out: &mut Vec<u8>, journal: &[TaskId]) -> Result<(), AllocError>
     ensures { OnOk result (out.new.items ≡ out.old.items ++ step_lines journal.now) }
 {
+    let mut kept = line_of(alloc, TaskId(0))?;
     for task in journal {
-        put_step(alloc, out, *task)?;
+        kept = line_for(alloc, kept, *task)?;
+        out.extend_from_slice(&kept.line)?;
     }
     Ok(())
 }
