@@ -1,12 +1,12 @@
 -- What the machine takes to the end is a text of the language of clocks.
-use Rattle.std.proofs.Common.{◌≡◌, ℕ, List, [], ◌∷◌, Option, Some, refl, sym, ap, subst, ◌∙◌}
+use Rattle.std.proofs.Common.{◌≡◌, ℕ, List, [], ◌∷◌, Some, refl, sym, ap, subst, ◌∙◌}
 use Rattle.pl_syntax.specs.declared.token.Keyword.{Keyword}
 use Rattle.pl_syntax.specs.declared.token.Keyword.TheVariants as k
 use Rattle.pl_syntax.specs.declared.token.Sign.TheVariants.{Equals, OpenParen, CloseParen, Comma, Semicolon, OpenBrace, CloseBrace, Plus, Minus}
 use Rattle.pl_syntax.specs.Tokens.{Token, the_end, sign, word, name, number}
-use Rattle.pl_syntax.proofs.Machine.{Shape, a_sign, a_name, some_names, more_names, s_end, s_named, s_loop, State, at, run}
+use Rattle.pl_syntax.proofs.Machine.{Shape, a_name, some_names, more_names, s_end, s_named, s_loop, State, at, run}
 use Rattle.pl_syntax.proofs.Nesting as nesting
-use Rattle.pl_syntax.proofs.Nesting.{sign_off, brace_off, name_off, number_off, before_trees, inner_trees, begins_while, runs_while}
+use Rattle.pl_syntax.proofs.Nesting.{sign_off, brace_off, name_off, before_trees, inner_trees, named_trees, skip_trees, loop_trees, these, begins_while, runs_while}
 use Rattle.clock_syntax.specs.Trees.{ClockPlain, clock, advance, resume, drop, skip, ClockTree, done, plain, async, finish, loop}
 use Rattle.clock_syntax.specs.Grammar.{names_tokens, clock_plain_tokens, clock_tokens, ClockBegins}
 use Rattle.clock_syntax.proofs.ClockBegun.{s_clock, s_body, s_async, clock_words, clock_firsts, run_clock_sentence}
@@ -19,31 +19,12 @@ Splits ss d ts = nesting.Splits ClockTree clock_tokens ss d ts
 before_plain : (c : ClockPlain) (d : ℕ) (ts us : List Token) → ts ≡ clock_plain_tokens c us → Splits [] d us → Splits [] d ts
 before_plain c d ts us e h = before_trees ClockTree clock_tokens (plain c) (clock_plain_tokens c) d ts us e (λ p rest. refl) h
 
-abbrev t_close : List Shape
-t_close = a_sign CloseParen ∷ s_end
-
 clock_of : (d : ℕ) (ts : List Token) → Splits s_clock d ts → Splits [] d (word k.Clock ∷ ts)
 clock_of d ts h =
     let b = name_off ClockTree clock_tokens s_end d ts h in
     let f = sign_off ClockTree clock_tokens Semicolon [] d b.1 refl b.3 in
     let all : word k.Clock ∷ ts ≡ clock_plain_tokens (clock b.0) f.0 = cc in
     before_plain (clock b.0) d (word k.Clock ∷ ts) f.0 all f.2
-
-named_of : (w : Token) (c : List ℕ → ClockPlain) (d : ℕ) (ts : List Token) →
-    ((x : List ℕ) (us : List Token) → clock_plain_tokens (c x) us ≡ w ∷ sign OpenParen ∷ name x ∷ sign CloseParen ∷ sign Semicolon ∷ us) →
-    Splits s_named d ts → Splits [] d (w ∷ ts)
-named_of w c d ts spelled h =
-    let a = sign_off ClockTree clock_tokens OpenParen (a_name ∷ t_close) d ts refl h in
-    let b = name_off ClockTree clock_tokens t_close d a.0 a.2 in
-    let e = sign_off ClockTree clock_tokens CloseParen s_end d b.1 refl b.3 in
-    let f = sign_off ClockTree clock_tokens Semicolon [] d e.0 refl e.2 in
-    let all : w ∷ ts ≡ w ∷ sign OpenParen ∷ name b.0 ∷ sign CloseParen ∷ sign Semicolon ∷ f.0 = cc in
-    before_plain (c b.0) d (w ∷ ts) f.0 (all ∙ sym (spelled b.0 f.0)) f.2
-
-skip_of : (d : ℕ) (ts : List Token) → Splits s_end d ts → Splits [] d (word k.Skip ∷ ts)
-skip_of d ts h =
-    let a = sign_off ClockTree clock_tokens Semicolon [] d ts refl h in
-    before_plain skip d (word k.Skip ∷ ts) a.0 (ap (λ (x : List Token). word k.Skip ∷ x) a.1) a.2
 
 -- ---- names
 
@@ -126,36 +107,20 @@ finish_of d ts h =
     subst (λ (x : List Token). Splits [] d x) (sym all)
     (inner_trees ClockTree clock_tokens d f.0 finish (λ us. word k.Finish ∷ sign OpenBrace ∷ us) (λ x p rest. refl) f.2)
 
-loop_of : (d : ℕ) (ts : List Token) → Splits s_loop d ts → Splits [] d (word k.Loop ∷ ts)
-loop_of d ts h =
-    let b = number_off ClockTree clock_tokens s_body d ts h in
-    let f = brace_off ClockTree clock_tokens [] d b.1 b.3 in
-    let all : word k.Loop ∷ ts ≡ word k.Loop ∷ number b.0 ∷ sign OpenBrace ∷ f.0 = cc in
-    subst (λ (x : List Token). Splits [] d x) (sym all)
-    (inner_trees ClockTree clock_tokens d f.0 (loop b.0) (λ us. word k.Loop ∷ number b.0 ∷ sign OpenBrace ∷ us) (λ x p rest. refl) f.2)
-
 -- ---- any statement
-
-same : (a b : List Shape) → ◌≡◌ {A = Option (List Shape)} (Some a) (Some b) → a ≡ b
-same a b e = cc
-
-module _ (ss : List Shape) (d : ℕ) (ts : List Token) (h : Splits ss d ts) where
-  -- the shapes that a token is followed by
-  these : (a : List Shape) → ◌≡◌ {A = Option (List Shape)} (Some a) (Some ss) → Splits a d ts
-  these a e = subst (λ (x : List Shape). Splits x d ts) (sym (same a ss e)) h
 
 named : (x : List ℕ) (ss : List Shape) → clock_firsts.by_name ≡ Some ss → (d : ℕ) (ts : List Token) → Splits ss d ts → Splits [] d (name x ∷ ts)
 named x ss e d ts h = absurd cc
 
 worded : (w : Keyword) (ss : List Shape) → clock_words w ≡ Some ss → (d : ℕ) (ts : List Token) → Splits ss d ts → Splits [] d (word w ∷ ts)
-worded k.Clock ss e d ts h = clock_of d ts (these ss d ts h s_clock e)
-worded k.Advance ss e d ts h = named_of (word k.Advance) advance d ts (λ x us. refl) (these ss d ts h s_named e)
-worded k.Resume ss e d ts h = named_of (word k.Resume) resume d ts (λ x us. refl) (these ss d ts h s_named e)
-worded k.Drop ss e d ts h = named_of (word k.Drop) drop d ts (λ x us. refl) (these ss d ts h s_named e)
-worded k.Skip ss e d ts h = skip_of d ts (these ss d ts h s_end e)
-worded k.Async ss e d ts h = async_of d ts (these ss d ts h s_async e)
-worded k.Finish ss e d ts h = finish_of d ts (these ss d ts h s_body e)
-worded k.Loop ss e d ts h = loop_of d ts (these ss d ts h s_loop e)
+worded k.Clock ss e d ts h = clock_of d ts (these ClockTree clock_tokens ss d ts h s_clock e)
+worded k.Advance ss e d ts h = named_trees ClockTree clock_tokens (λ x. plain (advance x)) (word k.Advance) d ts (λ x p rest. refl) (these ClockTree clock_tokens ss d ts h s_named e)
+worded k.Resume ss e d ts h = named_trees ClockTree clock_tokens (λ x. plain (resume x)) (word k.Resume) d ts (λ x p rest. refl) (these ClockTree clock_tokens ss d ts h s_named e)
+worded k.Drop ss e d ts h = named_trees ClockTree clock_tokens (λ x. plain (drop x)) (word k.Drop) d ts (λ x p rest. refl) (these ClockTree clock_tokens ss d ts h s_named e)
+worded k.Skip ss e d ts h = skip_trees ClockTree clock_tokens (plain skip) (word k.Skip) d ts (λ p rest. refl) (these ClockTree clock_tokens ss d ts h s_end e)
+worded k.Async ss e d ts h = async_of d ts (these ClockTree clock_tokens ss d ts h s_async e)
+worded k.Finish ss e d ts h = finish_of d ts (these ClockTree clock_tokens ss d ts h s_body e)
+worded k.Loop ss e d ts h = loop_trees ClockTree clock_tokens loop (word k.Loop) d ts (λ n b p rest. refl) (these ClockTree clock_tokens ss d ts h s_loop e)
 worded _ ss e d ts h = absurd cc
 
 -- tokens begin a text exactly while the machine goes on

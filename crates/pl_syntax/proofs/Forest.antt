@@ -1,5 +1,5 @@
 -- What the machine takes to the end is a text of PL.
-use Rattle.std.proofs.Common.{◌≡◌, ℕ, true, List, [], ◌∷◌, Option, Some, refl, sym, ap, subst, ◌∙◌, ◌⊎◌, inl, inr}
+use Rattle.std.proofs.Common.{◌≡◌, ℕ, true, List, [], ◌∷◌, Some, refl, sym, ap, subst, ◌∙◌, ◌⊎◌, inl, inr}
 use Rattle.armus_base.specs.declared.offset.Offset.{Offset}
 use Rattle.armus_base.specs.declared.offset.Offset.TheVariants.{Ahead, Back, Here}
 use Rattle.pl_syntax.specs.declared.token.Keyword.{Keyword}
@@ -9,10 +9,10 @@ use Rattle.pl_syntax.specs.declared.token.Sign.TheVariants.{Equals, OpenParen, C
 use Rattle.pl_syntax.specs.Tokens.{Token, the_end, sign, word, name, number}
 use Rattle.pl_syntax.specs.Tree.{Tree, done, plain, fork, loop, Plain, new_task, new_phaser, reg, dereg, adv, await, skip}
 use Rattle.pl_syntax.specs.Grammar.{tokens, Begins, opened, offset_tokens, plain_tokens}
-use Rattle.pl_syntax.proofs.Machine.{Shape, a_sign, a_name, a_number, a_maker, an_offset, s_named, s_loop, State, at, run, fits}
+use Rattle.pl_syntax.proofs.Machine.{Shape, a_sign, a_name, a_number, a_maker, an_offset, s_end, s_named, s_loop, State, at, run, fits}
 use Rattle.pl_syntax.proofs.Begun.{s_drawn, s_pair, s_await, s_fork, firsts, word_firsts, run_sentence}
 use Rattle.pl_syntax.proofs.Nesting as nesting
-use Rattle.pl_syntax.proofs.Nesting.{sign_off, brace_off, name_off, number_off, before_trees, inner_trees, begins_while, runs_while}
+use Rattle.pl_syntax.proofs.Nesting.{sign_off, brace_off, name_off, number_off, before_trees, inner_trees, named_trees, skip_trees, loop_trees, these, begins_while, runs_while}
 
 abbrev Splits : List Shape → ℕ → List Token → Type 0
 Splits ss d ts = nesting.Splits Tree tokens ss d ts
@@ -82,11 +82,8 @@ offset_off ss d (number n ∷ ts) h = absurd (let q = h.0 in cc)
 before_plain : (c : Plain) (d : ℕ) (ts us : List Token) → ts ≡ plain_tokens c us → Splits [] d us → Splits [] d ts
 before_plain c d ts us e h = before_trees Tree tokens (plain c) (plain_tokens c) d ts us e (λ p rest. refl) h
 
-abbrev t_end : List Shape
-t_end = a_sign Semicolon ∷ []
-
 abbrev t_close : List Shape
-t_close = a_sign CloseParen ∷ t_end
+t_close = a_sign CloseParen ∷ s_end
 
 abbrev t_open : List Shape
 t_open = a_sign OpenParen ∷ t_close
@@ -112,22 +109,11 @@ t_closed = a_sign CloseParen ∷ t_brace
 abbrev t_forked : List Shape
 t_forked = a_name ∷ t_closed
 
-named_of : (w : Token) (c : List ℕ → Plain) (d : ℕ) (ts : List Token) →
-    ((x : List ℕ) (us : List Token) → plain_tokens (c x) us ≡ w ∷ sign OpenParen ∷ name x ∷ sign CloseParen ∷ sign Semicolon ∷ us)
-    → Splits s_named d ts → Splits [] d (w ∷ ts)
-named_of w c d ts spelled h =
-    let a = sign_off Tree tokens OpenParen t_name d ts refl h in
-    let b = name_off Tree tokens t_close d a.0 a.2 in
-    let e = sign_off Tree tokens CloseParen t_end d b.1 refl b.3 in
-    let f = sign_off Tree tokens Semicolon [] d e.0 refl e.2 in
-    let all : w ∷ ts ≡ w ∷ sign OpenParen ∷ name b.0 ∷ sign CloseParen ∷ sign Semicolon ∷ f.0 = cc in
-    before_plain (c b.0) d (w ∷ ts) f.0 (all ∙ sym (spelled b.0 f.0)) f.2
-
 await_of : (d : ℕ) (ts : List Token) → Splits s_await d ts → Splits [] d (word k.Await ∷ ts)
 await_of d ts h =
-    let a = sign_off Tree tokens OpenParen (a_name ∷ an_offset ∷ t_end) d ts refl h in
-    let b = name_off Tree tokens (an_offset ∷ t_end) d a.0 a.2 in
-    let o = offset_off t_end d b.1 b.3 in
+    let a = sign_off Tree tokens OpenParen (a_name ∷ an_offset ∷ s_end) d ts refl h in
+    let b = name_off Tree tokens (an_offset ∷ s_end) d a.0 a.2 in
+    let o = offset_off s_end d b.1 b.3 in
     let f = sign_off Tree tokens Semicolon [] d o.1 refl o.3 in
     let behind : b.1 ≡ offset_tokens o.0 (sign CloseParen ∷ sign Semicolon ∷ f.0) =
     o.2 ∙ ap (λ (x : List Token). offset_tokens o.0 (sign CloseParen ∷ x)) f.1 in
@@ -140,7 +126,7 @@ pair_of d ts h =
     let b = name_off Tree tokens t_comma d a.0 a.2 in
     let e = sign_off Tree tokens Comma t_name d b.1 refl b.3 in
     let g = name_off Tree tokens t_close d e.0 e.2 in
-    let i = sign_off Tree tokens CloseParen t_end d g.1 refl g.3 in
+    let i = sign_off Tree tokens CloseParen s_end d g.1 refl g.3 in
     let f = sign_off Tree tokens Semicolon [] d i.0 refl i.2 in
     let all : word k.Reg ∷ ts ≡ plain_tokens (reg b.0 g.0) f.0 = cc in
     before_plain (reg b.0 g.0) d (word k.Reg ∷ ts) f.0 all f.2
@@ -150,17 +136,12 @@ drawn_of x d ts h =
     let a = sign_off Tree tokens Equals t_maker d ts refl h in
     let m = maker_off t_open d a.0 a.2 in
     let b = sign_off Tree tokens OpenParen t_close d m.1 refl m.4 in
-    let e = sign_off Tree tokens CloseParen t_end d b.0 refl b.2 in
+    let e = sign_off Tree tokens CloseParen s_end d b.0 refl b.2 in
     let f = sign_off Tree tokens Semicolon [] d e.0 refl e.2 in
     elim m.3 [
       | inl q ↦ (let all : name x ∷ ts ≡ plain_tokens (new_task x) f.0 = cc in before_plain (new_task x) d (name x ∷ ts) f.0 all f.2)
       | inr q ↦ (let all : name x ∷ ts ≡ plain_tokens (new_phaser x) f.0 = cc in before_plain (new_phaser x) d (name x ∷ ts) f.0 all f.2)
     ]
-
-skip_of : (d : ℕ) (ts : List Token) → Splits (a_sign Semicolon ∷ []) d ts → Splits [] d (word k.Skip ∷ ts)
-skip_of d ts h =
-    let a = sign_off Tree tokens Semicolon [] d ts refl h in
-    before_plain skip d (word k.Skip ∷ ts) a.0 (ap (λ (x : List Token). word k.Skip ∷ x) a.1) a.2
 
 fork_of : (d : ℕ) (ts : List Token) → Splits s_fork d ts → Splits [] d (word k.Fork ∷ ts)
 fork_of d ts h =
@@ -172,35 +153,19 @@ fork_of d ts h =
     subst (λ (x : List Token). Splits [] d x) (sym all)
     (inner_trees Tree tokens d f.0 (fork b.0) (λ us. word k.Fork ∷ sign OpenParen ∷ name b.0 ∷ sign CloseParen ∷ sign OpenBrace ∷ us) (λ x p rest. refl) f.2)
 
-loop_of : (d : ℕ) (ts : List Token) → Splits s_loop d ts → Splits [] d (word k.Loop ∷ ts)
-loop_of d ts h =
-    let b = number_off Tree tokens t_brace d ts h in
-    let f = brace_off Tree tokens [] d b.1 b.3 in
-    let all : word k.Loop ∷ ts ≡ word k.Loop ∷ number b.0 ∷ sign OpenBrace ∷ f.0 = cc in
-    subst (λ (x : List Token). Splits [] d x) (sym all)
-    (inner_trees Tree tokens d f.0 (loop b.0) (λ us. word k.Loop ∷ number b.0 ∷ sign OpenBrace ∷ us) (λ x p rest. refl) f.2)
-
 -- ---- any statement
 
-same : (a b : List Shape) → ◌≡◌ {A = Option (List Shape)} (Some a) (Some b) → a ≡ b
-same a b e = cc
-
-module _ (ss : List Shape) (d : ℕ) (ts : List Token) (h : Splits ss d ts) where
-  -- the shapes that a token is followed by
-  these : (a : List Shape) → ◌≡◌ {A = Option (List Shape)} (Some a) (Some ss) → Splits a d ts
-  these a e = subst (λ (x : List Shape). Splits x d ts) (sym (same a ss e)) h
-
 named : (x : List ℕ) (ss : List Shape) → firsts.by_name ≡ Some ss → (d : ℕ) (ts : List Token) → Splits ss d ts → Splits [] d (name x ∷ ts)
-named x ss e d ts h = drawn_of x d ts (these ss d ts h s_drawn e)
+named x ss e d ts h = drawn_of x d ts (these Tree tokens ss d ts h s_drawn e)
 
 worded : (w : Keyword) (ss : List Shape) → word_firsts w ≡ Some ss → (d : ℕ) (ts : List Token) → Splits ss d ts → Splits [] d (word w ∷ ts)
-worded k.Reg ss e d ts h = pair_of d ts (these ss d ts h s_pair e)
-worded k.Dereg ss e d ts h = named_of (word k.Dereg) dereg d ts (λ x us. refl) (these ss d ts h s_named e)
-worded k.Adv ss e d ts h = named_of (word k.Adv) adv d ts (λ x us. refl) (these ss d ts h s_named e)
-worded k.Await ss e d ts h = await_of d ts (these ss d ts h s_await e)
-worded k.Skip ss e d ts h = skip_of d ts (these ss d ts h (a_sign Semicolon ∷ []) e)
-worded k.Fork ss e d ts h = fork_of d ts (these ss d ts h s_fork e)
-worded k.Loop ss e d ts h = loop_of d ts (these ss d ts h s_loop e)
+worded k.Reg ss e d ts h = pair_of d ts (these Tree tokens ss d ts h s_pair e)
+worded k.Dereg ss e d ts h = named_trees Tree tokens (λ x. plain (dereg x)) (word k.Dereg) d ts (λ x p rest. refl) (these Tree tokens ss d ts h s_named e)
+worded k.Adv ss e d ts h = named_trees Tree tokens (λ x. plain (adv x)) (word k.Adv) d ts (λ x p rest. refl) (these Tree tokens ss d ts h s_named e)
+worded k.Await ss e d ts h = await_of d ts (these Tree tokens ss d ts h s_await e)
+worded k.Skip ss e d ts h = skip_trees Tree tokens (plain skip) (word k.Skip) d ts (λ p rest. refl) (these Tree tokens ss d ts h s_end e)
+worded k.Fork ss e d ts h = fork_of d ts (these Tree tokens ss d ts h s_fork e)
+worded k.Loop ss e d ts h = loop_trees Tree tokens loop (word k.Loop) d ts (λ n b p rest. refl) (these Tree tokens ss d ts h s_loop e)
 worded _ ss e d ts h = absurd cc
 
 -- tokens begin a text exactly while the machine goes on

@@ -6,8 +6,8 @@ use Rattle.pl_syntax.specs.declared.token.Sign.{Sign}
 use Rattle.pl_syntax.specs.declared.token.Sign.TheVariants.{Equals, OpenParen, CloseParen, Comma, Semicolon, OpenBrace, CloseBrace, Plus, Minus}
 use Rattle.pl_syntax.specs.Tokens.{Token, the_end, sign, word, name, number}
 use Rattle.pl_syntax.specs.inside.Reading.{sign_number}
-use Rattle.pl_syntax.specs.Grammar.{opened}
-use Rattle.pl_syntax.proofs.Machine.{Shape, a_sign, a_name, a_number, then, Firsts, State, at, over, fits, begun_at, go, run, run-append, some_front, comes_to_end}
+use Rattle.pl_syntax.specs.Grammar.{opened, with_name}
+use Rattle.pl_syntax.proofs.Machine.{Shape, a_sign, a_name, a_number, s_end, s_named, s_loop, then, Firsts, State, at, over, fits, begun_at, go, run, run-append, some_front, comes_to_end}
 
 abbrev sign_back : ℕ → Sign
 sign_back zero = Equals
@@ -113,6 +113,43 @@ module _ (Tree : Type 0) (tokens : Tree → List Token → List Token) where
       go_in p [] n e = absurd (omega arith)
       go_in p (q ∷ []) n e = (make p q, [], omega arith, ap front e ∙ spelled p q (the_end ∷ []))
       go_in p (q ∷ r ∷ qs) n e = (make p q, r ∷ qs, omega arith, ap front e ∙ spelled p q (sign CloseBrace ∷ close r qs))
+
+  -- ---- what statements of both languages begin with
+
+  -- `( x ) ;`
+  pub named_trees : (make : List ℕ → Tree → Tree) (w : Token) (d : ℕ) (ts : List Token) →
+      ((x : List ℕ) (p : Tree) (rest : List Token) → tokens (make x p) rest ≡ w ∷ with_name x (sign Semicolon ∷ tokens p rest)) → Splits s_named d ts → Splits [] d (w ∷ ts)
+  named_trees make w d ts spelled h =
+      let a = sign_off OpenParen (a_name ∷ a_sign CloseParen ∷ s_end) d ts refl h in
+      let b = name_off (a_sign CloseParen ∷ s_end) d a.0 a.2 in
+      let e = sign_off CloseParen s_end d b.1 refl b.3 in
+      let f = sign_off Semicolon [] d e.0 refl e.2 in
+      let all : w ∷ ts ≡ w ∷ with_name b.0 (sign Semicolon ∷ f.0) = cc in
+      before_trees (make b.0) (λ us. w ∷ with_name b.0 (sign Semicolon ∷ us)) d (w ∷ ts) f.0 all (spelled b.0) f.2
+
+  -- `;`
+  pub skip_trees : (make : Tree → Tree) (w : Token) (d : ℕ) (ts : List Token) →
+      ((p : Tree) (rest : List Token) → tokens (make p) rest ≡ w ∷ sign Semicolon ∷ tokens p rest) → Splits s_end d ts → Splits [] d (w ∷ ts)
+  skip_trees make w d ts spelled h =
+      let a = sign_off Semicolon [] d ts refl h in
+      before_trees make (λ us. w ∷ sign Semicolon ∷ us) d (w ∷ ts) a.0 (ap (λ (x : List Token). w ∷ x) a.1) spelled a.2
+
+  -- `k {`, the body, and what is behind it
+  pub loop_trees : (make : ℕ → Tree → Tree → Tree) (w : Token) (d : ℕ) (ts : List Token) →
+      ((n : ℕ) (b p : Tree) (rest : List Token) → w ∷ number n ∷ sign OpenBrace ∷ tokens b (sign CloseBrace ∷ tokens p rest) ≡ tokens (make n b p) rest) → Splits s_loop d ts →
+      Splits [] d (w ∷ ts)
+  loop_trees make w d ts spelled h =
+      let b = number_off (a_sign OpenBrace ∷ []) d ts h in
+      let f = brace_off [] d b.1 b.3 in
+      let all : w ∷ ts ≡ w ∷ number b.0 ∷ sign OpenBrace ∷ f.0 = cc in
+      subst (λ (x : List Token). Splits [] d x) (sym all) (inner_trees d f.0 (make b.0) (λ us. w ∷ number b.0 ∷ sign OpenBrace ∷ us) (spelled b.0) f.2)
+
+  -- the shapes that a token is followed by
+  pub these : (ss : List Shape) (d : ℕ) (ts : List Token) → Splits ss d ts → (a : List Shape) → ◌≡◌ {A = Option (List Shape)} (Some a) (Some ss) → Splits a d ts
+  these ss d ts h a e = subst (λ (x : List Shape). Splits x d ts) (same a ss e) h
+    where
+      same : (a b : List Shape) → ◌≡◌ {A = Option (List Shape)} (Some a) (Some b) → b ≡ a
+      same a b e = cc
 
 over_stays : (g : Firsts) (ts : List Token) → run g over ts ≡ Some over → ts ≡ []
 over_stays g [] e = refl
