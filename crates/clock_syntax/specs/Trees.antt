@@ -1,6 +1,5 @@
 -- Clock programs as trees: a list of statements, each with the statements after it.
-use Rattle.std.specs.Prelude.{ℕ, ◌+◌, max, List, []}
-use Rattle.std.specs.Coded.{coded×}
+use Rattle.std.specs.Prelude.{ℕ, ◌+◌, max, List}
 
 -- a statement without a body; a name is its bytes
 pub data ClockPlain : Type 0 where

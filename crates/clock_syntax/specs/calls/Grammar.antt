@@ -1,5 +1,5 @@
 -- The grammar of the language of clocks over tokens, and the first fault of a text that is not in it.
-use Rattle.std.specs.Prelude.{ℕ, List, []}
+use Rattle.std.specs.Prelude.{ℕ, List}
 use Rattle.pl_syntax.specs.declared.scan.Language.TheVariants.{Clocks}
 use Rattle.pl_syntax.specs.calls.Words.{IsNameIn}
 

@@ -1,5 +1,5 @@
 -- Where the bodies of a text end: at the braces that close them.
-use Rattle.std.specs.Prelude.{◌≡◌, ℕ, List, [], Option}
+use Rattle.std.specs.Prelude.{◌≡◌, ℕ, List, Option}
 use Rattle.pl_syntax.specs.declared.tree.Program.{Program}
 use Rattle.pl_syntax.specs.BodyEnds.{AreEnds}
 

@@ -1,5 +1,5 @@
 -- The printed form of a program.
-use Rattle.std.specs.Prelude.{◌≡◌, false, ℕ, ◌≤◌, []}
+use Rattle.std.specs.Prelude.{◌≡◌, false, ◌≤◌}
 use Rattle.pl_syntax.specs.declared.limits.TheConstants.{MAX_NUMBER}
 use Rattle.armus_base.specs.Offsets.{IsNear}
 use Rattle.pl_syntax.specs.declared.tree.Program.{Program}

@@ -1,5 +1,5 @@
 -- Where the statements of a text begin: an offset is a number of bytes before.
-use Rattle.std.specs.Prelude.{◌≡◌, ℕ, List, []}
+use Rattle.std.specs.Prelude.{◌≡◌, ℕ, List}
 use Rattle.pl_syntax.specs.declared.tree.Program.{Program}
 use Rattle.pl_syntax.specs.StatementOffsets.{AreOffsets}
 
