@@ -32,15 +32,15 @@ nothing origins waits k o is awaits = absurd cc
 module _ (ops : List Op) (origins : List (Option ℕ)) (waits : List ℕ) (rest : ComeFromWaits ops origins waits) where
   -- an op that does not wait stands before these
   other_first : (o : Op) (from : Option ℕ) → is_await o ≡ false → ComeFromWaits (o ∷ ops) (from ∷ origins) waits
-  other_first o from no zero other is awaits =
+  other_first o from runs zero other is awaits =
       let one : ◌≡◌ {A = Option Op} (Some o) (Some other) = is in
       let same : o ≡ other = cc in
-      absurd (false≢true (sym no ∙ ap is_await same ∙ awaits))
-  other_first o from no (suc k) other is awaits =
+      absurd (false≢true (sym runs ∙ ap is_await same ∙ awaits))
+  other_first o from runs (suc k) other is awaits =
       let (n, wait, origin) = rest k other is awaits in
       let count : count_by is_await (o ∷ take k ops) ≡ count_by is_await (take k ops) =
       sum_by-cons (λ x. cond (is_await x) 1 0) o (take k ops)
-      ∙ ap (λ b. cond b 1 0 + count_by is_await (take k ops)) no ∙ (let z : 0 + count_by is_await (take k ops) ≡ count_by is_await (take k ops) = omega arith in z) in
+      ∙ ap (λ b. cond b 1 0 + count_by is_await (take k ops)) runs ∙ (let z : 0 + count_by is_await (take k ops) ≡ count_by is_await (take k ops) = omega arith in z) in
       (n, ap (slice_get waits) count ∙ wait, origin)
 
   -- an op that waits, with its wait
@@ -130,11 +130,12 @@ no_wait n a_turn none = refl
 
 moving_waits : (ms : List ClockComing) → waits_in (moving_comings ms) ≡ waits_in ms
 moving_waits [] = refl
-moving_waits (m ∷ ms) = ap waits_in (moving_more m ms (makes_move m.part) refl) ∙ by (makes_move m.part) refl
+moving_waits (m ∷ ms) = ap waits_in (moving_more m ms (makes_move m.part) refl) ∙ by (makes_move m.part) refl (moving_waits ms)
   where
-    by : (b : Bool) → makes_move m.part ≡ b → waits_in (if b then m ∷ moving_comings ms else moving_comings ms) ≡ waits_in (m ∷ ms)
-    by true is = ap (λ ws. wait_at m.statement m.part ++ ws) (moving_waits ms)
-    by false is = moving_waits ms ∙ ap (λ w. w ++ waits_in ms) (sym (no_wait m.statement m.part is))
+    by : (b : Bool) → makes_move m.part ≡ b → waits_in (moving_comings ms) ≡ waits_in ms →
+        waits_in (if b then m ∷ moving_comings ms else moving_comings ms) ≡ waits_in (m ∷ ms)
+    by true is rest = ap (λ ws. wait_at m.statement m.part ++ ws) rest
+    by false is rest = rest ∙ ap (λ w. w ++ waits_in ms) (sym (no_wait m.statement m.part is))
 
 -- ---- all activities
 
