@@ -1,12 +1,12 @@
 -- Sets of tasks by the bits of words.
-use Rattle.std.proofs.Common.{◌≡◌, ℕ, ◌*◌, ◌/◌, ◌%◌, Bool, true, false, List, [], length, sym, ap, ◌∙◌, ◌⊎◌, inl, inr, arith, get_or, min}
+use Rattle.std.proofs.Common.{◌≡◌, ℕ, ◌*◌, ◌/◌, ◌%◌, Bool, true, false, List, length, sym, ap, ◌∙◌, ◌⊎◌, inl, inr, arith, get_or, min}
 use Rattle.std.specs.Prelude.{Contains, ◌↔◌, MatchBool}
 use Rattle.std.proofs.lemmas.Bool.{cases_eq}
-use Rattle.std.proofs.lemmas.Nat.Bits.{bit_at-lt, bit_at-zero}
+use Rattle.std.proofs.lemmas.Nat.Bits.{bit_at-lt}
 use Rattle.armus_base.specs.declared.ids.TaskId.{TaskId}
 use Rattle.dep_state.proofs.DeadSets.{same_task}
 use Rattle.order_graph.specs.inside.Bits.{IsWithBit, bit_less, bit_of, tasks_by, tasks_by_bits}
-use Rattle.order_graph.proofs.TaskBits.{by_from, by_has, by_same, in_from, in_has, in_not, in_words, not_one}
+use Rattle.order_graph.proofs.TaskBits.{by_from, by_has, in_from, in_has, in_not, in_words, not_one}
 
 pub has_task : (words : List ℕ) (t : TaskId) (r : Bool) → MatchBool r (bit_of words t.0 ≡ 1) (bit_of words t.0 ≡ 0) →
     MatchBool r (Contains (tasks_by_bits words) t) (Contains (tasks_by_bits words) t → ⊥)

@@ -1,13 +1,11 @@
 -- What changes of words make of their bits.
-use Rattle.std.proofs.Common.{◌≡◌, ◌≢◌, ℕ, ◌+◌, ◌-◌, ◌*◌, ◌/◌, ◌%◌, ◌^◌, ◌<◌, ◌≤◌, Bool, true, false, List, [], ◌∷◌, ◌++◌, length, refl, sym, ap, ◌∙◌, inl, inr, arith, get_or, set, min, bit_and, bit_or, length-set, get_or-set_same, get_or-set_other}
-use Rattle.std.specs.Prelude.{MatchBool}
+use Rattle.std.proofs.Common.{◌≡◌, ◌≢◌, ℕ, ◌+◌, ◌-◌, ◌*◌, ◌/◌, ◌%◌, ◌^◌, ◌<◌, List, [], ◌∷◌, ◌++◌, length, sym, ap, ◌∙◌, inl, inr, arith, get_or, set, min, bit_and, bit_or, length-set, get_or-set_same, get_or-set_other}
 use Rattle.std.specs.Int.{bit_at, w64}
-use Rattle.std.proofs.Math.Dec.{eqb}
-use Rattle.std.proofs.lemmas.Bool.{cases_eq, cases_lt, eqb-true, eq-eqb}
-use Rattle.std.proofs.lemmas.List.{append-nil, get_or_append_left, get_or_past, get_or_push, length_push}
-use Rattle.std.proofs.lemmas.Nat.Bits.{bit_at_and, bit_at_clear_other, bit_at_clear_same, bit_at_not, bit_at_set_other, bit_at_set_same, bit_at-zero, shr_and_one}
+use Rattle.std.proofs.lemmas.Bool.{cases_eq, cases_lt}
+use Rattle.std.proofs.lemmas.List.{append-nil}
+use Rattle.std.proofs.lemmas.Nat.Bits.{bit_at_and, bit_at_clear_other, bit_at_clear_same, bit_at_not, bit_at_set_other, bit_at_set_same, bit_at-zero}
 use Rattle.order_graph.specs.inside.Bits.{IsWithBit, bit_less, bit_of, tasks_by}
-use Rattle.order_graph.proofs.TaskBits.{by_more, by_past, not_one, past_words}
+use Rattle.order_graph.proofs.TaskBits.{by_more, by_past, past_words}
 
 -- the word with bit n is replaced
 module _ (words : List ℕ) (n : ℕ) (room : n / 64 < length words) where

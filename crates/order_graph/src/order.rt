@@ -134,8 +134,8 @@ impl Order {
         self.follow_waits(alloc, &waits)
     }
 
-    /// Makes the edges the pairs of these waits, as `follow` does those of relations. A row is compared word by word with that which it is to be, and
-    /// only where they differ edges are added one by one.
+    /// Makes the edges the pairs of these waits, as `follow` does those of relations. Each row is looked at once, word by word beside that which it is to be;
+    /// edges are added one by one, only to rows that have too few then.
     pub fn follow_waits(&mut self, alloc: Global, waits: &Waits) -> Result<Followed, NoMemory>
         requires { AreWaitsAmong (length self.old.positions) waits.now }
         ensures tasks { length self.new.positions ≡ length self.old.positions }

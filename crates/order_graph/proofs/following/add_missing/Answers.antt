@@ -1,8 +1,8 @@
-use Rattle.std.proofs.Common.{◌≡◌, ◌<◌, ◌+◌, ◌∙◌, arith, get_or, length, subst, take}
-use Rattle.std.proofs.lemmas.List.{get_or_default, take_all}
+use Rattle.std.proofs.Common.{◌≡◌, ◌<◌, ◌+◌, ◌∙◌, arith, get_or, length, take}
+use Rattle.std.proofs.lemmas.List.{get_or_default}
 use Rattle.armus_base.specs.declared.ids.TaskId.{TaskId}
 use Rattle.order_graph.specs.calls.Waits.{Awaits}
-use Rattle.order_graph.specs.inside.Steps.{AddsAll, PairsFrom, ToWanted}
+use Rattle.order_graph.specs.inside.Steps.{PairsFrom, ToWanted}
 use Rattle.order_graph.proofs.PairEdges.{adds_both, adds_stop, own_pairs, pairs_more, pairs_so_far}
 use Rattle.order_graph.proofs.following.add_missing.Goals as goal
 
