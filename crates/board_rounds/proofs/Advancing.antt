@@ -11,7 +11,7 @@ use Rattle.board.specs.calls.Views.{own_place, task_of}
 use Rattle.board.specs.calls.Seats.{Frame}
 use Rattle.board_rounds.specs.calls.Turns.{Acts, EachActs, LeadsByCode, Working, no_task, one_task}
 use Rattle.board_rounds.specs.calls.TaskSeats.{AreTaskSeatsOf, all_steps, number, progress_of}
-use Rattle.board_rounds.specs.inside.Rounds.{emptied}
+use Rattle.board_rounds.specs.calls.Rounds.{emptied}
 use Rattle.board_rounds.proofs.Apart.{differ_sum, sum_over}
 use Rattle.board_rounds.proofs.Between.{from_map}
 use Rattle.board_rounds.proofs.Goings.{task_is}

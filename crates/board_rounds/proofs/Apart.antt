@@ -14,7 +14,7 @@ use Rattle.board.specs.calls.Views.{own_place, task_of}
 use Rattle.board.specs.calls.Seats.{Frame, Known}
 use Rattle.board_rounds.specs.calls.Turns.{Acts, AreChildSeats, EachActs, LeadsByCode, Working, tasks_forked, no_child, no_task, one_child, one_task}
 use Rattle.board_rounds.specs.calls.TaskSeats.{IsForkedWithin, done_of, number, sum_below}
-use Rattle.board_rounds.specs.inside.Rounds.{emptied, fresh, fresh_of}
+use Rattle.board_rounds.specs.calls.Rounds.{emptied, fresh, fresh_of}
 use Rattle.board_rounds.proofs.Goings.{same_task}
 use Rattle.board_rounds.proofs.Between.{from_fresh, from_map, in_map}
 use Rattle.board_rounds.proofs.TaskSeatsKept.{became, step_done, was}

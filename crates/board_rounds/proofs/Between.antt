@@ -1,9 +1,8 @@
 -- The board_tasks from round to round.
 use Rattle.std.proofs.Common.{◌≡◌, ℕ, zero, suc, List, [], ◌∷◌, ◌++◌, Some, length, map, take, get_or, sym, refl, ap, ◌∙◌, subst, arith, inl, inr, ◌⊎◌, eqb-true}
 use Rattle.std.specs.List.{flat_map}
-use Rattle.std.specs.Prelude.{All, Contains, sum_by}
+use Rattle.std.specs.Prelude.{All, Contains}
 use Rattle.std.proofs.lemmas.List.Elements.{Contains-append_cases, Contains-append_left, Contains-append_right}
-use Rattle.std.proofs.lemmas.List.Sums.{sum_by-cons}
 use Rattle.armus_base.proofs.Elements.{Contains-cons_cases, Contains-head, Contains-tail, nothing_in_nil}
 use Rattle.armus_base.specs.Plans.{Action}
 use Rattle.board.specs.calls.Views.{own_place}
@@ -11,11 +10,12 @@ use Rattle.armus_base.specs.Runs.{Place}
 use Rattle.armus_base.specs.calls.Seats.{SeenBy, seen_by_child}
 use Rattle.board.specs.calls.Seats.{Frame, IsNewSeat, Known, nothing_seen}
 use Rattle.board.proofs.Walking.{new_first}
-use Rattle.board_rounds.specs.calls.Turns.{Acts, AreChildSeats, EachActs, HasEndedTurn, MayTakeTurn, Working, no_task, one_task}
+use Rattle.board_rounds.specs.calls.Turns.{EachActs, MayTakeTurn, Working}
 use Rattle.board_rounds.proofs.TaskSeatsKept.{task_seats_after, starts}
 use Rattle.board_rounds.proofs.Emptying.{contains_at}
 use Rattle.board_rounds.specs.calls.TaskSeats.{AreTaskSeats, IsTaskSeat, IsSeatIn}
-use Rattle.board_rounds.specs.inside.Rounds.{IsAtStart, IsChildIn, emptied, fresh, fresh_of}
+use Rattle.board_rounds.specs.calls.Rounds.{emptied, fresh, fresh_of}
+use Rattle.board_rounds.specs.inside.Rounds.{IsAtStart, IsChildIn}
 
 -- a board_tasks by other words
 pub task_seats_same : (f : Frame) (P Q : Known → Type 0) → ((k : Known) → P k → Q k) → ((k : Known) → Q k → P k) → AreTaskSeats f P → AreTaskSeats f Q
@@ -78,24 +78,6 @@ none_left ws w i = elim (Contains-append_cases (map emptied ws) (flat_map fresh_
   | inr new ↦ (let r = from_fresh ws w new in ap (λ (x : Working). x.children) (sym r.4))
 ]
 
--- in a round without an event nobody forks
-no_fork : (f : Frame) (own : List Action) (w v : Working) → length own ≡ 0 → w.children ≡ [] → Acts f own w v → v.children ≡ []
-no_fork f (x ∷ own) w v e none acts = absurd (omega arith)
-no_fork f [] w v e none acts = acts.children ∙ ap (λ ks. ks ++ acts.new) none ∙ nobody acts.new acts.seats
-  where
-    nobody : (ks : List Known) → AreChildSeats f [] ks → ks ≡ []
-    nobody [] p = refl
-    nobody (k ∷ ks) p = elim p [ ]
-
-pub quiet : {f : Frame} {owns : List (List Action)} {olds news : List Working} → EachActs f owns olds news → 0 ≡ sum_by length owns → ((w : Working) → Contains olds w → w.children ≡ []) → (v : Working) → Contains news v → v.children ≡ []
-quiet no_task e none v i = absurd (nothing_in_nil v i)
-quiet {f = f} (one_task {own = own} {owns = owns} {before = a} {now = b} {befores = olds} {nows = news} acts p) e none v i =
-    let s = sum_by-cons length own owns in
-    elim (Contains-cons_cases b news v i) [
-      | inl here ↦ subst (λ (x : Working). x.children ≡ []) here (no_fork f own a b (omega arith) (none a (Contains-head a olds)) acts)
-      | inr there ↦ quiet p (omega arith) (λ w at. none w (Contains-tail a olds w at)) v there
-    ]
-
 pub all_from : (P : Working → Type 0) (ws : List Working) → ((w : Working) → Contains ws w → P w) → All P ws
 all_from P ws each k d l = each (get_or ws k d) (contains_at ws k d l)
 
@@ -132,14 +114,6 @@ module _ (f : Frame) (owns : List (List Action)) (olds news : List Working) (eac
 
   pub then_none : All (λ (w : Working). w.children ≡ []) next
   then_none = all_from (λ (w : Working). w.children ≡ []) next (none_left news)
-
-  -- without an event each task has come to the end of its turn
-  pub then_ends :
-      (bound loads : ℕ) → 0 ≡ sum_by length owns → All (λ (w : Working). HasEndedTurn bound loads w.seat) news → (k : Known) → IsSeatIn next k → HasEndedTurn bound loads k
-  then_ends bound loads still ends k at = elim (taken_from news k at) [
-    | inl seat ↦ subst (HasEndedTurn bound loads) (sym seat.2) (to_each (λ (w : Working). HasEndedTurn bound loads w.seat) news ends seat.0 seat.1)
-    | inr child ↦ absurd (nothing_in_nil k (subst (λ ks. Contains ks k) (quiet each still each_none child.0 child.1) child.2))
-  ]
 
 -- task 0 alone is a board_tasks
 pub first_task_seats : (f : Frame) (w : Working) → IsNewSeat f (Some 0) (seen_by_child 0 nothing_seen) w.seat → AreTaskSeats f (IsSeatIn (w ∷ []))

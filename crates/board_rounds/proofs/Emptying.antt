@@ -3,7 +3,7 @@ use Rattle.std.proofs.Common.{◌≡◌, ℕ, zero, suc, ◌<◌, List, [], ◌�
 use Rattle.std.specs.Prelude.{Contains}
 use Rattle.armus_base.proofs.Elements.{Contains-head, Contains-tail}
 use Rattle.board_rounds.specs.calls.Turns.{Working}
-use Rattle.board_rounds.specs.inside.Rounds.{emptied}
+use Rattle.board_rounds.specs.calls.Rounds.{emptied}
 
 pub data IsEmptiedUpTo : ℕ → List Working → List Working → Type 0 where
   none_yet : {rest : List Working} → IsEmptiedUpTo 0 rest rest

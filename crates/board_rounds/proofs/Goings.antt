@@ -40,7 +40,7 @@ children_on ds js no_child q = q
 children_on ds js (one_child c p) q = one_child c (children_on ds js p q)
 
 -- there is a seat for each child
-seats_counted : {f : Frame} {cs : List ℕ} {ks : List Known} → AreChildSeats f cs ks → length ks ≡ length cs
+pub seats_counted : {f : Frame} {cs : List ℕ} {ks : List Known} → AreChildSeats f cs ks → length ks ≡ length cs
 seats_counted no_child = refl
 seats_counted (one_child c p) = (let n = seats_counted p in omega arith)
 

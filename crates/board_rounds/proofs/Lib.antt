@@ -11,6 +11,7 @@ pub mod Between
 pub mod Apart
 pub mod Shuffling
 pub mod Advancing
+pub mod Forking
 pub mod Rejoining
 pub mod Noting
 pub mod Leaving

@@ -1,24 +1,26 @@
 -- What a round makes of all tasks of a run, the ended ones among them.
-use Rattle.std.proofs.Common.{◌≡◌, ℕ, zero, suc, ◌<◌, ◌≤◌, List, [], ◌∷◌, ◌++◌, Some, length, map, get_or, sym, refl, ap, ◌∙◌, subst, arith, inl, inr, append-nil, append_assoc}
+use Rattle.std.proofs.Common.{◌≡◌, ◌⊎◌, ℕ, suc, ◌<◌, ◌≤◌, List, [], ◌∷◌, ◌++◌, Some, false, length, map, get_or, sym, refl, ap, ◌∙◌, subst, arith, inl, inr, append-nil, append_assoc}
 use Rattle.std.specs.Prelude.{All, Contains, sum_by}
 use Rattle.std.specs.List.{flat_map}
 use Rattle.std.specs.List.Sorted.{IsPermutation}
 use Rattle.std.proofs.lemmas.List.Elements.{All-append, Contains-append_left, Contains-append_right}
-use Rattle.std.proofs.lemmas.List.Sorted.{All-permutation, Contains-permutation, IsPermutation-append_comm, IsPermutation-append_left, IsPermutation-append_right, IsPermutation-middle, IsPermutation-push_more, IsPermutation-sym, IsPermutation-to_front, IsPermutation-trans, sum_by-IsPermutation}
+use Rattle.std.proofs.lemmas.List.Sorted.{All-permutation, IsPermutation-append_comm, IsPermutation-append_left, IsPermutation-append_right, IsPermutation-middle, IsPermutation-push_more, IsPermutation-sym, IsPermutation-to_front, IsPermutation-trans, sum_by-IsPermutation}
 use Rattle.std.proofs.lemmas.List.Sums.{sum_by-append, sum_by-cons}
 use Rattle.armus_base.specs.Plans.{Action, Plan}
 use Rattle.armus_base.specs.CheckedPlans.{IsCheckedPlan}
 use Rattle.armus_base.specs.calls.Seats.{seen_by_child}
 use Rattle.armus_base.proofs.Elements.{Contains-cons_cases, nothing_in_nil}
 use Rattle.board.specs.calls.Seats.{Frame, IsNewSeat, IsOf, Known, nothing_seen}
-use Rattle.board_rounds.specs.calls.Turns.{ActsNoMore, EachActs, HasEndedTurn, MayTakeTurn, Working, in_32_bits, is_done, is_refused, loads_between, loads_of}
+use Rattle.board_rounds.specs.calls.Turns.{ActsNoMore, EachActs, MayTakeTurn, Working, in_32_bits, loads_between, loads_of}
+use Rattle.board_rounds.specs.declared.board_tasks.Rounded.{Rounded}
 use Rattle.board_rounds.specs.calls.TaskSeats.{AreTasksOf, AreTaskSeatsOf, Tasks, all_of, all_steps, left_to, number, progress_of}
-use Rattle.board_rounds.specs.inside.Rounds.{MakesRound, emptied, fresh_of}
+use Rattle.board_rounds.specs.calls.Rounds.{HasTakenTurn, HaveEnded, MakesRound, all_forked, emptied, fresh_of}
 use Rattle.board_rounds.proofs.Advancing.{all_further, emptied_steps, within_all}
 use Rattle.board_rounds.proofs.Apart.{IsFamily, family_after}
-use Rattle.board_rounds.proofs.Between.{all_from, task_seats_ready, first_task_seats, then_task_seats, then_ends, then_none, to_each}
-use Rattle.board_rounds.proofs.Goings.{task_is}
-use Rattle.board_rounds.proofs.Rounding.{each_ended, each_on, loads_in, rest_each}
+use Rattle.board_rounds.proofs.Between.{all_from, task_seats_ready, first_task_seats, then_task_seats, then_none, to_each}
+use Rattle.board_rounds.proofs.Forking.{forks_counted, have_turned, none_forked, not_forked, still_forks}
+use Rattle.board_rounds.proofs.Goings.{none_in, task_is}
+use Rattle.board_rounds.proofs.Rounding.{each_on, each_turned, loads_in, rest_each}
 use Rattle.board_rounds.proofs.Shuffling.{differ_once, once_differ, shuffled}
 
 pub all_push : (P : Working → Type 0) (ws : List Working) (w : Working) → All P ws → P w → All P (ws ++ w ∷ [])
@@ -77,13 +79,8 @@ zeros : (ws : List Working) → sum_by length (map no_steps ws) ≡ 0
 zeros [] = refl
 zeros (w ∷ ws) = (let r = zeros ws in let s = sum_by-cons (length {A = Action}) (no_steps w) (map no_steps ws) in omega arith)
 
--- whose task acts no more has ended its turn
-ends_now : (bound loads : ℕ) (seat : Known) → ActsNoMore seat → HasEndedTurn bound loads seat
-ends_now bound loads seat (inl done) = (seat, inl (is_done done))
-ends_now bound loads seat (inr left) = (seat, inl (is_refused left))
-
 -- taking the children's seats out makes no load
-pub emptied_loads : (ws : List Working) → loads_of (map emptied ws) ≡ loads_of ws
+emptied_loads : (ws : List Working) → loads_of (map emptied ws) ≡ loads_of ws
 emptied_loads [] = refl
 emptied_loads (w ∷ ws) =
     let x = sum_by-cons loads_in (emptied w) (map emptied ws) in
@@ -91,8 +88,8 @@ emptied_loads (w ∷ ws) =
     let r = emptied_loads ws in
     omega arith
 
-module _ (bound : ℕ) (f : Frame) (live ended new : List Working) (made : ℕ) (tasks : AreTasksOf f (record { live = live; ended = ended }))
-    (round : MakesRound bound f live new made) where
+module _ (bound : ℕ) (f : Frame) (live ended new : List Working) (told : Rounded) (tasks : AreTasksOf f (record { live = live; ended = ended }))
+    (round : MakesRound bound f live new told) where
   abbrev olds : List Working
   olds = live ++ ended
 
@@ -111,7 +108,7 @@ module _ (bound : ℕ) (f : Frame) (live ended new : List Working) (made : ℕ) 
   each : EachActs f owns olds turned
   each = each_on (map no_steps ended) ended ended round.each (rest_each f ended (all_from (MayTakeTurn f) ended (λ w i. ready w (Contains-append_right live ended w i))))
 
-  events : made ≡ in_32_bits (sum_by length owns)
+  events : told.events ≡ in_32_bits (sum_by length owns)
   events = (let s = sum_by-append (length {A = Action}) round.owns (map no_steps ended) in let z = zeros ended in let e = round.events in omega arith)
 
   none : (w : Working) → Contains olds w → w.children ≡ []
@@ -169,7 +166,7 @@ module _ (bound : ℕ) (f : Frame) (live ended new : List Working) (made : ℕ) 
       let e = emptied_steps turned in
       omega arith)
 
-  pub round_further : 0 < made → sum_by progress_of olds < sum_by progress_of (new ++ ended)
+  pub round_further : 0 < told.events → sum_by progress_of olds < sum_by progress_of (new ++ ended)
   round_further l = (let e = events in let m = all_further each (omega arith) in let n = next_steps in omega arith)
 
   abbrev loads : ℕ
@@ -185,15 +182,23 @@ module _ (bound : ℕ) (f : Frame) (live ended new : List Working) (made : ℕ) 
       let o = sum_by-append loads_in live ended in
       omega arith)
 
-  pub round_quiet : made ≡ 0 → All (λ (w : Working). HasEndedTurn bound loads w.seat) (new ++ ended)
-  round_quiet z =
-      let ends : All (λ (w : Working). HasEndedTurn bound loads w.seat) turned =
-      All-append (λ (w : Working). HasEndedTurn bound loads w.seat) round.turned ended (each_ended loads turns_made round.ends)
-      (all_from (λ (w : Working). HasEndedTurn bound loads w.seat) ended (λ w i. ends_now bound loads w.seat (to_each (λ (v : Working). ActsNoMore v.seat) ended tasks.ended w i))) in
-      all_from (λ (w : Working). HasEndedTurn bound loads w.seat) (new ++ ended)
-      (λ w i.
-      then_ends f owns olds turned each whole.board_tasks whole.no_child bound loads (let e = events in omega (arith, z)) ends w.seat
-      (w, Contains-permutation (new ++ ended) next w (IsPermutation-sym next (new ++ ended) moved) i, refl))
+  -- where no step was made nobody was forked
+  pub round_quiet : told.events ≡ 0 → told.forked ≡ false
+  round_quiet z = not_forked told.forked (all_forked round.owns) round.forked (still_forks round.owns (let e = round.events in omega arith))
+
+  abbrev HasEnded : Working → Type 0
+  HasEnded w = HasTakenTurn bound loads live w ⊎ Contains ended w
+
+  -- where nobody was forked each has ended its turn
+  pub round_ends : told.forked ≡ false → All HasEnded (new ++ ended)
+  round_ends not_so =
+      let forks = none_forked told.forked (all_forked round.owns) round.forked not_so in
+      let count = forks_counted round.each (λ w i. none w (Contains-append_left live ended w i)) in
+      let nobody : flat_map fresh_of round.turned ≡ [] = none_in (flat_map fresh_of round.turned) (let z : length (all_forked round.owns) ≡ 0 = ap length forks in omega arith) in
+      let just : IsPermutation (map emptied round.turned) new =
+      subst (λ ws. IsPermutation ws new) (ap (λ ws. map emptied round.turned ++ ws) nobody ∙ append-nil (map emptied round.turned)) round.joined in
+      let taken = All-permutation (HasTakenTurn bound loads live) (map emptied round.turned) new just (have_turned (each_turned loads turns_made round.ends) round.each) in
+      All-append HasEnded new ended (λ k d l. inl (taken k d l)) (all_from HasEnded ended (λ w i. inr i))
 
 -- what a round asks of the tasks that live
 module _ (f : Frame) (tasks : Tasks) (are : AreTasksOf f tasks) where
@@ -231,51 +236,29 @@ module _ (f : Frame) (tasks : Tasks) (are : AreTasksOf f tasks) where
 
 -- and once the tasks that have done their code are among the ended ones
 pub whole_round :
-    (bound : ℕ) (f : Frame) (plan : Plan) (before now : Tasks) (new : List Working) (made : ℕ) → f.plan ≡ plan → AreTasksOf f before → MakesRound bound f before.live new made →
-    IsPermutation (new ++ before.ended) (all_of now) → All (λ (w : Working). ActsNoMore w.seat) now.ended →
-    AreTasksOf f now × (0 < made → left_to plan now < left_to plan before)
-    × (made ≡ 0 → All (λ (w : Working). HasEndedTurn bound (loads_between (all_of before) (all_of now)) w.seat) (all_of now))
-whole_round bound f plan before now new made same tasks round moved done =
+    (bound : ℕ) (f : Frame) (plan : Plan) (before now : Tasks) (new : List Working) (told : Rounded) → f.plan ≡ plan → AreTasksOf f before →
+    MakesRound bound f before.live new told → IsPermutation (new ++ before.ended) (all_of now) → All (λ (w : Working). ActsNoMore w.seat) now.ended →
+    AreTasksOf f now × (0 < told.events → left_to plan now < left_to plan before) × (told.forked ≡ false → HaveEnded bound before now)
+whole_round bound f plan before now new told same tasks round moved done =
     let middle = new ++ before.ended in
-    let whole = shuffled f middle (all_of now) moved (after_round bound f before.live before.ended new made tasks round) in (
+    let whole = shuffled f middle (all_of now) moved (after_round bound f before.live before.ended new told tasks round) in (
       record { all = whole; ended = done },
       (λ l.
-          let more = round_further bound f before.live before.ended new made tasks round l in
+          let more = round_further bound f before.live before.ended new told tasks round l in
           let e = sum_by-IsPermutation progress_of middle (all_of now) moved in
-          let most = within_all f (is_checked bound f before.live before.ended new made tasks round) (all_of now) whole in
+          let most = within_all f (is_checked bound f before.live before.ended new told tasks round) (all_of now) whole in
           let s : all_steps f.plan ≡ all_steps plan = ap all_steps same in
           omega arith),
-      (λ z.
+      (λ not_so.
           let p = sum_by-IsPermutation loads_in middle (all_of now) moved in
           let same : loads_between (all_of before) middle ≡ loads_between (all_of before) (all_of now) = omega arith in
-          subst (λ loads. All (λ (w : Working). HasEndedTurn bound loads w.seat) (all_of now)) same
-          (All-permutation (λ (w : Working). HasEndedTurn bound (loads_between (all_of before) middle) w.seat) middle (all_of now) moved
-          (round_quiet bound f before.live before.ended new made tasks round z))),
+          record {
+            each =
+                subst (λ loads. All (λ w. HasTakenTurn bound loads before.live w ⊎ Contains before.ended w) (all_of now)) same
+                (All-permutation (λ w. HasTakenTurn bound (loads_between (all_of before) middle) before.live w ⊎ Contains before.ended w) middle (all_of now) moved
+                (round_ends bound f before.live before.ended new told tasks round not_so));
+          }),
     )
-
--- whose turn has ended has ended it without the seats of its children
-pub emptied_end :
-    (bound loads : ℕ) (ws : List Working) → All (λ (w : Working). HasEndedTurn bound loads w.seat) ws → All (λ (w : Working). HasEndedTurn bound loads w.seat) (map emptied ws)
-emptied_end bound loads [] all k d l = absurd (omega arith)
-emptied_end bound loads (w ∷ ws) all zero d l = all 0 w (omega arith)
-emptied_end bound loads (w ∷ ws) all (suc k) d l = emptied_end bound loads ws (λ j e m. all (suc j) e (omega arith)) k d (omega arith)
-
--- where nobody was forked, all have come to the end of their turns
-pub whole_still :
-    (bound : ℕ) (f : Frame) (before now : Tasks) (new : List Working) → AreTasksOf f before →
-    All (λ (w : Working). HasEndedTurn bound (loads_between before.live new) w.seat) new → IsPermutation (new ++ before.ended) (all_of now) →
-    All (λ (w : Working). HasEndedTurn bound (loads_between (all_of before) (all_of now)) w.seat) (all_of now)
-whole_still bound f before now new tasks ends moved =
-    let p = sum_by-IsPermutation loads_in (new ++ before.ended) (all_of now) moved in
-    let n = sum_by-append loads_in new before.ended in
-    let o = sum_by-append loads_in before.live before.ended in
-    let same : loads_between before.live new ≡ loads_between (all_of before) (all_of now) = omega arith in
-    let loads = loads_between (all_of before) (all_of now) in
-    All-permutation (λ (w : Working). HasEndedTurn bound loads w.seat) (new ++ before.ended) (all_of now) moved
-    (All-append (λ (w : Working). HasEndedTurn bound loads w.seat) new before.ended
-    (subst (λ k. All (λ (w : Working). HasEndedTurn bound k w.seat) new) same ends)
-    (all_from (λ (w : Working). HasEndedTurn bound loads w.seat) before.ended
-    (λ w i. ends_now bound loads w.seat (to_each (λ (v : Working). ActsNoMore v.seat) before.ended tasks.ended w i))))
 
 -- task 0 alone
 pub first_tasks : (f : Frame) (w : Working) → IsNewSeat f (Some 0) (seen_by_child 0 nothing_seen) w.seat → w.children ≡ [] → AreTasksOf f (record { live = w ∷ []; ended = [] })

@@ -1,11 +1,10 @@
 -- Turns one after the other, and side by side.
 use Rattle.std.proofs.Common.{◌≡◌, ℕ, zero, suc, ◌+◌, ◌<◌, ◌≤◌, List, [], ◌∷◌, ◌++◌, Result, Ok, Err, IfOk, All, length, map, set, get_or, refl, ap, sym, subst, arith, false, inl, inr, ◌∙◌, sum_by}
 use Rattle.std.proofs.lemmas.List.{map-append, map-id}
-use Rattle.std.proofs.lemmas.List.Elements.{All-append}
 use Rattle.std.proofs.lemmas.List.Sums.{sum_by-append, sum_by-cons}
 use Rattle.armus_base.specs.Plans.{Action}
 use Rattle.board.specs.calls.Seats.{Frame, Known}
-use Rattle.board_rounds.specs.calls.Turns.{Acts, EachActs, EachEndsTurn, EndsTurnWithin, HasEndedTurn, MayTakeTurn, TakesInOrder, TakesTurns, Working, by_one_worker, by_several, in_32_bits, in_64_bits, loads_between, loads_of, no_task, no_turn, one_task, one_turn}
+use Rattle.board_rounds.specs.calls.Turns.{Acts, EachActs, EachEndsTurn, EndsTurnWithin, MayTakeTurn, TakesInOrder, TakesTurns, Working, by_one_worker, by_several, in_32_bits, in_64_bits, loads_between, loads_of, no_task, no_turn, one_task, one_turn}
 use Rattle.board_rounds.proofs.Goings.{acts_itself}
 
 -- what is read and written in a list, through a function
@@ -35,10 +34,10 @@ all_first P w rest all = all 0 w (omega arith)
 all_rest : (P : Working → Type 0) (w : Working) (rest : List Working) → All P (w ∷ rest) → All P rest
 all_rest P w rest all = λ k d l. all (suc k) d (omega arith)
 
-all_none : (P : Working → Type 0) → All P []
+pub all_none : (P : Working → Type 0) → All P []
 all_none P = λ k d l. absurd (omega arith)
 
-all_more : (P : Working → Type 0) (w : Working) (rest : List Working) → P w → All P rest → All P (w ∷ rest)
+pub all_more : (P : Working → Type 0) (w : Working) (rest : List Working) → P w → All P rest → All P (w ∷ rest)
 all_more P w rest p all zero d l = p
 all_more P w rest p all (suc k) d l = all k d (omega arith)
 
@@ -138,13 +137,10 @@ pub each_on :
 each_on owns' olds' news' no_task q = q
 each_on owns' olds' news' (one_task acts p) q = one_task acts (each_on owns' olds' news' p q)
 
--- whose turn has ended has ended it where more loads were made
-pub ended_more : (bound less more : ℕ) (seat : Known) → less ≤ more → HasEndedTurn bound less seat → HasEndedTurn bound more seat
-ended_more bound less more seat l (before, ends) = (before, by_end ends)
-  where
-    by_end : EndsTurnWithin bound less before seat → EndsTurnWithin bound more before seat
-    by_end (inl ends) = inl ends
-    by_end (inr cut) = inr ((let many = cut.0 in omega arith), cut.1)
+-- a turn that has ended has ended so where more loads were made
+ends_more : (bound less more : ℕ) (before now : Known) → less ≤ more → EndsTurnWithin bound less before now → EndsTurnWithin bound more before now
+ends_more bound less more before now l (inl ends) = inl ends
+ends_more bound less more before now l (inr cut) = inr ((let many = cut.0 in omega arith), cut.1)
 
 abbrev pub loads_in : Working → ℕ
 loads_in w = w.seat.view.loads
@@ -167,28 +163,38 @@ turns_grow (by_several {front = a} {behind = b} {front_now = x} {behind_now = y}
     let r = turns_grow q in
     omega arith
 
--- of each task a turn has ended then
-order_ended :
+-- each task has ended a turn, with this bound on so many loads of all
+pub data AreTurned (bound total : ℕ) : List Working → List Working → Type 0 where
+  no_turned : AreTurned bound total [] []
+  one_turned :
+      {before now : Working} {befores nows : List Working} → EndsTurnWithin bound total before.seat now.seat → AreTurned bound total befores nows →
+      AreTurned bound total (before ∷ befores) (now ∷ nows)
+
+turned_on :
+    {bound total : ℕ} {olds news : List Working} (olds' news' : List Working) → AreTurned bound total olds news → AreTurned bound total olds' news' →
+    AreTurned bound total (olds ++ olds') (news ++ news')
+turned_on olds' news' no_turned q = q
+turned_on olds' news' (one_turned ends p) q = one_turned ends (turned_on olds' news' p q)
+
+order_turned :
     {bound loads : ℕ} {olds news : List Working} (total : ℕ) → loads + loads_between olds news ≤ total → TakesInOrder bound loads olds news →
-    All (λ (w : Working). HasEndedTurn bound total w.seat) news
-order_ended {bound = bound} total l no_turn = all_none (λ (w : Working). HasEndedTurn bound total w.seat)
-order_ended {bound = bound} {loads = loads} total l (one_turn {before = before} {now = now} {befores = befores} {nows = nows} made more ends p) =
+    AreTurned bound total olds news
+order_turned total l no_turn = no_turned
+order_turned {bound = bound} {loads = loads} total l (one_turn {before = before} {now = now} {befores = befores} {nows = nows} made more ends p) =
     let x = sum_by-cons loads_in before befores in
     let y = sum_by-cons loads_in now nows in
     let r = order_grows p in
-    all_more (λ (w : Working). HasEndedTurn bound total w.seat) now nows (ended_more bound (loads + made) total now.seat (omega arith) (before.seat, ends))
-    (order_ended total (omega arith) p)
+    one_turned (ends_more bound (loads + made) total before.seat now.seat (omega arith) ends) (order_turned total (omega arith) p)
 
-pub each_ended :
-    {bound : ℕ} {olds news : List Working} (total : ℕ) → loads_between olds news ≤ total → EachEndsTurn bound olds news →
-    All (λ (w : Working). HasEndedTurn bound total w.seat) news
-each_ended total l (by_one_worker p) = order_ended total (omega arith) p
-each_ended {bound = bound} total l (by_several {front = a} {behind = b} {front_now = x} {behind_now = y} p q) =
+pub each_turned :
+    {bound : ℕ} {olds news : List Working} (total : ℕ) → loads_between olds news ≤ total → EachEndsTurn bound olds news → AreTurned bound total olds news
+each_turned total l (by_one_worker p) = order_turned total (omega arith) p
+each_turned {bound = bound} total l (by_several {front = a} {behind = b} {front_now = x} {behind_now = y} p q) =
     let s = sum_by-append loads_in a b in
     let t = sum_by-append loads_in x y in
     let g = turns_grow p in
     let h = turns_grow q in
-    All-append (λ (w : Working). HasEndedTurn bound total w.seat) x y (each_ended total (omega arith) p) (each_ended total (omega arith) q)
+    turned_on b y (each_turned total (omega arith) p) (each_turned total (omega arith) q)
 
 -- two counts that stand still at their end add up to one that does
 pub counts_add : (a b : ℕ) → in_32_bits (in_32_bits a + in_32_bits b) ≡ in_32_bits (a + b)

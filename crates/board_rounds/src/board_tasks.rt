@@ -1,14 +1,15 @@
 // The tasks of a run on a board, from round to round.
-ghost use Rattle.std.specs.Prelude.{◌≡◌, ℕ, ◌++◌, ◌<◌, ◌≤◌, Some, [], false, map, flat_map, length, OnOk, IfOk, All};
+ghost use Rattle.std.specs.Prelude.{◌≡◌, ◌≢◌, ◌↔◌, ℕ, ◌++◌, ◌<◌, ◌≤◌, Some, [], true, false, map, flat_map, length, OnOk, IfOk, All};
 ghost use Rattle.std.specs.List.Sorted.{IsPermutation};
 ghost use Rattle.armus_base.specs.Runs.{first_place};
 ghost use Rattle.armus_base.specs.calls.Seats.{seen_by_child};
 ghost use Rattle.board.specs.calls.Seats.{IsNewSeat, IsOf, IsSeat, Known, nothing_seen};
 ghost use Rattle.board.specs.calls.Steps.{IsSameSeat};
 ghost use Rattle.board.specs.calls.Views.{own_place, seen};
-ghost use Rattle.board_rounds.specs.calls.Turns.{ActsNoMore, HasEndedTurn, MayTakeTurn, Working, loads_between};
-ghost use Rattle.board_rounds.specs.calls.TaskSeats.{ArePlacesOf, AreTasksOf, HaveEnded, KnowsTasks, all_of, left_to};
-ghost use Rattle.board_rounds.specs.inside.Rounds.{IsAtStart, IsChildIn, MakesRound, emptied, fresh, fresh_of};
+ghost use Rattle.board_rounds.specs.calls.Turns.{ActsNoMore, MayTakeTurn, Working};
+ghost use Rattle.board_rounds.specs.calls.TaskSeats.{ArePlacesOf, AreTasksOf, KnowsTasks, all_of, left_to};
+ghost use Rattle.board_rounds.specs.calls.Rounds.{HasRound, HaveEnded, MakesRound, emptied, fresh, fresh_of};
+ghost use Rattle.board_rounds.specs.inside.Rounds.{IsAtStart, IsChildIn};
 
 use crate::ending::{note_places, take_in_all};
 use crate::rounds::take_turns;
@@ -83,8 +84,8 @@ impl<'p> BoardTasks<'p> {
     }
 
     /// One round: each task that lives has one turn, by so many workers. What a worker judges by is kept from its first round on. After the round the children
-    /// whom they forked live too. Where nobody was forked, each task stands at the end of a turn; a turn may be cut short only where the tasks have made more
-    /// loads in the round than the bound.
+    /// whom they forked live too, and whoever acts no more lives no more. Where nobody was forked, as where no event happened, each task stands at the end of
+    /// its turn in this round, or had ended before; a turn may be cut short only where the tasks have made more loads in the round than the bound.
     pub fn round<R: Threads + Sync, G: Gate>(
         &mut self,
         setting: &RoundSetting<'_, R, G>,
@@ -93,10 +94,11 @@ impl<'p> BoardTasks<'p> {
     ) -> Result<Rounded, NoMemory>
         requires plan { setting.now.board.now.plan ≡ plan.now }
         requires tasks { AreTasksOf setting.now.board.now self.old }
+        ensures round { IfOk result (HasRound setting.now.bound setting.now.board.now self.old self.new) }
         ensures tasks { OnOk result (AreTasksOf setting.now.board.now self.new) }
         ensures further { IfOk result (λ made. 0 < made.events → left_to plan.now self.new < left_to plan.now self.old) }
-        ensures quiet { IfOk result (λ made. made.events ≡ 0 → HaveEnded setting.now.bound (loads_between (all_of self.old) (all_of self.new)) (all_of self.new)) }
-        ensures still { IfOk result (λ made. made.forked ≡ false → HaveEnded setting.now.bound (loads_between (all_of self.old) (all_of self.new)) (all_of self.new)) }
+        ensures quiet { IfOk result (λ made. made.events ≡ 0 → made.forked ≡ false) }
+        ensures ends { IfOk result (λ made. made.forked ≡ false → HaveEnded setting.now.bound self.old self.new) }
     {
         provide(&mut self.cells, workers, self.judging)?;
         let cells = self.cells.as_mut_slice();
@@ -161,8 +163,7 @@ fn go_round<'p, R: Threads + Sync, G: Gate>(
     requires no_child { All (λ task. task.children ≡ []) tasks.old.items }
     requires enough { workers ≤ length cells.old }
     requires cells { 1 ≤ length cells.old }
-    ensures round { IfOk result (λ made. MakesRound setting.now.bound setting.now.board.now tasks.old.items tasks.new.items made.events) }
-    ensures still { IfOk result (λ made. made.forked ≡ false → All (λ task. HasEndedTurn setting.now.bound (loads_between tasks.old.items tasks.new.items) task.seat) tasks.new.items) }
+    ensures round { IfOk result (MakesRound setting.now.bound setting.now.board.now tasks.old.items tasks.new.items) }
 {
     let turned = tasks.as_mut_slice();
     let events = take_turns(setting, workers, cells, turned)?;
@@ -174,7 +175,7 @@ fn go_round<'p, R: Threads + Sync, G: Gate>(
 fn take_on<'p>(alloc: Global, plan: &'p Plan, tasks: &mut Vec<Task<'p>>) -> Result<bool, NoMemory>
     requires start { (seat : Known) → IsChildIn tasks.old.items seat → IsAtStart plan.now seat }
     ensures joined { OnOk result (IsPermutation (map emptied tasks.old.items ++ flat_map fresh_of tasks.old.items) tasks.new.items) }
-    ensures none { IfOk result (λ forked. forked ≡ false → tasks.new.items ≡ map emptied tasks.old.items) }
+    ensures forked { IfOk result (λ forked. forked ≡ true ↔ (flat_map fresh_of tasks.old.items ≢ [])) }
 {
     let mut children = new_tasks(alloc, plan, tasks.as_mut_slice())?;
     if children.is_empty() {
@@ -230,6 +231,7 @@ fn retire<'p>(
     requires ended { All (λ task. ActsNoMore task.seat) ended.old.items }
     ensures same { OnOk result (IsPermutation (live.old.items ++ ended.old.items) (live.new.items ++ ended.new.items)) }
     ensures ended { OnOk result (All (λ task. ActsNoMore task.seat) ended.new.items) }
+    ensures live { OnOk result (All (λ task. ActsNoMore task.seat → ⊥) live.new.items) }
 {
     if !some_ended(live.as_slice()) {
         return Ok(());
@@ -248,6 +250,7 @@ fn sort_out<'p>(
     requires ended { All (λ task. ActsNoMore task.seat) ended.old.items }
     ensures same { OnOk result (IsPermutation (ended.old.items ++ tasks.entry.items) (live.new.items ++ ended.new.items)) }
     ensures ended { OnOk result (All (λ task. ActsNoMore task.seat) ended.new.items) }
+    ensures live { OnOk result (All (λ task. ActsNoMore task.seat → ⊥) live.new.items) }
 {
     for task in tasks {
         if task.has_ended() {
@@ -260,7 +263,9 @@ fn sort_out<'p>(
 }
 
 // Whether one of these tasks acts no more.
-fn some_ended(tasks: &[Task<'_>]) -> bool {
+fn some_ended(tasks: &[Task<'_>]) -> bool
+    ensures { result ≡ false → All (λ task. ActsNoMore task.seat → ⊥) tasks.now }
+{
     for task in tasks {
         if task.has_ended() {
             return true;

@@ -4,7 +4,7 @@ pub mod TellingMore
 pub mod Resting
 pub mod Crossing
 pub mod BoardPlaces
-pub mod EndedBelow
+pub mod EndedTurns
 pub mod BoardEnds
 pub mod LastPasses
 pub mod TellingAll
@@ -14,3 +14,4 @@ pub mod ForksInHand
 pub mod PoolWorkers
 pub mod PoolEnds
 pub mod PoolCrossing
+pub mod UnrefusedPlaces

@@ -1,17 +1,13 @@
 // The run on a board that avoids deadlock.
-ghost use Rattle.std.specs.Prelude.{◌≡◌, ℕ, false, IfOk};
-ghost use Rattle.board.specs.declared.mode.Mode.TheVariants.{Avoid};
-ghost use Rattle.board.specs.calls.Seats.{IsOf, IsSeat};
-ghost use Rattle.board.specs.calls.Views.{seen};
+ghost use Rattle.std.specs.Prelude.{IfOk};
 ghost use Rattle.world_runs.specs.calls.AvoidedRuns.{IsAvoidedEnd};
-ghost use Rattle.task_runner.specs.inside.BoardRuns.{HaveAllEnded, IsOnBoard};
 
 use crate::RunOptions;
 use crate::board_run::BoardRun;
 use crate::nothing::Nothing;
 use armus_base::{Final, Gate, NoMemory, Plan};
 use avoider::Judging;
-use board::{Board, Mode, ViewSeat};
+use board::{Board, Mode};
 use std::alloc::Global;
 use std::thread::Threads;
 use world_runs::avoided_end_from;
@@ -32,33 +28,6 @@ pub(crate) fn avoid_on_board<R: Threads + Sync, G: Gate>(
     let (board, seat, view) = Board::start(alloc, plan, Mode::Avoid)?;
     let mut run = BoardRun::start(alloc, &board, seat, plan, options, judging)?;
     run.go(rt, &board, gate, &mut Nothing {}, &mut ())?;
-    end_avoided(run, board, view, judging, gate)
-}
-
-// Ends the run of these tasks, which have all come to the end of their turns.
-fn end_avoided<G: Gate>(
-    run: BoardRun<'_>,
-    board: Board,
-    mut view: ViewSeat,
-    judging: Judging,
-    gate: &G,
-) -> Result<Final, NoMemory>
-    requires on_board { IsOnBoard board run.plan.now run.board_tasks }
-    requires avoids { board.mode ≡ Avoid }
-    requires ends { HaveAllEnded board run.board_tasks }
-    requires made { IsOf view board }
-    requires kept { IsSeat view }
-    requires unknown { (u : ℕ) → (seen view.view).exact u ≡ false }
-    ensures end { IfOk result (λ end. IsAvoidedEnd run.entry.plan.now end) }
-{
-    let BoardRun {
-        alloc,
-        plan,
-        board_tasks,
-        ..
-    } = run;
-    let places = board_tasks.places(alloc, &board, plan)?;
-    board_tasks.take_in(&board, &mut view);
-    let _ = board.close(view);
+    let places = run.leave(board, view)?;
     avoided_end_from(alloc, plan, places.as_slice(), judging, gate)
 }

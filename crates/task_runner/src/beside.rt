@@ -8,11 +8,14 @@ use std::alloc::Global;
 
 /// Who makes a pass beside each round of a run on a board, and works on something in it.
 pub(crate) trait Beside<O> {
-    ghost use Rattle.std.specs.Prelude.{Result, Ok, Err};
+    ghost use Rattle.std.specs.Prelude.{Bool, Result, Ok, Err};
     ghost use Rattle.board.specs.calls.Seats.{Frame};
 
     /// Why a pass ends a run early.
     type Early;
+
+    // whether there is a pass at all
+    ghost there: { Bool };
 
     // it may make a pass beside a run on this board, with this to work on
     ghost fits: { Frame → Self → O → Type 0 };
@@ -24,7 +27,8 @@ pub(crate) trait Beside<O> {
     ghost no_memory: { Self.Early };
 
     /// Whether there is a pass at all, for which the run stays on its board.
-    fn is_there(&self) -> bool;
+    fn is_there(&self) -> bool
+        ensures { result ≡ there };
 
     /// One pass. It may call the gate.
     fn pass<C: Calls>(

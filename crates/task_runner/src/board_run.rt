@@ -1,17 +1,21 @@
 // The rounds of a run on a board, with a pass beside each or with none.
-ghost use Rattle.std.specs.Prelude.{◌≡◌, ◌≤◌, ◌<◌, ◌⊎◌, Some, Ok, Err, true, false, IfOk, IfErr, OnOk};
+ghost use Rattle.std.specs.Prelude.{◌≡◌, ◌<◌, ℕ, Bool, Option, Some, Ok, Err, true, false, IfOk, IfErr, OnOk, length};
+ghost use Rattle.armus_base.specs.calls.Boards.{IsLawful};
 ghost use Rattle.armus_base.specs.calls.Seats.{seen_by_child};
-ghost use Rattle.board.specs.calls.Seats.{IsNewSeat, nothing_seen};
+ghost use Rattle.board.specs.calls.Seats.{IsNewSeat, IsOf, IsSeat, nothing_seen};
+ghost use Rattle.board.specs.calls.Views.{avoids, seen};
 ghost use Rattle.board_rounds.specs.calls.TaskSeats.{left_to};
-ghost use Rattle.task_runner.specs.inside.BoardRuns.{HasHadRound, HaveAllEnded, IsOnBoard, bound_on};
+ghost use Rattle.pl_core.specs.calls.Worlds.{places_at};
+ghost use Rattle.task_runner.specs.inside.BoardRuns.{HasHadRound, HaveAllEnded, IsOnBoard};
 
 use crate::RunOptions;
 use crate::beside::Beside;
 use crate::leaving::{bound_on_loads, goes_on};
-use armus_base::{Gate, NoMemory, Plan};
+use armus_base::{Gate, List, NoMemory, Plan};
 use avoider::Judging;
-use board::{Board, TaskSeat};
+use board::{Board, TaskSeat, ViewSeat};
 use board_rounds::{BoardTasks, RoundSetting, Rounded};
+use pl_core::Place;
 use std::alloc::Global;
 use std::thread::{Threads, join_mut};
 use world_runs::RoundWorkers;
@@ -64,7 +68,7 @@ impl<'p> BoardRun<'p> {
         requires fits { B.fits board.now beside.old out.old }
         ensures given { (self.new.plan ≡ self.old.plan) × (self.new.options ≡ self.old.options) }
         ensures on_board { OnOk result (IsOnBoard board.now self.new.plan.now self.new.board_tasks) }
-        ensures ends { OnOk result (HaveAllEnded board.now self.new.board_tasks) }
+        ensures ends { OnOk result (HaveAllEnded board.now B.there self.new.board_tasks) }
         ensures fits { OnOk result (B.fits board.now beside.new out.new) }
         ensures passes { B.passes board.now beside.old out.old beside.new out.new result }
     {
@@ -86,7 +90,7 @@ impl<'p> BoardRun<'p> {
         ensures given { (self.new.plan ≡ self.old.plan) × (self.new.options ≡ self.old.options) }
         ensures on_board { OnOk result (IsOnBoard board.now self.new.plan.now self.new.board_tasks) }
         ensures further { IfOk result (λ more. more ≡ true → left_to board.now.plan self.new.board_tasks < left_to board.now.plan self.old.board_tasks) }
-        ensures ends { IfOk result (λ more. more ≡ false → HaveAllEnded board.now self.new.board_tasks) }
+        ensures ends { IfOk result (λ more. more ≡ false → HaveAllEnded board.now B.there self.new.board_tasks) }
         ensures fits { OnOk result (B.fits board.now beside.new out.new) }
         ensures passes { OnOk result (B.passes board.now beside.old out.old beside.new out.new (Ok tt)) }
         ensures early { IfErr result (λ e. B.passes board.now beside.old out.old beside.new out.new (Err e)) }
@@ -96,21 +100,10 @@ impl<'p> BoardRun<'p> {
         match made {
             Ok(made) => {
                 self.round_workers.note(made.events);
-                Ok(self.is_followed(made, beside.is_there()))
+                Ok(goes_on(made, self.board_tasks.loads(), beside.is_there()))
             }
             Err(error) => Err(B::early(error)),
         }
-    }
-
-    // Whether another round is to come after this one, with a pass beside it or not.
-    fn is_followed(&self, made: Rounded, with_pass: bool) -> bool
-        ensures moved { result ≡ true → 0 < made.events }
-        ensures ended { result ≡ false → (made.events ≡ 0) ⊎ (made.forked ≡ false) }
-    {
-        if with_pass {
-            return made.events > 0;
-        }
-        goes_on(made, self.board_tasks.loads())
     }
 
     // A round and a pass: beside the round, or after it on the same thread where there is little work.
@@ -125,39 +118,38 @@ impl<'p> BoardRun<'p> {
         requires on_board { IsOnBoard board.now self.old.plan.now self.old.board_tasks }
         requires fits { B.fits board.now beside.old out.old }
         ensures given { (self.new.plan ≡ self.old.plan) × (self.new.options ≡ self.old.options) }
-        ensures round { IfOk result.0 (HasHadRound board.now self.new.plan.now self.old.board_tasks self.new.board_tasks) }
+        ensures round { IfOk result.0 (HasHadRound board.now self.new.plan.now B.there self.old.board_tasks self.new.board_tasks) }
         ensures fits { OnOk result.1 (B.fits board.now beside.new out.new) }
         ensures passes { B.passes board.now beside.old out.old beside.new out.new result.1 }
     {
         let alloc = self.alloc;
-        if !beside.is_there() || !self.round_workers.wants_threads() {
-            let bound = bound_on_loads(board, beside.is_there());
-            let made = self.round(rt, board, gate, bound);
+        let with_pass = beside.is_there();
+        if !with_pass || !self.round_workers.wants_threads() {
+            let made = self.round(rt, board, gate, with_pass);
             return (made, beside.pass(alloc, board, gate, out));
         }
         join_mut(
             rt,
             &mut || -> Result<Rounded, NoMemory>
                 requires { IsOnBoard board.now self.now.plan.now self.now.board_tasks }
-            { self.round(rt, board, gate, bound_on_loads(board, true)) },
+            { self.round(rt, board, gate, true) },
             &mut || -> Result<(), B::Early>
                 requires { B.fits board.now beside.now out.now }
             { beside.pass(alloc, board, gate, out) },
         )
     }
 
-    // One round, in which a worker whose tasks have made more loads than the bound cuts turns short.
+    // One round, with a pass beside it or with none.
     fn round<R: Threads + Sync, G: Gate>(
         &mut self,
         rt: &R,
         board: &Board,
         gate: &G,
-        bound: u64,
+        with_pass: bool,
     ) -> Result<Rounded, NoMemory>
-        requires bound { bound_on board.now ≤ bound }
         requires on_board { IsOnBoard board.now self.old.plan.now self.old.board_tasks }
         ensures given { (self.new.plan ≡ self.old.plan) × (self.new.options ≡ self.old.options) }
-        ensures round { IfOk result (HasHadRound board.now self.new.plan.now self.old.board_tasks self.new.board_tasks) }
+        ensures round { IfOk result (HasHadRound board.now self.new.plan.now with_pass self.old.board_tasks self.new.board_tasks) }
     {
         let workers = self.round_workers.workers(self.options.workers);
         let setting = RoundSetting {
@@ -165,9 +157,32 @@ impl<'p> BoardRun<'p> {
             alloc: self.alloc,
             board,
             gate,
-            bound,
+            bound: bound_on_loads(board, with_pass),
         };
         let made = self.board_tasks.round(&setting, self.plan, workers)?;
         Ok(made)
+    }
+
+    /// Ends the run on its board, where all its tasks have come to the end of their turns: the viewer takes their seats in, and the board is closed. It answers
+    /// the place of each task, and these are lawful.
+    pub(crate) fn leave(self, board: Board, mut view: ViewSeat) -> Result<List<Place>, NoMemory>
+        requires on_board { IsOnBoard board self.plan.now self.board_tasks }
+        requires ends { (with_pass : Bool) × HaveAllEnded board with_pass self.board_tasks }
+        requires made { IsOf view board }
+        requires kept { IsSeat view }
+        requires unknown { (u : ℕ) → (seen view.view).exact u ≡ false }
+        ensures one_each { IfOk result (λ places. length places ≡ length self.entry.plan.now.parents) }
+        ensures lawful { IfOk result (λ places. (lock : Option ℕ) × IsLawful (avoids board.mode) self.entry.plan.now (places_at self.entry.plan.now places) lock) }
+    {
+        let BoardRun {
+            alloc,
+            plan,
+            board_tasks,
+            ..
+        } = self;
+        let places = board_tasks.places(alloc, &board, plan)?;
+        board_tasks.take_in(&board, &mut view);
+        let _ = board.close(view);
+        Ok(places)
     }
 }

@@ -65,7 +65,7 @@ fn go_by_rounds<R: Threads + Sync, G: Gate, K: Sink>(
     requires under_way { IsUnderWay board.now run.old.plan.now run.old.board_tasks live_reporter.old }
     ensures given { (run.new.plan ≡ run.old.plan) × (run.new.options ≡ run.old.options) }
     ensures under_way { OnOk result (IsUnderWay board.now run.new.plan.now run.new.board_tasks live_reporter.new) }
-    ensures ends { OnOk result (HaveAllEnded board.now run.new.board_tasks) }
+    ensures ends { OnOk result (HaveAllEnded board.now run.old.options.live run.new.board_tasks) }
     ensures sees { SeesOn live_reporter.old.view live_reporter.new.view }
     ensures told { TellsMore board.now.plan live_reporter.old.dead live_reporter.new.dead (told K.taken K.faults out.old) (told K.taken K.faults out.new) result }
     ensures silent { run.old.options.live ≡ false → (out.new ≡ out.old) × IsNoWrite result }
@@ -88,7 +88,7 @@ fn end_run<G: Gate, K: Sink>(
     out: &mut K,
 ) -> Result<Ran, RunEnd>
     requires under_way { IsUnderWay board run.plan.now run.board_tasks live_reporter }
-    requires ends { HaveAllEnded board run.board_tasks }
+    requires ends { HaveAllEnded board run.options.live run.board_tasks }
     requires unknown { (u : ℕ) → (seen live_reporter.view.view).exact u ≡ false }
     ensures ran { IfOk result (IsDetectRun run.entry.plan.now) }
     ensures told { run.entry.options.live ≡ true → TellsOn run.entry.plan.now live_reporter.dead (told K.taken K.faults out.old) (told K.taken K.faults out.new) result }

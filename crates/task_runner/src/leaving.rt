@@ -1,5 +1,5 @@
 // When a run leaves its board.
-ghost use Rattle.std.specs.Prelude.{◌≡◌, ◌≤◌, ◌<◌, ◌⊎◌, true, false};
+ghost use Rattle.std.specs.Prelude.{◌≡◌, ◌<◌, true, false};
 ghost use Rattle.task_runner.specs.inside.BoardRuns.{bound_on};
 
 use board::{Board, Mode};
@@ -16,7 +16,7 @@ pub(crate) fn are_many(loads: u64) -> bool {
 /// How many loads the tasks of a worker may make in a round before it cuts turns short: any number where there is a pass beside the rounds, for which the run
 /// stays on its board; and fewer where deadlock is avoided, since of a decision the await words alone are counted.
 pub(crate) fn bound_on_loads(board: &Board, with_pass: bool) -> u64
-    ensures { bound_on board.now ≤ result }
+    ensures { result ≡ bound_on board.now with_pass }
 {
     if with_pass {
         return u64::MAX;
@@ -28,13 +28,18 @@ pub(crate) fn bound_on_loads(board: &Board, with_pass: bool) -> u64
 }
 
 /// Whether another round on the board is to come after this one, where the awaits so far have loaded so many words. None comes after a round without an event
-/// and, where these are too many, none after a round in which nobody was forked.
-pub(crate) fn goes_on(made: Rounded, loads: u64) -> bool
+/// and, where these are too many and there is no pass beside the rounds, none after a round in which nobody was forked.
+pub(crate) fn goes_on(made: Rounded, loads: u64, with_pass: bool) -> bool
+    requires quiet { made.events ≡ 0 → made.forked ≡ false }
     ensures moved { result ≡ true → 0 < made.events }
-    ensures ended { result ≡ false → (made.events ≡ 0) ⊎ (made.forked ≡ false) }
+    ensures ended { result ≡ false → made.forked ≡ false }
+    ensures stays { with_pass ≡ true → result ≡ false → made.events ≡ 0 }
 {
     if made.events == 0 {
         return false;
+    }
+    if with_pass {
+        return true;
     }
     if are_many(loads) {
         return made.forked;

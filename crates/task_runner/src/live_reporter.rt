@@ -135,7 +135,7 @@ impl LiveReporter {
 }
 
 impl<K: Writes> Beside<K> for LiveReporter {
-    ghost use Rattle.std.specs.Prelude.{◌≡◌, Result, Ok, Err};
+    ghost use Rattle.std.specs.Prelude.{◌≡◌, Result, Ok, Err, true};
     ghost use Rattle.std.proofs.Common.{refl, subst, ◌∙◌};
     ghost use Rattle.board.specs.declared.mode.Mode.TheVariants.{Detect};
     ghost use Rattle.task_runner.specs.declared.ran.RunEnd.TheVariants.{NoMemory};
@@ -143,6 +143,8 @@ impl<K: Writes> Beside<K> for LiveReporter {
     ghost use Rattle.task_runner.specs.inside.LiveReporters.{SeesOn, TellsAfter, Watches};
 
     type Early = RunEnd;
+
+    ghost there = { true };
 
     ghost fits = { λ f x a. Watches f x × (f.mode ≡ Detect) };
 

@@ -10,10 +10,12 @@ use std::alloc::Global;
 pub(crate) struct Nothing {}
 
 impl<O> Beside<O> for Nothing {
-    ghost use Rattle.std.specs.Prelude.{Result, Ok, Err, ◌≡◌};
+    ghost use Rattle.std.specs.Prelude.{Result, Ok, Err, false, ◌≡◌};
     ghost use Rattle.std.proofs.Common.{refl, ◌∙◌};
 
     type Early = NoMemory;
+
+    ghost there = { false };
 
     ghost fits = { λ f x a. Unit {0} };
 

@@ -26,10 +26,10 @@ use std::thread;
 use std::thread::Threads;
 
 /// Runs the plan on a board that detects deadlock, without rounds: each worker that is free claims the next task that no other has, gives it one turn, and
-/// puts it back, until a sweep over all tasks in which it made no event and found no task with another worker, or until the board costs too much. A task that is forked can be claimed at once.
-/// Then one viewer takes all seats in, a detector makes one pass, and the board is closed; from the places at which the tasks stood the run goes on in one
-/// thread until no task may go on. The gate is called before each op. Workers may go on for each other: the call may wait, and what it answers holds if it
-/// returns. `NoMemory` comes where memory was wanting, for the call or for one of its workers.
+/// puts it back, until a sweep over all tasks in which it made no event and found no task with another worker, or until the board costs too much. A task that
+/// is forked can be claimed at once. Then one viewer takes all seats in, a detector makes one pass, and the board is closed; from the places at which the tasks
+/// stood the run goes on in one thread until no task may go on. The gate is called before each op. Workers may go on for each other: the call may wait, and
+/// what it answers holds if it returns. `NoMemory` comes where memory was wanting, for the call or for one of its workers.
 pub fn run_pool<R: Threads + Wait + Sync, G: Gate>(
     rt: &R,
     alloc: Global,

@@ -60,7 +60,8 @@ impl<'p, N: BoardName> PooledTask<'p, N> {
         }
     }
 
-    /// A stretch of its turn, which is cut short where its worker has loaded too much; answers what it was, and the task that it forked. After `NoMemory` it stands where its own steps brought it.
+    /// A stretch of its turn, which is cut short where its worker has loaded too much; answers what it was, and the task that it forked. After `NoMemory` it
+    /// stands where its own steps brought it.
     pub(crate) fn act<C: Calls>(
         &mut self,
         alloc: Global,

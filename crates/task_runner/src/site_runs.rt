@@ -1,5 +1,5 @@
 // A run on a board whose tasks live on several sites.
-ghost use Rattle.std.specs.Prelude.{◌≡◌, ◌≤◌, ◌<◌, ℕ, List as Seq, All, None, false, IfOk, OnOk, length, replicate};
+ghost use Rattle.std.specs.Prelude.{◌≡◌, ◌≤◌, ◌<◌, ℕ, List as Seq, All, None, true, false, IfOk, OnOk, length, replicate};
 ghost use Rattle.armus_base.specs.Limits.{max_tasks};
 ghost use Rattle.armus_base.specs.calls.Statuses.{IsInOrder};
 ghost use Rattle.armus_base.specs.calls.Limits.{max_workers, max_sites};
@@ -84,26 +84,19 @@ fn split_views(
 fn end_of_board<G: Gate>(
     run: BoardRun<'_>,
     board: Board,
-    mut view: ViewSeat,
+    view: ViewSeat,
     gate: &G,
 ) -> Result<(Final, List<Status>), NoMemory>
     requires on_board { IsOnBoard board run.plan.now run.board_tasks }
     requires detects { board.mode ≡ Detect }
-    requires ends { HaveAllEnded board run.board_tasks }
+    requires ends { HaveAllEnded board true run.board_tasks }
     requires made { IsOf view board }
     requires kept { IsSeat view }
     requires unknown { (u : ℕ) → (seen view.view).exact u ≡ false }
     ensures end { IfOk result (λ r. IsWholeEnd run.entry.plan.now r.0 r.1) }
 {
-    let BoardRun {
-        alloc,
-        plan,
-        board_tasks,
-        ..
-    } = run;
-    let places = board_tasks.places(alloc, &board, plan)?;
-    board_tasks.take_in(&board, &mut view);
-    let _ = board.close(view);
+    let (alloc, plan) = (run.alloc, run.plan);
+    let places = run.leave(board, view)?;
     whole_end_from(alloc, plan, places.as_slice(), gate)
 }
 

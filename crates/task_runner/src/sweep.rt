@@ -1,7 +1,7 @@
 // What a worker found that went over the tasks of a pool.
 
 /// What a worker found at one or several tasks.
-#[derive(Clone, Copy, Debug, PartialEq, Eq)]
+#[derive(Clone, Copy)]
 pub(crate) enum Sweep {
     /// No event happened, and no other worker had a task.
     Quiet,

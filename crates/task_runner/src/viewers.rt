@@ -20,13 +20,15 @@ pub(crate) struct Viewers {
 }
 
 impl<K: Keeps> Beside<K> for Viewers {
-    ghost use Rattle.std.specs.Prelude.{◌≡◌, Result, Ok, Err, length};
+    ghost use Rattle.std.specs.Prelude.{◌≡◌, Result, Ok, Err, true, length};
     ghost use Rattle.std.proofs.Common.{refl, subst, ap, ◌∙◌};
     ghost use Rattle.sites.specs.declared.ends.KeepEnd.TheVariants.{NoMemory};
     ghost use Rattle.sites.specs.calls.Keeping.{count_after};
     ghost use Rattle.task_runner.specs.inside.SiteRounds.{AreWatching};
 
     type Early = KeepEnd;
+
+    ghost there = { true };
 
     ghost fits = { λ f x a. AreWatching f (length (K.kept a)) x.views.items (K.kept a) };
 

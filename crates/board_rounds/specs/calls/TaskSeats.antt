@@ -6,7 +6,7 @@ use Rattle.armus_base.specs.calls.Seats.{SeenBy}
 use Rattle.board.specs.calls.Views.{own_place, seen, task_of}
 use Rattle.board.specs.calls.Seats.{Frame, IsOf, IsSeat, Known}
 use Rattle.pl_core.specs.declared.place.Place.{Place as KeptPlace}
-use Rattle.board_rounds.specs.calls.Turns.{ActsNoMore, HasEndedTurn, Working, standing_of}
+use Rattle.board_rounds.specs.calls.Turns.{ActsNoMore, Working, standing_of}
 
 -- task 0 is exact, and so is each task that an exact one forks before its place
 pub record IsClosed (plan : Plan) (seen : SeenBy) : Type 0 where
@@ -92,10 +92,6 @@ all_of tasks = tasks.live ++ tasks.ended
 pub record AreTasksOf (board : Frame) (tasks : Tasks) : Type 0 where
   pub all : AreTaskSeatsOf board (all_of tasks)
   pub ended : All (λ task. ActsNoMore task.seat) tasks.ended
-
--- each of these tasks stands at the end of a turn, perhaps of an earlier round, with this bound on so many loads
-pub record HaveEnded (bound loads : ℕ) (tasks : List Working) : Type 0 where
-  pub each : All (λ task. HasEndedTurn bound loads task.seat) tasks
 
 -- how much is left to these tasks of a plan
 abbrev pub left_to : Plan → Tasks → ℕ

@@ -148,10 +148,6 @@ CountsLoadsOf before now old new = before.view.loads + new.loads ≤ now.view.lo
 abbrev pub EndsTurnWithin : ℕ → ℕ → Known → Known → Type 0
 EndsTurnWithin bound loads before now = EndsTurn before now ⊎ (bound < in_64_bits loads × StandsAtAwait now)
 
--- the seat stands where some turn of it has ended, perhaps of an earlier round, with this bound on so many loads
-abbrev pub HasEndedTurn : ℕ → ℕ → Known → Type 0
-HasEndedTurn bound loads now = (before : Known) × EndsTurnWithin bound loads before now
-
 -- Why a task acts no further: it has forked a task, whose seat is new among its children's; or its turn is over, with this bound on so many loads, and it has
 -- forked nobody.
 abbrev pub PausesAt : ℕ → ℕ → Pause → Working → Working → Type 0

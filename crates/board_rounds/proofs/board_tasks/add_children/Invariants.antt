@@ -1,5 +1,5 @@
 use Rattle.std.proofs.Common.{◌≡◌, ◌++◌, map}
-use Rattle.board_rounds.specs.inside.Rounds.{fresh}
+use Rattle.board_rounds.specs.calls.Rounds.{fresh}
 use Rattle.board_rounds.proofs.board_tasks.add_children.Given as goal
 
 abbrev pub invariant-loop-seat : goal.invariant-loop-seat

@@ -1,13 +1,15 @@
-use Rattle.std.proofs.Common.{◌≡◌, ◌≤◌, ◌++◌, List, [], All, length, drop, map, Ok, ap, sym, subst, rules, arith, ◌∙◌}
+use Rattle.std.proofs.Common.{◌≡◌, ◌≢◌, ◌++◌, List, [], All, length, drop, map, Ok, true, sym, subst, rules}
+use Rattle.std.specs.Prelude.{◌↔◌}
 use Rattle.std.specs.List.{flat_map}
 use Rattle.std.specs.List.Sorted.{IsPermutation}
 use Rattle.armus_base.specs.Plans.{Plan}
-use Rattle.board_rounds.specs.calls.Turns.{EachActs, EachEndsTurn, HasEndedTurn, MayTakeTurn, Working, loads_between, loads_of}
-use Rattle.board_rounds.specs.inside.Rounds.{IsAtStart, IsChildIn, emptied, fresh_of}
+use Rattle.board_rounds.specs.calls.Turns.{EachActs, EachEndsTurn, MayTakeTurn, Working}
+use Rattle.board_rounds.specs.calls.Rounds.{all_forked, emptied, fresh_of}
+use Rattle.board_rounds.specs.inside.Rounds.{IsAtStart, IsChildIn}
 use Rattle.board_rounds.proofs.Between.{take_front, to_each}
 use Rattle.board_rounds.proofs.TaskSeatsKept.{starts}
-use Rattle.board_rounds.proofs.Rounding.{each_ended, of_itself, ready_itself}
-use Rattle.board_rounds.proofs.Rejoining.{emptied_end, emptied_loads}
+use Rattle.board_rounds.proofs.Forking.{forks_counted, same_forked}
+use Rattle.board_rounds.proofs.Rounding.{of_itself, ready_itself}
 use Rattle.board_rounds.proofs.board_tasks.go_round.Goals as goal
 
 pub take_on-requires : goal.take_on-requires
@@ -24,26 +26,26 @@ take_on-requires g c =
 
 pub returns : goal.returns
 returns g c =
-    let turns = of_itself c.args.setting.now.bound c.args.setting.now.board.now c.as_mut_slice-turned.result.now c.take_turns.new.tasks (Ok c.in_ok-events.events) c.in_ok-events.ensures.turns in
-    let whole = take_front c.take_turns.new.tasks (drop (length c.take_turns.new.tasks) c.args.tasks.now.items) c.args.tasks.now.len (search rules) in
+    let bound = c.args.setting.now.bound in
+    let board = c.args.setting.now.board.now in
+    let turned = c.take_turns.new.tasks in
+    let olds : c.as_mut_slice-turned.result.now ≡ c.args.tasks.now.items = c.as_mut_slice-turned.ensures.value in
+    let turns = of_itself bound board c.as_mut_slice-turned.result.now turned (Ok c.in_ok-events.events) c.in_ok-events.ensures.turns in
+    let each = subst (λ (ws : List Working). EachActs board turns.owns ws turned) olds turns.each in
+    let whole = take_front turned (drop (length turned) c.args.tasks.now.items) c.args.tasks.now.len (search rules) in
     record {
       round = record {
         owns = turns.owns;
-        turned = c.take_turns.new.tasks;
-        each = subst (λ (ws : List Working). EachActs c.args.setting.now.board.now turns.owns ws c.take_turns.new.tasks) c.as_mut_slice-turned.ensures.value turns.each;
+        turned = turned;
+        each = each;
+        ends = subst (λ (ws : List Working). EachEndsTurn bound ws turned) olds turns.ends;
+        joined = subst (λ (ws : List Working). IsPermutation (map emptied ws ++ flat_map fresh_of ws) c.take_on.new.tasks.items) whole c.in_ok-forked.ensures.joined;
         events = turns.events;
-        ends = subst (λ (ws : List Working). EachEndsTurn c.args.setting.now.bound ws c.take_turns.new.tasks) c.as_mut_slice-turned.ensures.value turns.ends;
-        joined =
-            subst (λ (ws : List Working). IsPermutation (map emptied ws ++ flat_map fresh_of ws) c.take_on.new.tasks.items) whole c.in_ok-forked.ensures.joined;
+        forked =
+            same_forked c.in_ok-forked.forked (flat_map fresh_of turned) (all_forked turns.owns)
+            (forks_counted each (to_each (λ (w : Working). w.children ≡ []) c.args.tasks.now.items c.requires.no_child))
+            (subst (λ (ws : List Working). c.in_ok-forked.forked ≡ true ↔ (flat_map fresh_of ws ≢ [])) whole c.in_ok-forked.ensures.forked);
       };
-      still = λ none.
-          let bound = c.args.setting.now.bound in
-          let loads = loads_between c.args.tasks.now.items c.take_on.new.tasks.items in
-          let same = c.in_ok-forked.ensures.none none ∙ ap (map emptied) whole in
-          let few : loads_between c.as_mut_slice-turned.result.now c.take_turns.new.tasks ≤ loads =
-          (let a = ap loads_of c.as_mut_slice-turned.ensures.value in let b = ap loads_of same in let e = emptied_loads c.take_turns.new.tasks in omega arith) in
-          subst (λ (ws : List Working). All (λ (w : Working). HasEndedTurn bound loads w.seat) ws) (sym same)
-          (emptied_end bound loads c.take_turns.new.tasks (each_ended loads few turns.ends));
     }
 
 pub take_turns-requires-clause-ready : goal.take_turns-requires-clause-ready

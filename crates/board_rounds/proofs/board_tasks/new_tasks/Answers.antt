@@ -3,7 +3,8 @@ use Rattle.std.proofs.lemmas.List.{flat_map_more, take_more}
 use Rattle.std.specs.List.{flat_map}
 use Rattle.std.specs.Prelude.{All, Contains}
 use Rattle.board_rounds.specs.calls.Turns.{Working}
-use Rattle.board_rounds.specs.inside.Rounds.{IsAtStart, fresh_of}
+use Rattle.board_rounds.specs.calls.Rounds.{fresh_of}
+use Rattle.board_rounds.specs.inside.Rounds.{IsAtStart}
 use Rattle.board_rounds.proofs.Emptying.{IsEmptiedUpTo, contains_at, grows, none_yet, there, whole}
 use Rattle.board_rounds.proofs.board_tasks.new_tasks.Goals as goal
 

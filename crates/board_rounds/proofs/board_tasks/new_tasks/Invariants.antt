@@ -1,6 +1,6 @@
 use Rattle.std.proofs.Common.{◌≡◌, take}
 use Rattle.std.specs.List.{flat_map}
-use Rattle.board_rounds.specs.inside.Rounds.{fresh_of}
+use Rattle.board_rounds.specs.calls.Rounds.{fresh_of}
 use Rattle.board_rounds.proofs.Emptying.{IsEmptiedUpTo}
 use Rattle.board_rounds.proofs.board_tasks.new_tasks.Given as goal
 

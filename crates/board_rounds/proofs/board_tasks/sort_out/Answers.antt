@@ -1,4 +1,5 @@
-use Rattle.std.proofs.Common.{[], ◌∷◌, ◌++◌, All, List, sym, subst}
+use Rattle.std.proofs.Common.{[], ◌∷◌, ◌++◌, ◌∙◌, All, List, sym, subst}
+use Rattle.std.proofs.lemmas.Bool.{false≢true}
 use Rattle.std.specs.List.Sorted.{IsPermutation}
 use Rattle.board_rounds.specs.calls.Turns.{ActsNoMore, Working}
 use Rattle.board_rounds.proofs.Rejoining.{all_push, one_ends, one_lives}
@@ -14,6 +15,7 @@ loop-task-preserved-in-Continue-1 c =
       ended =
           subst (λ (ws : List Working). All (λ (w : Working). ActsNoMore w.seat) ws) (sym c.in_ok-push.ensures.items)
           (all_push (λ (w : Working). ActsNoMore w.seat) c.loop-task.ended.items c.in-Some.task i.ended (c.has_ended.ensures.0 c.if-has_ended.true));
+      live = i.live;
     }
 
 pub loop-task-preserved : goal.loop-task-preserved
@@ -24,4 +26,8 @@ loop-task-preserved c =
     record {
       same = subst (λ (ws : List Working). IsPermutation (E ++ Y) (ws ++ c.loop-task.ended.items)) (sym c.in_ok-push-2.ensures.items) (one_lives E c.loop-task.yielded c.loop-task.live.items c.loop-task.ended.items c.in-Some.task i.same);
       ended = i.ended;
+      live =
+          subst (λ (ws : List Working). All (λ (w : Working). ActsNoMore w.seat → ⊥) ws) (sym c.in_ok-push-2.ensures.items)
+          (all_push (λ (w : Working). ActsNoMore w.seat → ⊥) c.loop-task.live.items c.in-Some.task i.live
+          (λ ended. false≢true (sym c.if-has_ended.false ∙ c.has_ended.ensures.1 ended)));
     }

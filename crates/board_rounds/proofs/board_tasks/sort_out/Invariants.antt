@@ -7,4 +7,5 @@ abbrev pub invariant-loop-task : goal.invariant-loop-task
 invariant-loop-task l = record {
   same : IsPermutation (l.initial.ended.items ++ l.yielded) (l.live.items ++ l.ended.items);
   ended : All (λ (task : Working). ActsNoMore task.seat) l.ended.items;
+  live : All (λ (task : Working). ActsNoMore task.seat → ⊥) l.live.items;
 }

@@ -19,13 +19,14 @@ use Rattle.board.specs.calls.Views.{seen}
 use Rattle.board.specs.calls.Words.{IsShown}
 use Rattle.collector.specs.calls.Passes.{HasDeadOf}
 use Rattle.report.specs.NamedDead.{AreSomeDead}
-use Rattle.board_rounds.specs.calls.Turns.{loads_of}
+use Rattle.board_rounds.specs.calls.Turns.{loads_between}
 use Rattle.board_rounds.specs.calls.TaskSeats.{ArePlacesOf, all_of}
 use Rattle.task_runner.specs.calls.DetectRuns.{AreDeadAtTheEnd, AreSettledPlaces, told}
 use Rattle.task_runner.specs.inside.Rests.{TellsRest}
 use Rattle.task_runner.specs.inside.LiveReporters.{TellsMore}
 use Rattle.task_runner.specs.declared.ran.RunEnd.TheVariants.{NoMemory}
 use Rattle.task_runner.specs.inside.BoardRuns.{bound_on}
+use Rattle.task_runner.proofs.EndedTurns.{turns_ended}
 use Rattle.task_runner.proofs.BoardEnds.{lawful, plain, reachable, settled, shown}
 use Rattle.task_runner.proofs.LastPasses.{dead_there, named_there, statuses_in}
 use Rattle.task_runner.proofs.TellingAll.{blocked_in_order, none_on, pass_err, rest_err, rest_ok}
@@ -124,6 +125,7 @@ returns-in_err-tell_rest-clause-told g c = λ live.
 pub returns-clause-ran : goal.returns-clause-ran
 returns-clause-ran g c =
     let f = c.args.board in
+    let live = c.args.run.options.live in
     let tasks = all_of c.args.run.board_tasks in
     let before = c.take_in.new.self.view in
     let now = c.last_pass.new.live_reporter.view in
@@ -145,7 +147,8 @@ returns-clause-ran g c =
           words last);
       settled = subst (λ (q : Plan). AreSettledPlaces q (places_at q places)) c.requires.under_way.on_board.of_plan
           (settled f c.requires.under_way.detects tasks c.requires.under_way.on_board.board_tasks.all.board_tasks places are before now c.take_in.ensures.known goes of
-          words last (bound_on c.args.board) (loads_of tasks) c.requires.ends.each);
+          words last (bound_on c.args.board live) (loads_between (all_of c.requires.ends.before) tasks)
+          (turns_ended c.args.board live c.args.run.board_tasks c.requires.ends));
       of_plan = c.close-words.ensures.board.0 ∙ c.requires.under_way.on_board.of_plan;
       words = subst (λ (q : Plan). IsShown q (state_at q (places_at q places)) None words) c.requires.under_way.on_board.of_plan
           (shown f c.requires.under_way.detects tasks c.requires.under_way.on_board.board_tasks.all.board_tasks places are before now c.take_in.ensures.known goes of

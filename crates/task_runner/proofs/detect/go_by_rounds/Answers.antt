@@ -18,3 +18,9 @@ returns-in-Err-clause-told g c =
       subst (AreDeadAtTheEnd c.args.board.now.plan) (sym (append-nil dead)) c.requires.under_way.watches.dead,
       none_written a n (ap (told g.K.Sink.taken g.K.Sink.faults) c.go-2.ensures.passes),
     )
+
+pub returns-in-Ok-clause-told : goal.returns-in-Ok-clause-told
+returns-in-Ok-clause-told g c =
+    let a = told g.K.Sink.taken g.K.Sink.faults c.args.out.now in
+    let n = told g.K.Sink.taken g.K.Sink.faults c.go-2.new.out in
+    ([], sym (append-nil c.args.live_reporter.now.dead), none_written a n (ap (told g.K.Sink.taken g.K.Sink.faults) c.go-2.ensures.passes))
