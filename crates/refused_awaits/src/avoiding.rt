@@ -12,6 +12,7 @@ ghost use Rattle.world_runs.specs.inside.WorldRounds.{LeavesLess};
 ghost use Rattle.refused_awaits.specs.calls.AvoidedRuns.{IsRunWithRefusals};
 ghost use Rattle.refused_awaits.specs.inside.SoFar.{RoundsGoTo, HasDecided, HasEndedSo, HasTurn, NobodyDeadIn, RoundTo};
 
+use crate::known_text::KnownText;
 use crate::refusal::{pending_of, put_freed, put_refusal};
 use armus_base::{Event, Final, List, NoMemory, Plan, TaskId};
 use avoider::{Decision, Judge, Judging};
@@ -32,13 +33,6 @@ pub struct AvoidedRun<'p> {
     pub end: Final,
 }
 
-/// What is known of a text, and the name of its file, if it comes from one.
-#[derive(Drop)]
-pub(crate) struct Teller<'a> {
-    pub(crate) facts: StepFacts<'a>,
-    pub(crate) file: Option<&'a [u8]>,
-}
-
 /// How far a run has come.
 #[derive(Drop)]
 pub(crate) struct Avoiding<'p> {
@@ -50,22 +44,21 @@ pub(crate) struct Avoiding<'p> {
 
 impl<'p> Avoiding<'p> {
     // Decides on the await of this event at which a task stands.
-    fn decide(&mut self, teller: &Teller<'_>, t: TaskId, event: Event) -> Result<(), NoMemory>
-        requires known { AreKnownFacts teller.now.facts }
+    fn decide(&mut self, text: &KnownText<'_>, t: TaskId, event: Event) -> Result<(), NoMemory>
+        requires known { AreKnownFacts text.now.facts }
         requires before { IsBeforeStep self.old.world t.0 }
         requires at { IsAtAwaitOf self.old.world t.0 event }
-        ensures decided { OnOk result (HasDecided (option_copied teller.now.file) (kept_layout teller.now.facts) teller.now.facts.program.now self.old self.new t.0 event) }
+        ensures decided { OnOk result (HasDecided (option_copied text.now.file) (kept_layout text.now.facts) text.now.facts.program.now self.old self.new t.0 event) }
         ensures nobody { OnOk result (NobodyDeadIn self.new.world) }
     {
         let _ = self.world.stand(t);
-        let alloc = teller.facts.alloc;
+        let alloc = text.facts.alloc;
         let pending = pending_of(alloc, &self.world, t, event)?;
         match self.judge.step(alloc, &mut self.world, t)? {
             Decision::Published(_) => Ok(()),
             Decision::Refused(cycle) => {
                 put_refusal(
-                    &teller.facts,
-                    teller.file,
+                    text,
                     &mut self.refusals,
                     &self.world,
                     t,
@@ -79,17 +72,17 @@ impl<'p> Avoiding<'p> {
     }
 
     // Makes the next step of a task that may go on: at an await a decision, of whose refusal it keeps the paragraph, and else that of its code.
-    fn go_on(&mut self, teller: &Teller<'_>, t: TaskId) -> Result<(), NoMemory>
-        requires known { AreKnownFacts teller.now.facts }
+    fn go_on(&mut self, text: &KnownText<'_>, t: TaskId) -> Result<(), NoMemory>
+        requires known { AreKnownFacts text.now.facts }
         requires task { t.0 < length self.old.world.plan.parents }
         requires enabled { IsEnabled self.old.world t.0 }
         requires nobody { NobodyDeadIn self.old.world }
         ensures left { OnOk result (LeavesLess NobodyDeadIn self.old.world self.new.world true) }
-        ensures goes { OnOk result (RoundsGoTo (option_copied teller.now.file) (kept_layout teller.now.facts) teller.now.facts.program.now t.0 self.old self.new true) }
+        ensures goes { OnOk result (RoundsGoTo (option_copied text.now.file) (kept_layout text.now.facts) text.now.facts.program.now t.0 self.old self.new true) }
     {
         match self.world.stand(t) {
             Stand::Await(event) => {
-                self.decide(teller, t, event)?;
+                self.decide(text, t, event)?;
                 Ok(())
             }
             _ => {
@@ -100,66 +93,66 @@ impl<'p> Avoiding<'p> {
     }
 
     // The turn of a task: it goes on until it may not; answers whether a step was made.
-    fn turn(&mut self, teller: &Teller<'_>, t: TaskId) -> Result<bool, NoMemory>
-        requires known { AreKnownFacts teller.now.facts }
+    fn turn(&mut self, text: &KnownText<'_>, t: TaskId) -> Result<bool, NoMemory>
+        requires known { AreKnownFacts text.now.facts }
         requires task { t.0 < length self.old.world.plan.parents }
         requires nobody { NobodyDeadIn self.old.world }
         ensures left { IfOk result (LeavesLess NobodyDeadIn self.old.world self.new.world) }
-        ensures goes { IfOk result (RoundsGoTo (option_copied teller.now.file) (kept_layout teller.now.facts) teller.now.facts.program.now t.0 self.old self.new) }
+        ensures goes { IfOk result (RoundsGoTo (option_copied text.now.file) (kept_layout text.now.facts) text.now.facts.program.now t.0 self.old self.new) }
         ensures ended { OnOk result (IsEnabled self.new.world t.0 → ⊥) }
     {
         let mut moved = false;
         'turn: while self.world.enabled(t) {
-            self.go_on(teller, t)?;
+            self.go_on(text, t)?;
             moved = true;
         }
         Ok(moved)
     }
 
     // The turn of a task, if it was forked before the round; answers whether a step was made.
-    fn turn_if(&mut self, teller: &Teller<'_>, forked: bool, t: TaskId) -> Result<bool, NoMemory>
-        requires known { AreKnownFacts teller.now.facts }
+    fn turn_if(&mut self, text: &KnownText<'_>, forked: bool, t: TaskId) -> Result<bool, NoMemory>
+        requires known { AreKnownFacts text.now.facts }
         requires task { t.0 < length self.old.world.plan.parents }
         requires nobody { NobodyDeadIn self.old.world }
         ensures left { IfOk result (LeavesLess NobodyDeadIn self.old.world self.new.world) }
-        ensures turn { IfOk result (HasTurn (option_copied teller.now.file) (kept_layout teller.now.facts) teller.now.facts.program.now t.0 forked self.old self.new) }
+        ensures turn { IfOk result (HasTurn (option_copied text.now.file) (kept_layout text.now.facts) text.now.facts.program.now t.0 forked self.old self.new) }
     {
         if forked {
-            self.turn(teller, t)
+            self.turn(text, t)
         } else {
             Ok(false)
         }
     }
 
     // One turn of each of these tasks, in order of number; answers whether a step was made.
-    fn turns(&mut self, teller: &Teller<'_>, forked: &[bool]) -> Result<bool, NoMemory>
-        requires known { AreKnownFacts teller.now.facts }
+    fn turns(&mut self, text: &KnownText<'_>, forked: &[bool]) -> Result<bool, NoMemory>
+        requires known { AreKnownFacts text.now.facts }
         requires forked { TellsForked self.old.world forked.now }
         requires forked_len { length forked.now ≡ length self.old.world.plan.parents }
         requires nobody { NobodyDeadIn self.old.world }
         ensures left { IfOk result (LeavesLess NobodyDeadIn self.old.world self.new.world) }
-        ensures round { IfOk result (RoundTo (option_copied teller.now.file) (kept_layout teller.now.facts) teller.now.facts.program.now (length self.old.world.plan.parents) self.old self.new) }
+        ensures round { IfOk result (RoundTo (option_copied text.now.file) (kept_layout text.now.facts) text.now.facts.program.now (length self.old.world.plan.parents) self.old self.new) }
         ensures quiet { IfOk result (λ moved. moved ≡ false → (t : ℕ) → t < length self.old.world.plan.parents → IsEnabled self.new.world t → ⊥) }
     {
         let mut moved = false;
         for t in 0..self.world.plan().tasks() {
-            let acted = self.turn_if(teller, forked[t as usize], TaskId(t))?;
+            let acted = self.turn_if(text, forked[t as usize], TaskId(t))?;
             moved = moved || acted;
         }
         Ok(moved)
     }
 
     // One turn of each task that is forked now; answers whether a step was made.
-    fn round(&mut self, teller: &Teller<'_>, forked: &mut [bool]) -> Result<bool, NoMemory>
-        requires known { AreKnownFacts teller.now.facts }
+    fn round(&mut self, text: &KnownText<'_>, forked: &mut [bool]) -> Result<bool, NoMemory>
+        requires known { AreKnownFacts text.now.facts }
         requires forked_len { length forked.old ≡ length self.old.world.plan.parents }
         requires nobody { NobodyDeadIn self.old.world }
         ensures left { IfOk result (LeavesLess NobodyDeadIn self.old.world self.new.world) }
-        ensures round { IfOk result (RoundTo (option_copied teller.now.file) (kept_layout teller.now.facts) teller.now.facts.program.now (length self.old.world.plan.parents) self.old self.new) }
+        ensures round { IfOk result (RoundTo (option_copied text.now.file) (kept_layout text.now.facts) text.now.facts.program.now (length self.old.world.plan.parents) self.old self.new) }
         ensures quiet { IfOk result (λ moved. moved ≡ false → (t : ℕ) → t < length self.old.world.plan.parents → IsEnabled self.new.world t → ⊥) }
     {
         mark_forked(&self.world, forked);
-        self.turns(teller, forked)
+        self.turns(text, forked)
     }
 }
 
@@ -187,11 +180,11 @@ fn mark_forked(world: &World<'_>, forked: &mut [bool])
 // The serial avoided run of a plan up to its end, and how far it has come then.
 fn avoided_to_end<'p>(
     alloc: Global,
-    teller: &Teller<'_>,
+    text: &KnownText<'_>,
     plan: &'p Plan,
 ) -> Result<Avoiding<'p>, NoMemory>
-    requires known { AreKnownFacts teller.now.facts }
-    ensures ended { IfOk result (HasEndedSo (option_copied teller.now.file) (kept_layout teller.now.facts) teller.now.facts.program.now plan.now) }
+    requires known { AreKnownFacts text.now.facts }
+    ensures ended { IfOk result (HasEndedSo (option_copied text.now.file) (kept_layout text.now.facts) text.now.facts.program.now plan.now) }
     ensures quiet { IfOk result (λ run. (t : ℕ) → t < length run.world.plan.parents → IsEnabled run.world t → ⊥) }
 {
     let mut forked = vec![in alloc; false; plan.tasks() as usize]?;
@@ -201,7 +194,7 @@ fn avoided_to_end<'p>(
         judge: Judge::new(Judging::Order),
         refusals: Vec::new(alloc),
     };
-    'rounds: while run.round(teller, &mut forked)? {}
+    'rounds: while run.round(text, &mut forked)? {}
     Ok(run)
 }
 
@@ -223,12 +216,12 @@ pub fn avoid_through<'p>(
     ensures run { IfOk result (IsRunWithRefusals (option_copied file.entry) places.now program.now plan.now) }
 {
     let facts = StepFacts::new(alloc, places, program, forks)?;
-    let teller = Teller { facts, file };
+    let text = KnownText { facts, file };
     let Avoiding {
         world,
         judge: _,
         refusals,
-    } = avoided_to_end(alloc, &teller, plan)?;
+    } = avoided_to_end(alloc, &text, plan)?;
     let end = world.finish(alloc)?;
     Ok(AvoidedRun {
         refusals: List::from_vec(refusals),

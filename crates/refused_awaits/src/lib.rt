@@ -3,6 +3,7 @@
 
 mod avoiding;
 mod explaining;
+mod known_text;
 mod laws;
 mod listing;
 mod refusal;

@@ -18,6 +18,7 @@ ghost use Rattle.refused_awaits.specs.RefusalWords.{avoided_circle_words, event_
 ghost use Rattle.refused_awaits.specs.inside.Freed.{AreThoseBelow, IsFreed, StoodBelow};
 ghost use Rattle.refused_awaits.specs.inside.SoFar.{StandAt};
 
+use crate::known_text::KnownText;
 use crate::listing::push_if;
 use armus_base::{Event, NoMemory, Phase, PhaserId, TaskId};
 use origins::LoopTurn;
@@ -475,26 +476,25 @@ pub(crate) fn put_freed(
 /// Appends the paragraph but for its last line of a task whose await, which stood so when it was decided on, was refused, since it would have closed this
 /// deadlock.
 pub(crate) fn put_refusal(
-    facts: &StepFacts<'_>,
-    file: Option<&[u8]>,
+    text: &KnownText<'_>,
     out: &mut Vec<u8>,
     world: &World<'_>,
     t: TaskId,
     waits: &Pending,
     cycle: &[TaskId],
 ) -> Result<(), NoMemory>
-    requires known { AreKnownFacts facts.now }
+    requires known { AreKnownFacts text.now.facts }
     requires task { t.0 < length world.now.plan.parents }
     requires tasks { All (λ u. u.0 < length world.now.plan.parents) cycle.now }
     ensures { OnOk result ((ops : ℕ → ℕ) → StandAt world.now ops → out.new.items ≡ out.old.items
-        ++ refusal_by (option_copied file.entry) (kept_layout facts.now) facts.now.program.now t.0 waits.now.event waits.now.phase ops cycle.now waits.now.members.items) }
+        ++ refusal_by (option_copied text.now.file) (kept_layout text.now.facts) text.now.facts.program.now t.0 waits.now.event waits.now.phase ops cycle.now waits.now.members.items) }
 {
     let i = world.op(t);
-    put_refused(facts, file, out, t, waits, i)?;
+    put_refused(&text.facts, text.file, out, t, waits, i)?;
     put_words(out, b"\n")?;
-    put_whence(facts, out, t, waits.event.p, i)?;
+    put_whence(&text.facts, out, t, waits.event.p, i)?;
     put_words(out, b"\n")?;
-    put_deadlock(facts, out, world, cycle)?;
-    put_left(facts.alloc, out, &waits.members)?;
+    put_deadlock(&text.facts, out, world, cycle)?;
+    put_left(text.facts.alloc, out, &waits.members)?;
     Ok(())
 }

@@ -11,7 +11,7 @@ invariant-rounds l =
     record {
       nobody : NobodyDeadIn l.run.world;
       forked : length l.forked.items ≡ length l.plan.parents;
-      come : HasCome (option_copied l.teller.file) (kept_layout l.teller.facts) l.teller.facts.program.now l.plan l.run;
+      come : HasCome (option_copied l.text.file) (kept_layout l.text.facts) l.text.facts.program.now l.plan l.run;
     }
 
 abbrev pub decreases-rounds : goal.decreases-rounds

@@ -11,9 +11,9 @@ use Rattle.accounts.proofs.OneAccount.{one_op}
 
 pub returns : goal.returns
 returns c = λ ops stand.
-    let file = option_copied c.args.file in
-    let p = c.args.facts.now.program.now in
-    let l = kept_layout c.args.facts.now in
+    let file = option_copied c.args.text.now.file in
+    let p = c.args.text.now.facts.program.now in
+    let l = kept_layout c.args.text.now.facts in
     let w = c.args.world.now in
     let t = c.args.t.0 in
     let e = c.args.waits.now.event in

@@ -9,7 +9,7 @@ abbrev pub invariant-turn : goal.invariant-turn
 invariant-turn l =
     record {
       left : LeavesLess NobodyDeadIn l.initial.self.world l.self.world l.moved;
-      goes : RoundsGoTo (option_copied l.teller.file) (kept_layout l.teller.facts) l.teller.facts.program.now l.t.0 l.initial.self l.self l.moved;
+      goes : RoundsGoTo (option_copied l.text.file) (kept_layout l.text.facts) l.text.facts.program.now l.t.0 l.initial.self l.self l.moved;
     }
 
 abbrev pub decreases-turn : goal.decreases-turn

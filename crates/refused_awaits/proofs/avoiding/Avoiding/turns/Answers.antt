@@ -15,7 +15,7 @@ use Rattle.refused_awaits.proofs.avoiding.Avoiding.turns.Goals as goal
 pub loop-t-init : goal.loop-t-init
 loop-t-init c = record {
   left = leaves_none NobodyDeadIn c.args.self.now.world c.requires.nobody;
-  round = round_begun (option_copied c.args.teller.now.file) (kept_layout c.args.teller.now.facts) c.args.teller.now.facts.program.now c.args.self.now;
+  round = round_begun (option_copied c.args.text.now.file) (kept_layout c.args.text.now.facts) c.args.text.now.facts.program.now c.args.self.now;
   quiet = λ e u lt. absurd (omega (arith, lt));
 }
 
@@ -46,7 +46,7 @@ loop-t-preserved c =
     ] in
     record {
       left = leaves_on NobodyDeadIn first.world mid.world new.world before acted both inv.left turn.left some none;
-      round = round_more (option_copied c.args.teller.now.file) (kept_layout c.args.teller.now.facts) c.args.teller.now.facts.program.now first mid new k has before
+      round = round_more (option_copied c.args.text.now.file) (kept_layout c.args.text.now.facts) c.args.text.now.facts.program.now first mid new k has before
           acted both c.plan.ensures.checked inv.left.plan turn.left.plan noted inv.round none turn.turn;
       quiet = λ e u lt.
           let was : mid.world ≡ first.world = inv.left.still (none e).0 in
@@ -56,7 +56,7 @@ loop-t-preserved c =
             | inr more ↦
                 let same : u ≡ k = omega (arith, lt, more) in
                 subst (λ v. IsEnabled new.world v → ⊥) (sym same)
-                (turn_quiet (option_copied c.args.teller.now.file) (kept_layout c.args.teller.now.facts) c.args.teller.now.facts.program.now first mid new k has acted
+                (turn_quiet (option_copied c.args.text.now.file) (kept_layout c.args.text.now.facts) c.args.text.now.facts.program.now first mid new k has acted
                 noted was is turn.turn)
           ];
     }

@@ -10,6 +10,6 @@ abbrev pub invariant-loop-t : goal.invariant-loop-t
 invariant-loop-t l =
     record {
       left : LeavesLess NobodyDeadIn l.initial.self.world l.self.world l.moved;
-      round : RoundTo (option_copied l.teller.file) (kept_layout l.teller.facts) l.teller.facts.program.now l.t l.initial.self l.self l.moved;
+      round : RoundTo (option_copied l.text.file) (kept_layout l.text.facts) l.text.facts.program.now l.t l.initial.self l.self l.moved;
       quiet : l.moved ≡ false → (u : ℕ) → u < l.t → IsEnabled l.self.world u → ⊥;
     }
