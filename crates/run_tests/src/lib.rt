@@ -2,9 +2,13 @@
 #![tactic(auto)]
 
 #[cfg(test)]
+mod coming;
+#[cfg(test)]
 mod detected;
 #[cfg(test)]
 mod journals;
+#[cfg(test)]
+mod leaving;
 #[cfg(test)]
 mod meeting;
 #[cfg(test)]

@@ -1,4 +1,4 @@
-// A gate for the tests of plans whose first two children have something to do.
+// A gate at which two tasks meet.
 use armus_base::{Gate, Point, TaskId};
 use std::sync::atomic::{AtomicBool, Ordering};
 use std::thread::yield_now;
@@ -6,22 +6,31 @@ use std::thread::yield_now;
 // How often a task looks for another at the gate before it gives up.
 const MAX_LOOKS: u32 = 200_000_000;
 
-// The two children.
-const FIRST: TaskId = TaskId(1);
-
-const SECOND: TaskId = TaskId(2);
-
-/// A gate that holds tasks 1 and 2 before their first op until both are there.
+/// A gate that holds who comes to one of two points until somebody has come to the other one.
 #[derive(Drop)]
 pub(crate) struct Meeting {
+    first: Point,
+    second: Point,
+    looks: u32,
     first_came: AtomicBool,
     second_came: AtomicBool,
     gave_up: AtomicBool,
 }
 
 impl Meeting {
+    /// Tasks 1 and 2 meet before their first op.
     pub(crate) fn new() -> Meeting {
+        let first = Point::Op { t: TaskId(1), k: 0 };
+        let second = Point::Op { t: TaskId(2), k: 0 };
+        Meeting::between(first, second, MAX_LOOKS)
+    }
+
+    /// A gate that holds at these two points, each for so many looks at most.
+    pub(crate) fn between(first: Point, second: Point, looks: u32) -> Meeting {
         Meeting {
+            first,
+            second,
+            looks,
             first_came: AtomicBool::new(false),
             second_came: AtomicBool::new(false),
             gave_up: AtomicBool::new(false),
@@ -34,7 +43,7 @@ impl Meeting {
     }
 
     fn wait_for(&self, other: &AtomicBool) {
-        for _ in 0..MAX_LOOKS {
+        for _ in 0..self.looks {
             if other.load(Ordering::SeqCst) {
                 return;
             }
@@ -46,16 +55,13 @@ impl Meeting {
 
 impl Gate for Meeting {
     fn at(&self, point: Point) {
-        match point {
-            Point::Op { t: FIRST, k: 0 } => {
-                self.first_came.store(true, Ordering::SeqCst);
-                self.wait_for(&self.second_came);
-            }
-            Point::Op { t: SECOND, k: 0 } => {
-                self.second_came.store(true, Ordering::SeqCst);
-                self.wait_for(&self.first_came);
-            }
-            _ => {}
+        if point == self.first {
+            self.first_came.store(true, Ordering::SeqCst);
+            self.wait_for(&self.second_came);
+        }
+        if point == self.second {
+            self.second_came.store(true, Ordering::SeqCst);
+            self.wait_for(&self.first_came);
         }
     }
 }

@@ -35,6 +35,18 @@ fn text_of(word: &str) -> &'static str {
         "ending" => {
             "pc = newPhaser(); pb = newPhaser(); loop 3 { t = newTid(); reg(t, pc); reg(t, pb); fork(t) { loop 2 { skip; adv(pc); await(pc); skip; adv(pc); await(pc); } dereg(pc); dereg(pb); } } dereg(pc); adv(pb); await(pb);"
         }
+        // Task 0 waits until all its children wait for it, and then forks three more, one behind them by its number.
+        "small" => {
+            "p = newPhaser(); q = newPhaser(); r = newPhaser(); u = newTid(); w = newTid(); loop 2 { t = newTid(); reg(t, p); reg(t, q); fork(t) { adv(q); adv(p); await(p); } } v = newTid(); loop 5 { adv(r); await(r); } adv(q); await(q); fork(u) { x = newPhaser(); } fork(w) { x = newPhaser(); } fork(v) { x = newPhaser(); }"
+        }
+        // The same of 4,096 tasks: the awaits of the children and of task 0 load 4,098 times 4,096 words.
+        "large" => {
+            "p = newPhaser(); q = newPhaser(); r = newPhaser(); u = newTid(); w = newTid(); loop 4092 { t = newTid(); reg(t, p); reg(t, q); fork(t) { adv(q); adv(p); await(p); } } v = newTid(); loop 5 { adv(r); await(r); } adv(q); await(q); fork(u) { x = newPhaser(); } fork(w) { x = newPhaser(); } fork(v) { x = newPhaser(); }"
+        }
+        // A child passes each of its awaits at once, and another one is behind it.
+        "awaits" => {
+            "loop 4000 { t = newTid(); fork(t) { } } t = newTid(); fork(t) { r = newPhaser(); loop 4200 { adv(r); await(r); } x = newPhaser(); } t = newTid(); fork(t) { x = newPhaser(); }"
+        }
         _ => "",
     }
 }
