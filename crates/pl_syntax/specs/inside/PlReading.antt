@@ -22,6 +22,7 @@ use Rattle.pl_syntax.specs.inside.Statements.{Statements, named_by, statement_at
 abbrev pub StmtRead : Type 0
 StmtRead = Result (Begun Stmt StmtHead × List ℕ) SyntaxFault
 
+-- `x = newTid();`, or `x = newPhaser();`
 abbrev pub drawn_stmt : List ℕ → Bool → Stmt
 drawn_stmt x true = s.NewTask x
 drawn_stmt x false = s.NewPhaser x
