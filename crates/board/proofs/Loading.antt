@@ -376,9 +376,9 @@ looks plan mode slots id me t p live same small few s l _ at _ =
       (
         refl,
         λ u q a b at_word.
-            let b' : q < length plan.makers = subst (λ (c : Plan). q < length c.makers) same b in
+            let a' : u < length plan.parents = subst (λ (c : Plan). u < length c.parents) same a in
             let one : phase_index plan t p ≡ phase_index plan u q = at_word ∙ ap (λ (c : Plan). phase_index c u q) same in
-            let eq = phases_apart plan t p u q few b' one in
+            let eq = phases_apart plan t p u q small a' one in
             subst (λ (z : ℕ × ℕ). (g : Option ℕ) × get_or s.words (phase_index plan t p) 0 ≡ phase_number g × get_or s.words (phase_index plan t p) 0 < 2 ^ 32 ×
             LoadsPhase v.plan v.mode z.0 z.1 g v w) (λ i. (eq.0 i, eq.1 i)) (
               answer,
@@ -426,10 +426,9 @@ recalls plan mode slots id me t p own live same few s l _ at _ =
       (
         refl,
         refl,
-        λ q b at_word.
-            let b' : q < length plan.makers = subst (λ (c : Plan). q < length c.makers) same b in
+        λ q _ at_word.
             let one : phase_index plan t p ≡ phase_index plan t q = at_word ∙ ap (λ (c : Plan). phase_index c (task_of me.0) q) same ∙ ap (λ u. phase_index plan u q) si.task in
-            let eq = phases_apart plan t p t q few b' one in
+            let eq = phases_apart plan t p t q si.within si.within one in
             let shown : get_or s.words (phase_index plan t p) 0 ≡ phase_number ((state_at plan l.places).phases t p) = l.shown.phases t p si.within few in (
               shown ∙ ap (λ x. phase_number ((state_at plan l.places).phases t x)) eq.1 ∙ ap phase_number (own_phases_so plan mode s l id me.0 t q si),
               subst (λ n. n < 2 ^ 32) (sym shown) (number_small ((state_at plan l.places).phases t p) (phases_small plan l.checked l.places t p)),

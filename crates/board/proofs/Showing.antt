@@ -14,14 +14,14 @@ rows_apart w t p u q a b e =
 
 -- two phase words in one place are one
 pub phases_apart :
-    (plan : Plan) (t p u q : ℕ) → p < length plan.makers → q < length plan.makers → phase_index plan t p ≡ phase_index plan u q → (t ≡ u) × (p ≡ q)
-phases_apart plan t p u q a b e = rows_apart (length plan.makers) t p u q a b (omega arith)
+    (plan : Plan) (t p u q : ℕ) → t < length plan.parents → u < length plan.parents → phase_index plan t p ≡ phase_index plan u q → (t ≡ u) × (p ≡ q)
+phases_apart plan t p u q a b e = let r = rows_apart (length plan.parents) p t q u a b (omega arith) in (r.1, r.0)
 
 pub phase_within : (plan : Plan) (t p : ℕ) → t < length plan.parents → p < length plan.makers → phase_index plan t p < word_count plan
 phase_within plan t p a b =
-    let w : ℕ = length plan.makers in
-    let n : ℕ = length plan.parents in
-    let m : suc t * w ≤ n * w = mul-le-mul_right w a in omega (arith, suc-mul t w)
+    let w : ℕ = length plan.parents in
+    let n : ℕ = length plan.makers in
+    let m : suc p * w ≤ n * w = mul-le-mul_right w b in omega (arith, suc-mul p w)
 
 -- one phase changes
 pub shows_phase :
@@ -41,11 +41,11 @@ shows_phase plan s s' lock words t p x sh a b here others same =
               ∙ get_or-set_same words at n 0 (let w = sh.count in let h = phase_within plan t p a b in omega arith)
               ∙ ap phase_number (sym here ∙ ap (s'.phases t) (sym qp) ∙ ap (λ v. s'.phases v q) (sym ut))
           | inr ne ↦
-              get_or-set_other words at (phase_index plan u q) n 0 (λ e. ne (phases_apart plan u q t p lq b e).1)
+              get_or-set_other words at (phase_index plan u q) n 0 (λ e. ne (phases_apart plan u q t p lu a e).1)
               ∙ sh.phases u q lu lq ∙ ap phase_number (sym (others u q (λ _. ne)))
         ]
         | inr ne ↦
-            get_or-set_other words at (phase_index plan u q) n 0 (λ e. ne (phases_apart plan u q t p lq b e).0)
+            get_or-set_other words at (phase_index plan u q) n 0 (λ e. ne (phases_apart plan u q t p lu a e).0)
             ∙ sh.phases u q lu lq ∙ ap phase_number (sym (others u q (λ e. absurd (ne e))))
       ];
     }

@@ -128,7 +128,7 @@ impl Board {
         ensures index { result ≡ phase_index self.now.plan t.0 p.0 }
         ensures inside { result < self.now.table.words }
     {
-        1 + self.tasks as usize + t.0 as usize * self.phasers as usize + p.0 as usize
+        1 + self.tasks as usize + p.0 as usize * self.tasks as usize + t.0 as usize
     }
 
     /// Ends the board. Its words are those of a lawful state as far on as what the viewer has seen. Where each task that is forked at the viewer's
@@ -141,10 +141,10 @@ impl Board {
         let Board {
             cells,
             tasks,
-            phasers,
+            phasers: _,
             setting,
         } = self;
         let closed = cells.close_with(view.into_place());
-        Words::of(closed, tasks, phasers, setting)
+        Words::of(closed, tasks, setting)
     }
 }

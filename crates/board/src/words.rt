@@ -19,7 +19,6 @@ use std::marker::Model;
 pub struct Words {
     closed: Closed<(), Global>,
     tasks: u32,
-    phasers: u32,
     setting: Setting,
 }
 
@@ -35,13 +34,8 @@ impl Model for Words {
 }
 
 impl Words {
-    pub(crate) fn of(
-        closed: Closed<(), Global>,
-        tasks: u32,
-        phasers: u32,
-        setting: Setting,
-    ) -> Words
-        requires plan { IsCheckedPlan setting.plan.value × (tasks ≡ length setting.plan.value.parents) × (phasers ≡ length setting.plan.value.makers) }
+    pub(crate) fn of(closed: Closed<(), Global>, tasks: u32, setting: Setting) -> Words
+        requires plan { IsCheckedPlan setting.plan.value × (tasks ≡ length setting.plan.value.parents) }
         requires closed { IsFull closed.words × (slots_len closed.words ≡ word_count setting.plan.value) × (slots_len closed.slots ≡ 0) }
         requires lawful { AreLawful setting.plan.value setting.mode (slots_items closed.words) }
         ensures { result ≡ record { plan = setting.plan.value; mode = setting.mode; words = slots_items closed.words } }
@@ -49,7 +43,6 @@ impl Words {
         Words {
             closed,
             tasks,
-            phasers,
             setting,
         }
     }
@@ -70,7 +63,7 @@ impl Words {
         ensures number { phase_number result ≡ slice_index self.now.words (phase_index self.now.plan t.0 p.0) }
         ensures meaning { (l : AreLawful self.now.plan self.now.mode self.now.words) → result ≡ (state_at self.now.plan l.places).phases t.0 p.0 }
     {
-        let word = 1 + self.tasks as usize + t.0 as usize * self.phasers as usize + p.0 as usize;
+        let word = 1 + self.tasks as usize + p.0 as usize * self.tasks as usize + t.0 as usize;
         phase_of(self.closed.word(word))
     }
 }
@@ -80,7 +73,6 @@ impl Drop for Words {
         let Words {
             closed,
             tasks: _,
-            phasers: _,
             setting: _,
         } = self;
         closed.free();

@@ -11,9 +11,9 @@ use Rattle.armus_base.specs.calls.Seats.{Found, FoundIdle, FoundWaiting, FoundRe
 abbrev pub await_index : ℕ → ℕ
 await_index t = 1 + t
 
--- where the phase word of task t on p stands: after all await words, task by task
+-- where the phase word of task t on p stands: after all await words, phaser by phaser, and of one phaser task by task
 abbrev pub phase_index : Plan → ℕ → ℕ → ℕ
-phase_index plan t p = 1 + length plan.parents + t * length plan.makers + p
+phase_index plan t p = 1 + length plan.parents + p * length plan.parents + t
 
 -- how many words a board has
 abbrev pub word_count : Plan → ℕ

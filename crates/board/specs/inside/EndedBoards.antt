@@ -6,12 +6,11 @@ use Rattle.board.specs.declared.words.Words.TheInside.{Inside}
 use Rattle.board.specs.calls.Closing.{AreLawful}
 use Rattle.board.specs.calls.Words.{word_count}
 
--- there are all words, they are those of a lawful state, and the counts are the plan's
+-- there are all words, they are those of a lawful state, and the count of tasks is the plan's
 pub record IsEndedBoard (w : Inside) : Type 0 where
   pub full : IsFull w.closed.words
   pub count : slots_len w.closed.words ≡ word_count w.setting.plan.value
   pub no_slot : slots_len w.closed.slots ≡ 0
   pub checked : IsCheckedPlan w.setting.plan.value
   pub tasks : w.tasks ≡ length w.setting.plan.value.parents
-  pub phasers : w.phasers ≡ length w.setting.plan.value.makers
   pub lawful : AreLawful w.setting.plan.value w.setting.mode (slots_items w.closed.words)
