@@ -6,8 +6,8 @@ use Rattle.std.proofs.lemmas.List.{length-set}
 use Rattle.std.proofs.lemmas.List.Elements.{Contains-append_cases, Contains-append_left, Contains-append_right}
 use Rattle.armus_base.specs.Plans.{Plan}
 use Rattle.armus_base.proofs.Elements.{Contains-cons_cases, Contains-head, nothing_in_nil}
+use Rattle.armus_base.proofs.Lists.{slice_get-set_same, slice_get-set_other}
 use Rattle.pl_core.specs.declared.place.Place.{Place as KeptPlace}
-use Rattle.pl_core.proofs.Cells.{slice_get-set_other, slice_get-set_same}
 use Rattle.board.specs.calls.Seats.{Frame, Known, TakesIn}
 use Rattle.board.specs.calls.Views.{seen, task_of}
 use Rattle.board_rounds.specs.calls.Turns.{Working, standing_of}

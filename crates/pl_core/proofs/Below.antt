@@ -11,8 +11,8 @@ use Rattle.armus_base.specs.States.{State}
 use Rattle.armus_base.proofs.Below.{given_below_same}
 use Rattle.armus_base.specs.declared.ids.TaskId.{TaskId}
 use Rattle.armus_base.specs.calls.StatusLists.{is_marked}
+use Rattle.armus_base.proofs.Lists.{slice_get-set_same, slice_get-set_other}
 use Rattle.pl_core.specs.inside.Supposed.{with_also}
-use Rattle.pl_core.proofs.Cells.{slice_get-set_same, slice_get-set_other}
 
 -- to suppose that a task is published changes no phases
 pub phases_also : (s : State) (also : Option (TaskId × Event)) → (with_also s also).phases ≡ s.phases

@@ -4,20 +4,9 @@ use Rattle.std.specs.Prelude.{slice_get, ◌==◌, if◌then◌else◌, option_a
 use Rattle.std.proofs.lemmas.Bool.{cases_eq, cases_lt}
 use Rattle.std.proofs.lemmas.Bool.Decides.{nat_tests}
 use Rattle.std.proofs.lemmas.Option.{slice_get_within}
+use Rattle.armus_base.proofs.Lists.{slice_get-set_same, slice_get-set_other, some_at}
 use Rattle.pl_core.specs.declared.cell.Cell.{Cell}
 use Rattle.pl_core.specs.inside.Cells.{AreBelow, CellsAscend, IsLowerBoundIn, StandsInCell, StandsIn, phase_among, phase_in_cell}
-
-pub slice_get-set_same : {A : Type 0} (xs : List A) (k : ℕ) (v : A) → k < length xs → slice_get (set xs k v) k ≡ Some v
-slice_get-set_same [] k v l = absurd (omega arith)
-slice_get-set_same (x ∷ xs) zero v l = refl
-slice_get-set_same (x ∷ xs) (suc k) v l = slice_get-set_same xs k v (omega arith)
-
-pub slice_get-set_other : {A : Type 0} (xs : List A) (k j : ℕ) (v : A) → j ≢ k → slice_get (set xs k v) j ≡ slice_get xs j
-slice_get-set_other [] k j v n = refl
-slice_get-set_other (x ∷ xs) zero zero v n = absurd (n refl)
-slice_get-set_other (x ∷ xs) zero (suc j) v n = refl
-slice_get-set_other (x ∷ xs) (suc k) zero v n = refl
-slice_get-set_other (x ∷ xs) (suc k) (suc j) v n = slice_get-set_other xs k j v (λ e. n (ap suc e))
 
 pub slice_get-end : {A : Type 0} (xs : List A) (x : A) → slice_get (xs ++ x ∷ []) (length xs) ≡ Some x
 slice_get-end [] x = refl
@@ -205,12 +194,6 @@ below_more n cs d below l k c e =
       | inr last ↦ subst (λ (x : Cell). x.task < n) last.1 l
     ]
 
--- what stands at a place
-pub read_there : {A : Type 0} (xs : List A) (k : ℕ) → k < length xs → (x : A) × (slice_get xs k ≡ Some x)
-read_there [] k l = absurd (omega arith)
-read_there (x ∷ xs) zero l = (x, refl)
-read_there (x ∷ xs) (suc k) l = read_there xs k (omega arith)
-
 -- cells of which the last is not that of task t
 pub below_last : (cs : List Cell) (t : ℕ) → CellsAscend cs → AreBelow (t + 1) cs → ((k : ℕ) → k + 1 ≡ length cs → StandsInCell cs k t → ⊥) → AreBelow t cs
 below_last cs t up below last k c e =
@@ -218,7 +201,7 @@ below_last cs t up below last k c e =
       | inl end ↦ (let low = below k c e in let other : c.task ≢ t = λ is. last k (omega arith) (c, e, is) in omega (arith, other))
       | inr before ↦
           let within = slice_get_within cs k c e in
-          let next = read_there cs (suc k) (omega (arith, before)) in
+          let next = some_at cs (suc k) (omega (arith, before)) in
           (let up' = up k (suc k) c next.0 (omega arith) e next.1 in let low = below (suc k) next.0 next.1 in omega arith)
     ]
 
@@ -231,7 +214,7 @@ at_lower_bound cs t at up bound (k, (c, e, is)) =
         | inl low ↦ absurd (let less = bound.ahead k c low e in omega arith)
         | inr high ↦
             let within = slice_get_within cs k c e in
-            let here = read_there cs at (omega arith) in
+            let here = some_at cs at (omega arith) in
             absurd (let least = bound.from at here.0 (omega arith) here.1 in let less = up at k here.0 c (omega (arith, ne)) here.1 e in omega arith)
       ]
     ]

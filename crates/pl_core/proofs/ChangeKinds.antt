@@ -10,6 +10,7 @@ use Rattle.armus_base.specs.Plans.{Plan, Action, Advances, Blocks, Drops, Forks,
 use Rattle.armus_base.specs.States.{IsActive, IsLegal, State, after}
 use Rattle.armus_base.proofs.Codes.{child_later, child_within, phaser_within}
 use Rattle.armus_base.proofs.Steps.{updated_same, updated_other}
+use Rattle.armus_base.proofs.Lists.{slice_get-set_same, slice_get-set_other}
 use Rattle.pl_core.specs.declared.task.Task.{Task}
 use Rattle.pl_core.specs.declared.phase_table.PhaseTable.{PhaseTable}
 use Rattle.pl_core.specs.inside.Changes.{after_fork, after_op}
@@ -24,7 +25,6 @@ use Rattle.pl_core.specs.inside.Kept.{KeepsState}
 use Rattle.pl_core.specs.calls.Tables.{kept_places, world_from}
 use Rattle.pl_core.specs.calls.Worlds.{WorldValue, action_by_code, places_of, state_of}
 use Rattle.pl_core.proofs.Bounds.{child_bound, phaser_of_member, phase_fits}
-use Rattle.pl_core.proofs.Cells.{slice_get-set_same, slice_get-set_other}
 use Rattle.pl_core.proofs.OpCounts.{actions_before-suc, one_unless_await}
 use Rattle.pl_core.proofs.Standing.{begun_none, idle, next_of_idle, of_task, standing_there, undropped_of}
 use Rattle.pl_core.proofs.OneStep.{event_of_other, flag, kept_after, kept_of_other, makes_after, stepped_set}

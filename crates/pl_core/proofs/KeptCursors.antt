@@ -9,11 +9,11 @@ use Rattle.armus_base.specs.declared.op.Op.TheVariants.{Make, Reg, Fork, Adv, Dr
 use Rattle.armus_base.specs.Finals.{list_below}
 use Rattle.armus_base.specs.Plans.{Plan, code_of}
 use Rattle.armus_base.proofs.Below.{length-list_below, list_below-at}
+use Rattle.armus_base.proofs.Lists.{slice_get-set_same, slice_get-set_other}
 use Rattle.pl_core.specs.declared.task.Task.{Task}
 use Rattle.pl_core.specs.inside.Changes.{after_fork, opening_tasks, unbegun}
 use Rattle.pl_core.specs.inside.Cursors.{AreAt, KeepsOtherCursors, moved_on, op_from, op_index_of}
 use Rattle.pl_core.specs.inside.Walks.{marked_by, with_forked}
-use Rattle.pl_core.proofs.Cells.{slice_get-set_other, slice_get-set_same}
 
 -- what is left of a list from place k on
 pub first_left : {A : Type 0} (xs : List A) (k : ℕ) → slice_get (drop k xs) 0 ≡ slice_get xs k

@@ -2,11 +2,12 @@
 use Rattle.std.proofs.Common.{◌≡◌, ◌≢◌, ℕ, suc, ◌<◌, ◌≤◌, List, [], ◌∷◌, ◌++◌, Option, Some, None, length, arith, sym, ◌∙◌, ap, subst, refl, inl, inr}
 use Rattle.std.proofs.lemmas.Bool.{cases_eq, cases_lt}
 use Rattle.std.specs.Prelude.{option_and_then}
+use Rattle.armus_base.proofs.Lists.{some_at}
 use Rattle.pl_core.specs.declared.cell.Cell.{Cell}
 use Rattle.pl_core.specs.declared.least.Least.{Least}
 use Rattle.pl_core.specs.inside.Cells.{phase_in_cell}
 use Rattle.pl_core.specs.inside.LeastPhases.{IsAtMost, IsLeastCell, IsLeastBelow}
-use Rattle.pl_core.proofs.Cells.{read_there, slice_get-ahead, slice_get-end}
+use Rattle.pl_core.proofs.Cells.{slice_get-ahead, slice_get-end}
 
 -- two phases of one cell are one
 same_phase : {o : Option ℕ} (m n : ℕ) → o ≡ Some m → o ≡ Some n → m ≡ n
@@ -69,7 +70,7 @@ least_appended cs d o none h =
     (least_more (phase_in_cell (cs ++ d ∷ [])) (length cs) o
     (ap (option_and_then (λ (x : Cell). x.phase)) (slice_get-end cs d) ∙ none)
     (least_same (phase_in_cell cs) (phase_in_cell (cs ++ d ∷ [])) (length cs) o
-    (λ u l. let there = read_there cs u l in
+    (λ u l. let there = some_at cs u l in
     ap (option_and_then (λ (x : Cell). x.phase)) (slice_get-ahead cs d there.0 u there.1 ∙ sym there.1)) h))
 
 pub kept_below : (cs : List Cell) (o : Option Least) → IsLeastCell cs o → IsLeastBelow (phase_in_cell cs) (length cs) o

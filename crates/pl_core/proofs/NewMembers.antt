@@ -3,12 +3,12 @@ use Rattle.std.proofs.Common.{◌≡◌, ◌≢◌, ℕ, suc, ◌<◌, ◌≤◌
 use Rattle.std.specs.Prelude.{slice_get}
 use Rattle.std.proofs.lemmas.Bool.{cases_eq}
 use Rattle.std.proofs.lemmas.List.{length-set}
+use Rattle.armus_base.proofs.Lists.{slice_get-set_same, slice_get-set_other}
 use Rattle.pl_core.specs.declared.cell.Cell.{Cell}
 use Rattle.pl_core.specs.declared.members.Members.{Members}
 use Rattle.pl_core.specs.inside.Admitting.{Admits, AreNew}
 use Rattle.pl_core.specs.inside.Cells.{AreBelow, StandsIn, phase_among}
 use Rattle.pl_core.specs.inside.PhaseTables.{cells_at, cells_from}
-use Rattle.pl_core.proofs.Cells.{slice_get-set_other, slice_get-set_same}
 
 pub cells_set_same : (rows : List Members) (p : ℕ) (row : Members) → p < length rows → cells_at (set rows p row) p ≡ row.cells.items
 cells_set_same rows p row l = ap cells_from (slice_get-set_same rows p row l)

@@ -10,8 +10,9 @@ use Rattle.armus_base.specs.declared.piece.Piece.{Piece}
 use Rattle.armus_base.specs.declared.piece.Piece.TheVariants.{Op as Single, Repeat}
 use Rattle.armus_base.specs.calls.Pieces.{ops_between, unfolded}
 use Rattle.armus_base.specs.Pieces.{times}
+use Rattle.armus_base.proofs.Lists.{slice_get-set_same, slice_get-set_other}
 use Rattle.pl_core.specs.inside.Enrolling.{Enrols, IsEnrolledBy, Notes}
-use Rattle.pl_core.proofs.Cells.{slice_get-ahead, slice_get-end, slice_get-set_other, slice_get-set_same}
+use Rattle.pl_core.proofs.Cells.{slice_get-ahead, slice_get-end}
 
 -- nothing new is to be noted
 pub notes_none : (rows : List (Vec ℕ Global)) (Means : ℕ → ℕ → Type 0) → ((c p : ℕ) → Means c p → ⊥) → Notes rows rows Means

@@ -5,13 +5,15 @@ use Rattle.std.specs.Prelude.{slice_get}
 use Rattle.std.proofs.lemmas.Option.{slice_get_within}
 use Rattle.std.proofs.lemmas.Bool.{cases_eq}
 use Rattle.std.proofs.lemmas.List.{length-set, map-set}
-use Rattle.armus_base.specs.Plans.{Plan, Action, Blocks, Forks, Passes, Refuses, in_code, Aim}
+use Rattle.armus_base.specs.Plans.{Plan, Action, Blocks, Forks, Passes, Refuses, Aim}
 use Rattle.armus_base.specs.States.{State, IsLegal, after}
 use Rattle.armus_base.specs.Runs.{IsByCode, IsReachable, moved, next_place}
 use Rattle.armus_base.specs.Places.{state_at}
 use Rattle.armus_base.proofs.Codes.{no_refusal}
 use Rattle.armus_base.proofs.Reachable.{reachable_steps}
 use Rattle.armus_base.proofs.Steps.{updated_same, updated_other}
+use Rattle.armus_base.proofs.Lists.{slice_get-set_same, slice_get-set_other}
+use Rattle.armus_base.proofs.Again.{in_code_plain}
 use Rattle.pl_core.specs.declared.place.Place.{Place as PlaceValue}
 use Rattle.pl_core.specs.declared.task.Task.{Task}
 use Rattle.pl_core.specs.declared.phase_table.PhaseTable.{PhaseTable}
@@ -22,7 +24,6 @@ use Rattle.pl_core.specs.inside.KeptTasks.{IsKeptOf, event_in}
 use Rattle.pl_core.specs.inside.Kept.{KeepsState}
 use Rattle.pl_core.specs.calls.Tables.{kept_places, world_from}
 use Rattle.pl_core.specs.calls.Worlds.{WorldValue, dropped_at, action_by_code, place_from, places_at, places_of, state_of}
-use Rattle.pl_core.proofs.Cells.{slice_get-set_same, slice_get-set_other}
 use Rattle.pl_core.proofs.Standing.{consistent, done_is, place_is, refused_false, standing_there, undropped_of}
 
 -- the places after a change of one of them
@@ -39,10 +40,6 @@ places_set_other plan places t u v n = ap (place_from plan u) (slice_get-set_oth
 pub regular : (k : ℕ) (x : Action) → ((aim : Aim) → x ≢ Refuses aim) → next_place k None x ≡ record { done = suc k; dropped = None }
 regular k (Refuses p) n = absurd (n p refl)
 regular k x n = refl
-
-in_code_same : (x : Action) → ((aim : Aim) → x ≢ Refuses aim) → in_code x ≡ x
-in_code_same (Refuses p) n = absurd (n p refl)
-in_code_same x n = refl
 
 -- what a step of another task leaves
 pub forked_of_other : (s : State) (t u : ℕ) (x : Action) → x ≢ Forks u → (after s t x).forked u ≡ s.forked u
@@ -115,7 +112,7 @@ module _ (plan : Plan) (tasks : List Task) (table : PhaseTable) (kept : KeepsSta
           ∙ sym (updated_same (places_of old) t t (next_place (places_of old t).done (places_of old t).dropped x) refl)
 
   by_code : IsByCode plan t (places_of old t).done (places_of old t).dropped x
-  by_code = subst (λ o. IsByCode plan t (places_of old t).done o x) (sym undropped) (next ∙ ap Some (sym (in_code_same x no_refusing)))
+  by_code = subst (λ o. IsByCode plan t (places_of old t).done o x) (sym undropped) (next ∙ ap Some (sym (in_code_plain x no_refusing)))
 
   legal_there : IsLegal plan (state_at plan (places_of old)) t x
   unfolding state_of

@@ -12,6 +12,7 @@ use Rattle.armus_base.specs.Runs.{IsReachable, first_place}
 use Rattle.armus_base.specs.Places.{state_at}
 use Rattle.armus_base.specs.CheckedPlans.{IsCheckedPlan}
 use Rattle.armus_base.proofs.Stepping.{opening_fixed}
+use Rattle.armus_base.proofs.Lists.{slice_get-set_same, slice_get-set_other}
 use Rattle.pl_core.specs.declared.place.Place.{Place as KeptPlace}
 use Rattle.pl_core.specs.declared.task.Task.{Task}
 use Rattle.pl_core.specs.declared.phase_table.PhaseTable.{PhaseTable}
@@ -22,7 +23,6 @@ use Rattle.pl_core.specs.inside.KeptTasks.{IsKeptOf}
 use Rattle.pl_core.specs.inside.Kept.{KeepsState}
 use Rattle.pl_core.specs.calls.Tables.{kept_places, world_from}
 use Rattle.pl_core.specs.calls.Worlds.{IsOpeningWorld, WorldValue, place_from, places_at, places_of, state_of}
-use Rattle.pl_core.proofs.Cells.{slice_get-set_same, slice_get-set_other}
 
 -- an item of a list of copies
 pub copy_is : {A : Type 0} (n k : ℕ) (x y : A) → slice_get (replicate n x) k ≡ Some y → y ≡ x

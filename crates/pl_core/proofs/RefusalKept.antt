@@ -12,6 +12,7 @@ use Rattle.armus_base.specs.Runs.{IsReachable, Place}
 use Rattle.armus_base.specs.Places.{done_by, kept as kept_phases, members_below, phases_after, phases_at, state_at}
 use Rattle.armus_base.proofs.Fixed.{kept_above, kept_below, phases_forked}
 use Rattle.armus_base.proofs.Steps.{updated_same, updated_other}
+use Rattle.armus_base.proofs.Lists.{slice_get-set_same, slice_get-set_other}
 use Rattle.pl_core.specs.declared.task.Task.{Task}
 use Rattle.pl_core.specs.declared.phase_table.PhaseTable.{PhaseTable}
 use Rattle.pl_core.specs.inside.Changes.{after_refusal}
@@ -24,7 +25,6 @@ use Rattle.pl_core.specs.inside.Kept.{KeepsState}
 use Rattle.pl_core.specs.calls.Tables.{kept_places, world_from}
 use Rattle.pl_core.specs.calls.Worlds.{WorldValue, memberships, action_by_code, places_of, state_of}
 use Rattle.pl_core.proofs.Bounds.{phaser_of_member}
-use Rattle.pl_core.proofs.Cells.{slice_get-set_same, slice_get-set_other}
 use Rattle.pl_core.proofs.OneStep.{places_set_other, places_set_same}
 use Rattle.pl_core.proofs.Refusing.{dropped_below, dropping, drops_lead, leads_reachable, own_refused, phases_own, same_forked, same_phases, same_published, same_refused}
 use Rattle.pl_core.proofs.Standing.{begun_none, done_is, idle, of_task, standing_there, undropped_of}

@@ -32,8 +32,8 @@ use Rattle.pl_core.specs.Tasks.{actions_before}
 use Rattle.pl_core.specs.inside.KeptTasks.{begun, event_in}
 use Rattle.pl_core.specs.inside.Walks.{AwaitsBelow, AwaitsNear, IsPlaced, HasWalked, event_of_op, walked, walking}
 use Rattle.pl_core.specs.calls.Worlds.{dropped_at, memberships, places_at}
-use Rattle.pl_core.proofs.Cells.{slice_get-set_other, slice_get-set_same}
 use Rattle.armus_base.proofs.MemberPhasers.{phaser_of_member}
+use Rattle.armus_base.proofs.Lists.{slice_get-set_same, slice_get-set_other}
 use Rattle.pl_core.proofs.Standing.{action_of_op, begun_none, begun_some, place_is}
 use Rattle.pl_core.proofs.WalkOps.{given_consistent}
 use Rattle.pl_core.proofs.WalkSteps.{kept_none, own_phases_here, quiet_forked, quiet_phases, unpublished_before}

@@ -29,10 +29,10 @@ use Rattle.pl_core.proofs.CellsStay.{cells_stay}
 use Rattle.pl_core.specs.Tasks.{actions_before}
 use Rattle.pl_core.specs.inside.Walks.{ForksBelow, IsPlaced, HasWalked, marked_by, walking, with_forked}
 use Rattle.pl_core.specs.calls.Worlds.{places_at}
-use Rattle.pl_core.proofs.Cells.{slice_get-set_other, slice_get-set_same}
 use Rattle.pl_core.proofs.ChangeKinds.{phases_of_state}
 use Rattle.pl_core.proofs.OpCounts.{actions_before-suc, actions_in, await_is_two, one_unless_await}
 use Rattle.armus_base.proofs.MemberPhasers.{phaser_of_member}
+use Rattle.armus_base.proofs.Lists.{slice_get-set_same, slice_get-set_other}
 use Rattle.pl_core.proofs.Standing.{action_of_op}
 use Rattle.pl_core.proofs.WalkSteps.{own_phases_here, quiet_forked, quiet_phases, stepped}
 

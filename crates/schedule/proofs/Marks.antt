@@ -8,7 +8,7 @@ use Rattle.std.proofs.lemmas.List.Folds.{list_any-append}
 use Rattle.std.proofs.lemmas.Option.{slice_get-get_or}
 use Rattle.std.proofs.Math.ListN.{length-set}
 use Rattle.armus_base.specs.Finals.{given_below}
-use Rattle.pl_core.proofs.Cells.{slice_get-set_same, slice_get-set_other}
+use Rattle.armus_base.proofs.Lists.{slice_get-set_same, slice_get-set_other}
 use Rattle.schedule.specs.declared.pass.Waiting.{Waiting}
 use Rattle.schedule.specs.inside.OpenPasses.{marked_phaser, phaser_of}
 

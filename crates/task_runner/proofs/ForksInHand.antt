@@ -8,7 +8,7 @@ use Rattle.armus_base.specs.declared.op.Op.{Op}
 use Rattle.armus_base.specs.declared.op.Op.TheVariants.{Make, Reg, Fork, Adv, Drop, Await}
 use Rattle.armus_base.specs.Plans.{Plan, action_at, actions, actions_of, code_of}
 use Rattle.armus_base.proofs.Elements.{Contains-head}
-use Rattle.pl_core.proofs.Cells.{slice_get-set_other}
+use Rattle.armus_base.proofs.Lists.{slice_get-set_other}
 use Rattle.board_rounds.specs.calls.Turns.{Working}
 use Rattle.board_rounds.specs.calls.TaskSeats.{done_of, number}
 use Rattle.board_rounds.proofs.Between.{to_each}

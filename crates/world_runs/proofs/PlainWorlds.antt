@@ -4,9 +4,9 @@ use Rattle.std.specs.Prelude.{slice_get}
 use Rattle.std.proofs.lemmas.Bool.{cases_eq}
 use Rattle.std.proofs.lemmas.Option.{slice_get_within}
 use Rattle.armus_base.specs.Plans.{Plan}
+use Rattle.armus_base.proofs.Lists.{slice_get-set_same, slice_get-set_other}
 use Rattle.pl_core.specs.calls.Moves.{IsWorldStep, further}
 use Rattle.pl_core.specs.calls.Worlds.{IsOpeningWorld, WorldValue}
-use Rattle.pl_core.proofs.Cells.{slice_get-set_same, slice_get-set_other}
 use Rattle.pl_core.proofs.Opening.{copy_is}
 use Rattle.world_runs.specs.inside.Turns.{NobodyRefused}
 

@@ -1,8 +1,8 @@
 use Rattle.std.proofs.Common.{◌≡◌, ◌∙◌, ◌++◌, None, ap, subst, sym}
 use Rattle.std.specs.Prelude.{OnOk, slice_get}
 use Rattle.armus_base.specs.Plans.{Plan, code_of}
+use Rattle.armus_base.proofs.Lists.{some_at}
 use Rattle.pl_core.specs.calls.Worlds.{state_of}
-use Rattle.pl_core.proofs.Cells.{read_there}
 use Rattle.task_sayings.specs.Places.{said_of}
 use Rattle.step_lines.specs.StepWords.{change_words}
 use Rattle.step_lines.proofs.Ready.{ready_kind, ready_next, ready_within}
@@ -22,7 +22,7 @@ pub unreachable-requires : goal.unreachable-requires
 unreachable-requires c =
     let within =
     ready_within c.args.world.now c.plan-plan.ensures.checked c.plan-plan.ensures.reachable c.args.t.0 c.args.i c.requires.at c.requires.ready in
-    let (o, some) = read_there (code_of c.args.world.now.plan c.args.t.0) c.args.i within in
+    let (o, some) = some_at (code_of c.args.world.now.plan c.args.t.0) c.args.i within in
     let none : slice_get (code_of c.args.world.now.plan c.args.t.0) c.args.i ≡ None =
     ap (λ (q : Plan). slice_get (code_of q c.args.t.0) c.args.i) (sym c.plan-plan.ensures.plan) ∙ sym c.op_at.ensures ∙ c.in-None.is in
     cc
