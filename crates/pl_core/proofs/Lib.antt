@@ -27,3 +27,5 @@ pub mod WalkDone
 pub mod LeastMembers
 pub mod HighestKept
 pub mod KeptCursors
+pub mod NextBehind
+pub mod NextImpeders

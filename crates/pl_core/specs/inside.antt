@@ -10,6 +10,7 @@ pub mod Supposed
 pub mod Walks
 pub mod LeastPhases
 pub mod Cells
+pub mod Behind
 pub mod Highest
 pub mod Reachable
 pub mod KeptTasks

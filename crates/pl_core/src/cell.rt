@@ -48,6 +48,18 @@ pub(crate) fn place_of(cells: &[Cell], t: u32) -> Option<usize>
     if is_at(cells, at, t) { Some(at) } else { None }
 }
 
+/// The first place from which on no task is below `t`: one look where the cells are those of consecutive tasks, and else a binary search.
+pub(crate) fn place_from(cells: &[Cell], t: u32) -> usize
+    requires ascend { CellsAscend cells.now }
+    ensures { IsLowerBoundIn cells.now t result }
+{
+    let near = guess(cells, t);
+    if is_at(cells, near, t) {
+        return near;
+    }
+    first_from(cells, t)
+}
+
 /// The phase in the cell at a place.
 pub(crate) fn phase_at(cells: &[Cell], at: usize) -> Option<Phase>
     requires { at < length cells.now }

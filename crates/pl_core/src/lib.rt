@@ -1,6 +1,7 @@
 //! The plain machine: a plan, how far each task has come in it, and the state that these places fix.
 #![tactic(auto)]
 
+mod behind;
 mod cell;
 mod cursors;
 mod effect;

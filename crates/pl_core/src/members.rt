@@ -1,8 +1,10 @@
 // The members of one phaser.
 ghost use Rattle.std.specs.Prelude.{◌≡◌, ◌≢◌, ◌↔◌, ℕ, ◌<◌, ◌≤◌, ◌+◌, [], Some, false, length, IsTrue, OnOk};
+ghost use Rattle.pl_core.specs.inside.Behind.{IsNextBelow};
 ghost use Rattle.pl_core.specs.inside.Cells.{AreBelow, CellsAscend, StandsInCell, StandsIn, phase_among};
 ghost use Rattle.pl_core.specs.inside.LeastPhases.{IsLeastCell};
 
+use crate::behind::next_behind;
 use crate::cell::{Cell, phase_at, place_of};
 use crate::least::{Least, least_after};
 use armus_base::{NoMemory, Phase};
@@ -86,6 +88,13 @@ impl Members {
         let before = self.least;
         self.cells[at] = Cell { task: t, phase };
         self.least = least_after(&self.cells, at, before);
+    }
+
+    /// The first task from `from` on that is a member with a phase below `n`.
+    pub(crate) fn next_behind(&self, from: u32, n: Phase) -> Option<u32>
+        ensures { IsNextBelow (phase_among self.now.cells.items) n from result }
+    {
+        next_behind(&self.cells, from, n)
     }
 
     /// Whether each member has phase `n` at least.

@@ -16,6 +16,7 @@ pub(crate) struct PhaseTable {
 
 impl PhaseTable {
     ghost use Rattle.armus_base.specs.States.{updated, with_phase};
+    ghost use Rattle.pl_core.specs.inside.Behind.{IsNextBelow};
     ghost use Rattle.pl_core.specs.inside.Enrolling.{HasCells};
     ghost use Rattle.pl_core.specs.inside.PhaseTables.{HasCell, KeepsCells, phases_in};
 
@@ -62,6 +63,14 @@ impl PhaseTable {
         for p in 0..self.phasers {
             self.set(t, p, None);
         }
+    }
+
+    /// The first task from `from` on that is a member of phaser `p` with a phase below `n`.
+    pub(crate) fn next_behind(&self, p: usize, from: u32, n: u32) -> Option<u32>
+        requires phaser { p < self.now.phasers }
+        ensures { IsNextBelow (λ u. phases_in self.now u p) n from result }
+    {
+        self.rows[p].next_behind(from, n)
     }
 
     /// Whether each member of phaser `p` has phase `n` at least.

@@ -1,6 +1,7 @@
 // Whom a task impedes, and who impedes an event.
-ghost use Rattle.std.specs.Prelude.{◌≡◌, ℕ, ◌<◌, ◌≤◌, IsTrue, MatchBool, MatchOption, length};
-ghost use Rattle.pl_core.specs.calls.HighestPhases.{ImpedesNobody, IsPublishedImpeder};
+ghost use Rattle.std.specs.Prelude.{◌≡◌, ℕ, ◌+◌, ◌<◌, ◌≤◌, ◌^◌, IfSome, IsTrue, MatchOption, length};
+ghost use Rattle.pl_core.specs.calls.HighestPhases.{ImpedesNobody, IsNextImpeder, IsPublishedImpeder};
+ghost use Rattle.pl_core.specs.inside.Behind.{IsNextBelow};
 ghost use Rattle.pl_core.specs.inside.Highest.{highest_at};
 ghost use Rattle.armus_base.specs.States.{if_published};
 ghost use Rattle.pl_core.specs.calls.Worlds.{state_of};
@@ -47,28 +48,41 @@ impl<'p> World<'p> {
             ((u : ℕ) → IsPublishedImpeder (if_published (state_of self.now) t.0 event) event u → ⊥)
             (λ u. IsPublishedImpeder (if_published (state_of self.now) t.0 event) event u.0) }
     {
-        for u in 0..self.plan.tasks() {
-            if self.is_published_impeder(t, event, TaskId(u)) {
+        self.next_impeder(event, TaskId(0), t, event)
+    }
+
+    /// The first published task from `from` on that impedes an awaited event, with task `t` counted as published on `event`; None exactly where
+    /// there is none. It looks at the members of the phaser alone, and at none where the awaited event is reached.
+    pub fn next_impeder(
+        &self,
+        awaited: Event,
+        from: TaskId,
+        t: TaskId,
+        event: Event,
+    ) -> Option<TaskId>
+        requires phaser { awaited.p.0 < length self.now.plan.makers }
+        ensures next { IsNextImpeder (if_published (state_of self.now) t.0 event) awaited from.0 result }
+        ensures inside { IfSome result (λ u. u.0 < length self.now.plan.parents) }
+    {
+        if self.is_reached(awaited) {
+            return None;
+        }
+        let mut next = from.0;
+        'members: while let Some(u) = self.next_behind(awaited, next) {
+            if self.published_or(TaskId(u), Some((t, event))).is_some() {
                 return Some(TaskId(u));
             }
+            next = u + 1;
         }
         None
     }
 
-    // Whether a task is published, or is the one that counts so, and impedes the event.
-    fn is_published_impeder(&self, t: TaskId, event: Event, u: TaskId) -> bool
-        requires task { t.0 < length self.now.plan.parents }
-        requires other { u.0 < length self.now.plan.parents }
+    // The first task from `from` on that impedes the event, published or not.
+    fn next_behind(&self, event: Event, from: u32) -> Option<u32>
         requires phaser { event.p.0 < length self.now.plan.makers }
-        ensures { MatchBool result (IsPublishedImpeder (if_published (state_of self.now) t.0 event) event u.0)
-            (IsPublishedImpeder (if_published (state_of self.now) t.0 event) event u.0 → ⊥) }
+        ensures next { IsNextBelow (λ u. (state_of self.now).phases u event.p.0) event.n from result }
+        ensures inside { IfSome result (λ u. (u < length self.now.plan.parents) × (u + 1 < 2 ^ 32)) }
     {
-        match (
-            self.published_or(u, Some((t, event))),
-            self.phase(event.p, u),
-        ) {
-            (Some(_), Some(n)) => n < event.n,
-            _ => false,
-        }
+        self.phases.next_behind(event.p.0 as usize, from, event.n)
     }
 }

@@ -52,8 +52,8 @@ impl<'p> World<'p> {
         self.statuses_on(alloc, &asked, also)
     }
 
-    // The event on which a task is published.
-    fn published(&self, t: TaskId) -> Option<Event>
+    /// The event on which task `t` is published, if it is published.
+    pub fn published(&self, t: TaskId) -> Option<Event>
         requires task { t.0 < length self.now.plan.parents }
         ensures event { result ≡ (state_of self.now).published t.0 }
         ensures phaser { IfSome result (λ event. event.p.0 < length self.now.plan.makers) }
