@@ -1,5 +1,5 @@
 -- Walks over the tasks that may be dead, and the cycle in which one closes.
-use Rattle.std.proofs.Common.{◌≡◌, ℕ, ◌+◌, ◌-◌, ◌<◌, Bool, true, false, Option, Some, None, List, [], ◌∷◌, ◌++◌, length, get_or, set, take, drop, arith, sym, ◌∙◌, ap, subst, refl, inl, inr, get_or-set_other, length-drop, length-set}
+use Rattle.std.proofs.Common.{◌≡◌, ℕ, ◌+◌, ◌-◌, ◌<◌, ◌≤◌, Bool, true, false, Option, Some, None, List, [], ◌∷◌, ◌++◌, length, get_or, set, take, drop, arith, sym, ◌∙◌, ap, subst, refl, inl, inr, get_or-set_other, length-drop, length-set}
 use Rattle.std.specs.Prelude.{Contains, MatchOption, is_some}
 use Rattle.std.proofs.lemmas.Bool.{cases_eq, cases_lt}
 use Rattle.std.proofs.lemmas.List.{get_or-drop, get_or_append_left, get_or_default, get_or_push, length_push, take_all, take_more}
@@ -42,6 +42,12 @@ passed_more s e alive u passed here v lt imp =
       | inl same ↦ subst (λ x. get_or alive x false ≡ true) (sym same) (here (subst (λ x. IsPublishedImpeder s e x) same imp))
       | inr other ↦ passed v (omega arith) imp
     ]
+
+-- nobody is left out up to a further number, where nobody between the two impedes
+pub passed_on :
+    (s : State) (e : Event) (alive : List Bool) (low high : ℕ) → ArePassed s e alive low → ((u : ℕ) → low ≤ u → u < high → IsPublishedImpeder s e u → ⊥) → ArePassed s e alive high
+passed_on s e alive low high passed none u lt impedes =
+    elim (cases_lt u low) [ inl l ↦ passed u l impedes | inr on ↦ absurd (none u on lt impedes) ]
 
 -- one more is not dead
 pub under_more : (ss : List Status) (u : ℕ) → IsUnder ss u → (IsDeadBy ss u → ⊥) → IsUnder ss (u + 1)

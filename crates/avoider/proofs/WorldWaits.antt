@@ -1,7 +1,7 @@
 -- Who waits for whom in a world, by the places of awaited events.
-use Rattle.std.proofs.Common.{◌≡◌, ℕ, ◌+◌, ◌-◌, ◌<◌, true, Option, None, Some, List, [], ◌∷◌, ◌++◌, length, refl, sym, ap, ◌∙◌, subst, ◌⊎◌, inl, inr, arith, get_or}
+use Rattle.std.proofs.Common.{◌≡◌, ℕ, ◌+◌, ◌-◌, ◌<◌, ◌≤◌, true, Option, None, Some, List, [], ◌∷◌, ◌++◌, length, refl, sym, ap, ◌∙◌, subst, ◌⊎◌, inl, inr, arith, get_or}
 use Rattle.std.specs.Prelude.{Contains, ◌↔◌, All, slice_index}
-use Rattle.std.proofs.lemmas.Bool.{cases_eq, false≢true}
+use Rattle.std.proofs.lemmas.Bool.{cases_eq, cases_lt, false≢true}
 use Rattle.std.proofs.lemmas.List.{get_or_append_left, get_or_default, get_or_push, length_push}
 use Rattle.std.proofs.lemmas.List.Elements.{All-contains, Contains-get_or}
 use Rattle.armus_base.proofs.Elements.{nothing_in_nil}
@@ -13,7 +13,7 @@ use Rattle.armus_base.specs.calls.Places.{IsConsistent}
 use Rattle.armus_base.specs.Places.{refused_at}
 use Rattle.armus_base.specs.Plans.{Plan}
 use Rattle.armus_base.specs.Runs.{IsReachable}
-use Rattle.armus_base.specs.States.{IsReached, State}
+use Rattle.armus_base.specs.States.{State}
 use Rattle.armus_base.specs.declared.event.Event.{Event}
 use Rattle.armus_base.specs.declared.ids.TaskId.{TaskId}
 use Rattle.armus_base.proofs.Published.{published_after_is, published_undropped}
@@ -31,13 +31,6 @@ use Rattle.pl_core.specs.declared.stand.Stand.TheVariants.{Unforked, Done, Refus
 use Rattle.pl_core.proofs.GoingOn.{passes_when_waiting}
 use Rattle.avoider.specs.inside.Waiting.{AreImpederSets, AreImpeders, HavePlaces, IsPlaceOfEvent}
 use Rattle.avoider.proofs.SamePairs.{IsPair, awaited_by, pair_from, pair_is}
-
--- nobody impedes an event that is reached
-pub impeders_of_reached : (s : State) (tasks : ℕ) (e : Event) → IsReached s e → AreImpeders s tasks e []
-impeders_of_reached s tasks e reached u = (
-  λ m. absurd (nothing_in_nil u m),
-  λ (lt, impedes). let low = impedes.4 in let least = reached u.0 impedes.2 impedes.3 in absurd (omega arith),
-)
 
 -- who does not wait is not published
 module _ (w : WorldValue) (checked : IsCheckedPlan w.plan) (reach : IsReachable w.plan (places_of w)) (t : ℕ) where
@@ -93,6 +86,15 @@ phasers_more n before events o all within own k d lt =
       | inr e ↦ own (get_or events k d) e
     ]
 
+-- the impeders below a further number, where nobody between the two impedes
+pub impeders_on :
+    (s : State) (low high : ℕ) (e : Event) (row : List TaskId) → AreImpeders s low e row → low ≤ high → ((u : ℕ) → low ≤ u → u < high → IsPublishedImpeder s e u → ⊥) →
+    AreImpeders s high e row
+impeders_on s low high e row are le none x = (
+  λ m. let (lt, impedes) = (are x).0 m in (omega arith, impedes),
+  λ (lt, impedes). (are x).1 (elim (cases_lt x.0 low) [ inl l ↦ l | inr on ↦ absurd (none x.0 on lt impedes) ], impedes),
+)
+
 -- the impeders below one number more
 module _ (s : State) (u : TaskId) (event : Event) (row : List TaskId) (are : AreImpeders s u.0 event row) where
   pub impeders_more :
@@ -106,18 +108,6 @@ module _ (s : State) (u : TaskId) (event : Event) (row : List TaskId) (are : Are
       | inl e ↦ inr (same_task x u e)
       | inr ne ↦ inl ((are x).1 (omega arith, imp))
     ]),
-  )
-
-  pub impeders_skip : (IsPublishedImpeder s event u.0 → ⊥) → AreImpeders s (u.0 + 1) event row
-  impeders_skip none x = (
-    λ m. let (lt, imp) = (are x).0 m in (omega arith, imp),
-    λ (lt, imp). (are x).1 (
-      elim (cases_eq x.0 u.0) [
-        | inl e ↦ absurd (none (subst (λ n. IsPublishedImpeder s event n) e imp))
-        | inr ne ↦ omega arith
-      ],
-      imp,
-    ),
   )
 
 -- the set of one event more

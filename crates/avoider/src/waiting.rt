@@ -14,10 +14,10 @@ ghost use Rattle.avoider.specs.inside.Waiting.{AreImpederSets, AreImpeders, AreP
 
 use armus_base::{Event, NoMemory, TaskId};
 use order_graph::{Row, Waits};
-use pl_core::{Stand, World};
+use pl_core::World;
 use std::alloc::{AllocError, Global};
 
-// How many events may be awaited, so that all tasks are looked at for each.
+// How many events may be awaited, so that the members of the phaser of each are looked at.
 const FEW: usize = 16;
 
 /// The awaited events, and for each task one more than the place of its own; 0 for one that awaits none.
@@ -37,10 +37,7 @@ pub(crate) fn published(world: &World, u: TaskId, t: TaskId, event: Event) -> Op
     if u == t {
         return Some(event);
     }
-    match world.stand(u) {
-        Stand::Waits(own) => Some(own),
-        _ => None,
-    }
+    world.published(u)
 }
 
 // One more than the place of an event, which is added where it is not there yet.
@@ -99,53 +96,42 @@ fn places_if(
     Ok(Some(Places { events, own }))
 }
 
-// Whether a task is published and impedes an event.
-fn is_impeder(world: &World, places: &Places, u: TaskId, event: Event) -> bool
-    requires task { u.0 < length world.now.plan.parents }
-    requires phaser { event.p.0 < length world.now.plan.makers }
-    requires sized { length places.now.own.items ≡ length world.now.plan.parents }
-    ensures { (t : ℕ) (e : Event) → ArePlaces world.now.plan (if_published (state_of world.now) t e) places.now →
-        MatchBool result (IsPublishedImpeder (if_published (state_of world.now) t e) event u.0) (IsPublishedImpeder (if_published (state_of world.now) t e) event u.0 → ⊥) }
+// The published tasks that impede an awaited event, where one task counts as published on an event.
+fn impeders(
+    alloc: Global,
+    world: &World,
+    awaited: Event,
+    t: TaskId,
+    event: Event,
+) -> Result<Row, AllocError>
+    requires phaser { awaited.p.0 < length world.now.plan.makers }
+    ensures { IfOk result (AreImpeders (if_published (state_of world.now) t.0 event) (length world.now.plan.parents) awaited) }
 {
-    if places.own[u.0 as usize] == 0 {
-        return false;
-    }
-    match world.phase(event.p, u) {
-        Some(n) => n < event.n,
-        None => false,
-    }
-}
-
-// The published tasks that impede an event; no task is looked at where it is reached.
-fn impeders(alloc: Global, world: &World, places: &Places, event: Event) -> Result<Row, AllocError>
-    requires phaser { event.p.0 < length world.now.plan.makers }
-    requires sized { length places.now.own.items ≡ length world.now.plan.parents }
-    ensures { (t : ℕ) (e : Event) → ArePlaces world.now.plan (if_published (state_of world.now) t e) places.now →
-        IfOk result (AreImpeders (if_published (state_of world.now) t e) (length world.now.plan.parents) event) }
-{
+    let _plan = world.plan();
     let mut row = Row::none(alloc);
-    if world.is_reached(event) {
-        return Ok(row);
-    }
-    for u in 0..world.plan().tasks() {
-        if is_impeder(world, places, TaskId(u), event) {
-            row.put(TaskId(u))?;
-        }
+    let mut next = 0;
+    'impeding: while let Some(u) = world.next_impeder(awaited, TaskId(next), t, event) {
+        row.put(u)?;
+        next = u.0 + 1;
     }
     Ok(row)
 }
 
-// Behind an empty set, for each event the published tasks that impede it.
-fn impeder_sets(alloc: Global, world: &World, places: &Places) -> Result<Vec<Row>, AllocError>
-    requires phasers { All (λ e. e.p.0 < length world.now.plan.makers) places.now.events.items }
-    requires sized { length places.now.own.items ≡ length world.now.plan.parents }
-    ensures { (t : ℕ) (e : Event) → ArePlaces world.now.plan (if_published (state_of world.now) t e) places.now →
-        IfOk result (λ sets. AreImpederSets (if_published (state_of world.now) t e) (length world.now.plan.parents) places.now.events.items sets.items) }
+// Behind an empty set, for each event the published tasks that impede it, where one task counts as published on an event.
+fn impeder_sets(
+    alloc: Global,
+    world: &World,
+    events: &[Event],
+    t: TaskId,
+    event: Event,
+) -> Result<Vec<Row>, AllocError>
+    requires phasers { All (λ e. e.p.0 < length world.now.plan.makers) events.now }
+    ensures { IfOk result (λ sets. AreImpederSets (if_published (state_of world.now) t.0 event) (length world.now.plan.parents) events.now sets.items) }
 {
     let mut sets = Vec::new(alloc);
     sets.push(Row::none(alloc))?;
-    for event in &places.events {
-        let set = impeders(alloc, world, places, *event)?;
+    for awaited in events {
+        let set = impeders(alloc, world, *awaited, t, event)?;
         sets.push(set)?;
     }
     Ok(sets)
@@ -166,7 +152,7 @@ pub(crate) fn waits_if(
     let found = places_if(alloc, world, t, event)?;
     match found {
         Some(places) => {
-            let sets = impeder_sets(alloc, world, &places)?;
+            let sets = impeder_sets(alloc, world, &places.events, t, event)?;
             let Places { events: _, own } = places;
             Ok(Some(Waits { sets, own }))
         }

@@ -33,44 +33,6 @@ pub(crate) struct Walk {
     pub(crate) at: TaskId,
 }
 
-// Whether a task is published and impedes an event, where one task counts as published.
-fn is_impeder(world: &World, u: TaskId, awaited: Event, t: TaskId, event: Event) -> bool
-    requires task { u.0 < length world.now.plan.parents }
-    requires awaited { awaited.p.0 < length world.now.plan.makers }
-    requires phaser { event.p.0 < length world.now.plan.makers }
-    ensures { MatchBool result (IsPublishedImpeder (if_published (state_of world.now) t.0 event) awaited u.0) (IsPublishedImpeder (if_published (state_of world.now) t.0 event) awaited u.0 → ⊥) }
-{
-    let Some(n) = world.phase(awaited.p, u) else {
-        return false;
-    };
-    if n >= awaited.n {
-        return false;
-    }
-    published(world, u, t, event).is_some()
-}
-
-// The same of a task that may be dead.
-fn may_be_next(
-    world: &World,
-    alive: &[bool],
-    u: TaskId,
-    awaited: Event,
-    t: TaskId,
-    event: Event,
-) -> bool
-    requires task { u.0 < length world.now.plan.parents }
-    requires sized { length alive.now ≡ length world.now.plan.parents }
-    requires awaited { awaited.p.0 < length world.now.plan.makers }
-    requires phaser { event.p.0 < length world.now.plan.makers }
-    ensures { MatchBool result (IsPublishedImpeder (if_published (state_of world.now) t.0 event) awaited u.0)
-        (IsPublishedImpeder (if_published (state_of world.now) t.0 event) awaited u.0 → slice_index_or alive.now u.0 false ≡ true) }
-{
-    if alive[u.0 as usize] {
-        return false;
-    }
-    is_impeder(world, u, awaited, t, event)
-}
-
 // The least published task that impedes an event and may be dead.
 fn least_impeder(
     world: &World,
@@ -81,16 +43,18 @@ fn least_impeder(
 ) -> Option<TaskId>
     requires sized { length alive.now ≡ length world.now.plan.parents }
     requires awaited { awaited.p.0 < length world.now.plan.makers }
-    requires phaser { event.p.0 < length world.now.plan.makers }
     ensures { MatchOption result
         (ArePassed (if_published (state_of world.now) t.0 event) awaited alive.now (length world.now.plan.parents))
         (λ u. (u.0 < length world.now.plan.parents) × IsPublishedImpeder (if_published (state_of world.now) t.0 event) awaited u.0
         × ArePassed (if_published (state_of world.now) t.0 event) awaited alive.now u.0) }
 {
-    for u in 0..world.plan().tasks() {
-        if may_be_next(world, alive, TaskId(u), awaited, t, event) {
-            return Some(TaskId(u));
+    let _plan = world.plan();
+    let mut next = 0;
+    'impeding: while let Some(u) = world.next_impeder(awaited, TaskId(next), t, event) {
+        if !alive[u.0 as usize] {
+            return Some(u);
         }
+        next = u.0 + 1;
     }
     None
 }

@@ -1,10 +1,14 @@
-use Rattle.std.proofs.Common.{ℕ}
+use Rattle.std.proofs.Common.{◌-◌, ◌≤◌, length}
 use Rattle.armus_base.specs.States.{if_published}
-use Rattle.armus_base.specs.declared.event.Event.{Event}
 use Rattle.pl_core.specs.calls.Worlds.{state_of}
-use Rattle.avoider.specs.inside.Waiting.{AreImpeders, ArePlaces}
+use Rattle.avoider.specs.inside.Waiting.{AreImpeders}
 use Rattle.avoider.proofs.waiting.impeders.Given as goal
 
-abbrev pub invariant-loop-u : goal.invariant-loop-u
-invariant-loop-u l = (t : ℕ) (e : Event) → ArePlaces l.world.plan (if_published (state_of l.world) t e) l.places →
-    AreImpeders (if_published (state_of l.world) t e) l.u l.event l.row
+abbrev pub invariant-impeding : goal.invariant-impeding
+invariant-impeding l = record {
+  inside : l.next ≤ length l.world.plan.parents;
+  are : AreImpeders (if_published (state_of l.world) l.t.0 l.event) l.next l.awaited l.row;
+}
+
+abbrev pub decreases-impeding : goal.decreases-impeding
+decreases-impeding l = length l.world.plan.parents - l.next

@@ -12,7 +12,7 @@ returns-in_ok-sets-in-Some-clause-among c =
     let are = rw c.in-Some.is at at.places in
     let of' = supposed_of_plan w at.checked at.reachable c.args.t.0 c.requires.task c.args.event in
     waits_among w.plan s at.checked of' (record { sets = c.in_ok-sets-in-Some.sets; own = c.in-Some.places.own }) c.in-Some.places.events.items are.places
-    (c.in_ok-sets-in-Some.ensures c.args.t.0 c.args.event are)
+    (rw c.deref.ensures.value at c.in_ok-sets-in-Some.ensures)
 
 pub returns-in_ok-sets-in-Some-clause-pairs : goal.returns-in_ok-sets-in-Some-clause-pairs
 returns-in_ok-sets-in-Some-clause-pairs c =
@@ -22,4 +22,4 @@ returns-in_ok-sets-in-Some-clause-pairs c =
     let are = rw c.in-Some.is at at.places in
     let of' = supposed_of_plan w at.checked at.reachable c.args.t.0 c.requires.task c.args.event in
     waits_are w.plan s at.checked of' (record { sets = c.in_ok-sets-in-Some.sets; own = c.in-Some.places.own }) c.in-Some.places.events.items are.places
-    (c.in_ok-sets-in-Some.ensures c.args.t.0 c.args.event are)
+    (rw c.deref.ensures.value at c.in_ok-sets-in-Some.ensures)
