@@ -5,7 +5,7 @@ ghost use Rattle.armus_base.specs.Runs.{IsReachable};
 ghost use Rattle.pl_core.specs.calls.Worlds.{places_of, state_of};
 ghost use Rattle.pl_core.specs.calls.Stands.{IsEnabled};
 ghost use Rattle.world_runs.specs.inside.Turns.{TellsForked};
-ghost use Rattle.world_runs.specs.inside.WorldRounds.{HasTurnIf, IsRoundBy, IsTurnBy, LeavesLess};
+ghost use Rattle.world_runs.specs.inside.WorldRounds.{HasTurnIf, IsRoundBy, LeavesLess};
 
 use crate::next_step::NextStep;
 use armus_base::{Gate, NoMemory, Point, TaskId};
@@ -66,14 +66,14 @@ fn turns<S: NextStep, G: Gate>(
 {
     let mut moved = false;
     for t in 0..world.plan().tasks() {
-        let acted = turn_if(forked[t as usize], alloc, world, TaskId(t), step, gate)?;
+        let acted = turn(forked[t as usize], alloc, world, TaskId(t), step, gate)?;
         moved = moved || acted;
     }
     Ok(moved)
 }
 
-// The turn of a task, if it was forked before the round; answers whether a step was made.
-fn turn_if<S: NextStep, G: Gate>(
+// The turn of a task, if it was forked before the round: it goes on until it may not; answers whether a step was made.
+fn turn<S: NextStep, G: Gate>(
     forked: bool,
     alloc: Global,
     world: &mut World,
@@ -86,26 +86,9 @@ fn turn_if<S: NextStep, G: Gate>(
     ensures left { IfOk result (LeavesLess S.keeps world.old world.new) }
     ensures turn { IfOk result (HasTurnIf S.makes t.0 forked world.old world.new) }
 {
-    if forked {
-        turn(alloc, world, t, step, gate)
-    } else {
-        Ok(false)
+    if !forked {
+        return Ok(false);
     }
-}
-
-// The turn of a task: it goes on until it may not; answers whether a step was made.
-fn turn<S: NextStep, G: Gate>(
-    alloc: Global,
-    world: &mut World,
-    t: TaskId,
-    step: &mut S,
-    gate: &G,
-) -> Result<bool, NoMemory>
-    requires task { t.0 < length world.old.plan.parents }
-    requires keeps { S.keeps world.old }
-    ensures left { IfOk result (LeavesLess S.keeps world.old world.new) }
-    ensures turn { IfOk result (IsTurnBy S.makes t.0 world.old world.new) }
-{
     let mut moved = false;
     'turn: while may_go_on(world, t, gate) {
         step.make(alloc, world, t)?;
