@@ -30,7 +30,7 @@ use Rattle.clock_origins.proofs.Walked.{same_unfolding}
 use Rattle.clock_sayings.specs.ClockExplanations.{ExplainsActivities, waits_there}
 use Rattle.clock_sayings.specs.declared.explaining.ClockExplanation.{ClockExplanation}
 use Rattle.world_runs.specs.calls.EndWorlds.{IsWorldEnd}
-use Rattle.world_runs.specs.declared.world_end.WorldEnd.{WorldEnd}
+use Rattle.world_runs.specs.declared.ending.WorldEnd.{WorldEnd}
 use Rattle.armus_words.specs.Words.{Text}
 use Rattle.explain.specs.ClockExplained.{HasSomeClockFault, IsClockExplanationOf, IsMaximalClockRun}
 use Rattle.explain.specs.Explained.{WaitsIn}

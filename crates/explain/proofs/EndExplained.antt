@@ -15,7 +15,7 @@ use Rattle.explained_tasks.specs.calls.RunEnds.{WaitersStay}
 use Rattle.explained_tasks.specs.declared.explaining.Explanation.{Explanation}
 use Rattle.explained_tasks.proofs.RestsAtEnd.{rests_at_end}
 use Rattle.world_runs.specs.calls.EndWorlds.{IsWorldEnd}
-use Rattle.world_runs.specs.declared.world_end.WorldEnd.{WorldEnd}
+use Rattle.world_runs.specs.declared.ending.WorldEnd.{WorldEnd}
 use Rattle.armus_words.specs.Words.{Text}
 use Rattle.armus_top.proofs.OnePlan.{checked_plan}
 use Rattle.explain.specs.Explained.{IsExplanationOf}

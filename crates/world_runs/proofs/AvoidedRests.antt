@@ -1,6 +1,6 @@
 -- An avoided run goes on by rounds in order of number until nobody may go on.
 use mathlib.Core.Path.{fun_ext}
-use Rattle.std.proofs.Common.{◌≡◌, ℕ, true, None, List, [], length, arith, sym, ◌∙◌, ap, subst}
+use Rattle.std.proofs.Common.{◌≡◌, ℕ, true, None, List, length, arith, sym, ◌∙◌, ap, subst}
 use Rattle.std.specs.Prelude.{Option}
 use Rattle.std.proofs.lemmas.Option.{slice_get_within}
 use Rattle.armus_base.specs.Avoidance.{IsAvoidedRun}
@@ -18,7 +18,7 @@ use Rattle.pl_core.specs.calls.GivenPlaces.{IsAtPlaces}
 use Rattle.pl_core.specs.calls.Worlds.{WorldValue, places_at, state_of}
 use Rattle.avoider.specs.calls.Decisions.{HasGoneOn}
 use Rattle.world_runs.specs.calls.AvoidedRuns.{IsAvoidedEnd}
-use Rattle.world_runs.specs.declared.world_end.WorldEnd.{WorldEnd}
+use Rattle.world_runs.specs.declared.ending.WorldEnd.{WorldEnd}
 use Rattle.world_runs.specs.inside.WorldRounds.{HasEndedBy}
 use Rattle.world_runs.proofs.AvoidedSteps.{leads_state}
 use Rattle.world_runs.proofs.JudgedRuns.{HasEndOf, HasRunOf, end_there}

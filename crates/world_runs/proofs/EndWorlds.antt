@@ -9,7 +9,7 @@ use Rattle.pl_core.specs.calls.Stands.{IsEnabled}
 use Rattle.pl_core.specs.calls.Worlds.{WorldValue, places_of, state_of}
 use Rattle.world_runs.specs.calls.EndWorlds.{IsEndWorld, IsWorldEnd}
 use Rattle.world_runs.specs.calls.PlainRuns.{IsPlainEnd}
-use Rattle.world_runs.specs.declared.world_end.WorldEnd.{WorldEnd}
+use Rattle.world_runs.specs.declared.ending.WorldEnd.{WorldEnd}
 use Rattle.world_runs.specs.inside.Turns.{NobodyRefused}
 use Rattle.world_runs.specs.inside.WorldRounds.{HasEndedBy}
 use Rattle.world_runs.proofs.WorldRounds.{nobody_goes_on}

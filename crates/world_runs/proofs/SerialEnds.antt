@@ -13,7 +13,7 @@ use Rattle.pl_core.specs.calls.Worlds.{IsOpeningWorld, WorldValue, places_at, pl
 use Rattle.pl_core.proofs.Opening.{first_places}
 use Rattle.avoider.specs.calls.Decisions.{HasGoneOn}
 use Rattle.world_runs.specs.calls.AvoidedRuns.{IsAvoidedEnd, IsSerialEnd}
-use Rattle.world_runs.specs.declared.world_end.WorldEnd.{WorldEnd}
+use Rattle.world_runs.specs.declared.ending.WorldEnd.{WorldEnd}
 use Rattle.world_runs.specs.inside.WorldRounds.{HasEndedBy}
 use Rattle.world_runs.proofs.AvoidedSteps.{leads_state}
 use Rattle.world_runs.proofs.JudgedRuns.{HasEndOf, HasRunOf, end_there}

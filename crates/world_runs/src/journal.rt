@@ -1,18 +1,19 @@
 // The recorded run.
-ghost use Rattle.std.specs.Prelude.{◌≡◌, ◌≤◌, IfOk, false, length};
+ghost use Rattle.std.specs.Prelude.{◌≡◌, ◌≤◌, ◌<◌, ℕ, IfOk, false, true, length};
+ghost use Rattle.std.specs.Thread.{IsSync};
 ghost use Rattle.armus_base.specs.calls.Limits.{max_workers};
+ghost use Rattle.pl_core.specs.calls.Stands.{IsEnabled};
 ghost use Rattle.world_runs.specs.calls.RecordedRuns.{IsRecordedRun};
+ghost use Rattle.world_runs.specs.inside.Turns.{left_in};
 
 use crate::live_task::LiveTask;
-use crate::recorded_ending::finish;
-use crate::recorded_round::take_turns;
 use crate::{RoundWorkers, RunOptions};
 use armus_base::{Final, Gate, List, NoMemory, Plan, TaskId};
-use locked_world::{LockedWorld, PlanName};
+use locked_world::{LockedWorld, Logged, PlanName};
 use std::alloc::Global;
 use std::marker::Brand;
 use std::sync::Wait;
-use std::thread::Threads;
+use std::thread::{Threads, join_mut};
 
 /// Runs the plan by rounds of turns over a world under a lock, and answers the final state and the journal: the journal is that of a maximal plain run
 /// of the plan, and the final state is the end of that run. The workers call the gate before each op, outside the lock; no clause speaks of rounds,
@@ -59,7 +60,8 @@ fn go_by_rounds<N: PlanName, R: Threads + Wait + Sync, G: Gate>(
     requires plan { plan.now ≡ N.plan }
 {
     let mut tasks = Vec::new(alloc);
-    tasks.push(first_task(plan))?;
+    let _tasks = plan.tasks();
+    tasks.push(LiveTask::new(TaskId(0), plan))?;
     let mut round_workers = RoundWorkers::new();
     for _ in 0..=u64::from(plan.ops()) * 2 {
         take_turns(
@@ -74,21 +76,14 @@ fn go_by_rounds<N: PlanName, R: Threads + Wait + Sync, G: Gate>(
             break;
         }
         round_workers.note(made);
-        let children = forked_by(alloc, plan, tasks.as_mut_slice())?;
+        let mut children = forked_by(alloc, plan, tasks.as_mut_slice())?;
         tasks.retain(|task| !task.is_done());
-        for child in children {
-            insert(&mut tasks, child)?;
+        if !children.is_empty() {
+            tasks.append(&mut children)?;
+            tasks.sort_by_key(|task| task.id().0)?;
         }
     }
     Ok(())
-}
-
-// Task 0, before its first step.
-fn first_task<'p, N: PlanName>(plan: &'p Plan) -> LiveTask<'p, N>
-    requires plan { plan.now ≡ N.plan }
-{
-    let _tasks = plan.tasks();
-    LiveTask::new(TaskId(0), plan)
 }
 
 // How many ops these tasks went on in their last turns, a begun await counted as one.
@@ -115,24 +110,68 @@ fn forked_by<'p, N: PlanName>(
     Ok(children)
 }
 
-// Puts a task among those in order of number.
-fn insert<'p, N: PlanName>(
-    tasks: &mut Vec<LiveTask<'p, N>>,
-    task: LiveTask<'p, N>,
+// One turn of each of these tasks. With several workers the list is split into halves, which take their turns side by side, each with half of the
+// workers; with one worker turns are taken in order.
+fn take_turns<N: PlanName, R: Threads + Wait + Sync, G: Gate>(
+    rt: &R,
+    shared: &LockedWorld<'_, N>,
+    gate: &G,
+    workers: u8,
+    tasks: &mut [LiveTask<'_, N>],
 ) -> Result<(), NoMemory> {
-    let at = first_after(tasks.as_slice(), task.id());
-    tasks.insert(at, task)?;
+    if workers < 2 || tasks.len() < 2 {
+        return take_turns_in_order(rt, shared, gate, tasks);
+    }
+    let few = workers / 2;
+    let rest = workers - few;
+    let (front, back) = tasks.split_at_mut(tasks.len() / 2);
+    let (first, second) = join_mut(
+        rt,
+        &mut || -> Result<(), NoMemory>
+            requires { IsSync R.row }
+        { take_turns(rt, shared, gate, few, front) },
+        &mut || -> Result<(), NoMemory>
+            requires { IsSync R.row }
+        { take_turns(rt, shared, gate, rest, back) },
+    );
+    first?;
+    second
+}
+
+// One turn of each of these tasks, in order.
+fn take_turns_in_order<N: PlanName, R: Wait, G: Gate>(
+    rt: &R,
+    shared: &LockedWorld<'_, N>,
+    gate: &G,
+    tasks: &mut [LiveTask<'_, N>],
+) -> Result<(), NoMemory> {
+    for task in tasks.iter_mut() {
+        task.act(rt, shared, gate)?;
+    }
     Ok(())
 }
 
-// The place of the first task with a greater number.
-fn first_after<N: PlanName>(tasks: &[LiveTask<'_, N>], t: TaskId) -> usize
-    ensures { result ≤ length tasks.now }
+// Makes steps of enabled tasks until none is enabled; answers the final state and the journal.
+fn finish<N: PlanName>(
+    alloc: Global,
+    mut logged: Logged<'_, N>,
+) -> Result<(Final, List<TaskId>), NoMemory>
+    ensures recorded { IfOk result (λ run. IsRecordedRun N.plan run.0 run.1) }
 {
-    for (at, task) in tasks.iter().enumerate() {
-        if t < task.id() {
-            return at;
+    while step_first_enabled(&mut logged)? {}
+    let end = logged.world().finish(alloc)?;
+    Ok((end, logged.into_journal()))
+}
+
+// Makes a step of the first task that is enabled; answers whether there was one.
+fn step_first_enabled<N: PlanName>(logged: &mut Logged<'_, N>) -> Result<bool, NoMemory>
+    ensures moved { IfOk result (λ moved. moved ≡ true → left_in logged.new.world < left_in logged.old.world) }
+    ensures quiet { IfOk result (λ moved. moved ≡ false → (t : ℕ) → t < length N.plan.parents → IsEnabled logged.new.world t → ⊥) }
+{
+    for t in 0..logged.world().plan().tasks() {
+        if logged.step(TaskId(t))? {
+            return Ok(true);
         }
     }
-    tasks.len()
+    Ok(false)
 }

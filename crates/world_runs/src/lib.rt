@@ -1,25 +1,19 @@
 //! Runs of a plan in a world, without a board: rounds of turns, plain and avoided, their ends, and the run that is recorded.
 #![tactic(auto)]
 
-mod avoided_ending;
 mod ending;
 mod journal;
 mod laws;
 mod live_task;
 mod next_step;
 mod options;
-mod plain_step;
-mod recorded_ending;
-mod recorded_round;
 mod round_workers;
-mod world_end;
-mod world_ending;
 mod world_round;
 
-pub use avoided_ending::{avoided_end_from, run_serial_avoid};
-pub use ending::{end_from, run_plain, run_to_world, world_end_from};
+pub use ending::{
+    WorldEnd, avoided_end_from, run_plain, run_serial_avoid, run_to_world, world_end_from,
+};
 pub use journal::run_journal;
 pub use laws::serial_run_ends;
 pub use options::RunOptions;
 pub use round_workers::RoundWorkers;
-pub use world_end::WorldEnd;

@@ -6,7 +6,7 @@ use Rattle.armus_base.specs.Runs.{IsMaximal, IsPlainRun, places}
 use Rattle.armus_base.specs.States.{Step}
 use Rattle.pl_core.specs.calls.Worlds.{WorldValue, places_of, state_of}
 use Rattle.world_runs.specs.calls.PlainRuns.{IsPlainEnd}
-use Rattle.world_runs.specs.declared.world_end.WorldEnd.{WorldEnd}
+use Rattle.world_runs.specs.declared.ending.WorldEnd.{WorldEnd}
 
 -- a maximal plain run of the plan leads to this world
 pub record IsEndWorld (plan : Plan) (w : WorldValue) : Type 0 where

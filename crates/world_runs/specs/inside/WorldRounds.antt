@@ -6,7 +6,7 @@ use Rattle.armus_base.specs.Finals.{final_of}
 use Rattle.armus_base.specs.Runs.{IsReachable}
 use Rattle.pl_core.specs.calls.Stands.{IsEnabled}
 use Rattle.pl_core.specs.calls.Worlds.{WorldValue, places_of, state_of}
-use Rattle.world_runs.specs.declared.world_end.WorldEnd.{WorldEnd}
+use Rattle.world_runs.specs.declared.ending.WorldEnd.{WorldEnd}
 use Rattle.world_runs.specs.inside.Turns.{left_in}
 
 -- Steps have led from the old world to the new one, or none has: it is of the same plan and kept; where there was one less is left, and else nothing has

@@ -3,7 +3,7 @@ use Rattle.std.proofs.lemmas.Grind.{common_steps}
 use Rattle.std.proofs.lemmas.List.{length-replicate}
 use Rattle.world_runs.specs.inside.WorldRounds.{begun, round}
 use Rattle.world_runs.proofs.WorldRounds.{last_round, nobody_goes_on}
-use Rattle.world_runs.proofs.world_ending.end_by.Goals as goal
+use Rattle.world_runs.proofs.ending.end_by.Goals as goal
 
 pub rounds-init : goal.rounds-init
 rounds-init g c =

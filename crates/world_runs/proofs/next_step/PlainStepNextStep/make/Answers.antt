@@ -2,7 +2,7 @@ use Rattle.std.proofs.Common.{sym}
 use Rattle.std.proofs.lemmas.Bool.{false≢true}
 use Rattle.world_runs.proofs.Left.{step_leaves_less_left}
 use Rattle.world_runs.proofs.PlainWorlds.{step_keeps_plain}
-use Rattle.world_runs.proofs.plain_step.PlainStepNextStep.make.Goals as goal
+use Rattle.world_runs.proofs.next_step.PlainStepNextStep.make.Goals as goal
 
 pub returns-clause-left : goal.returns-clause-left
 returns-clause-left c =

@@ -2,7 +2,7 @@ use Rattle.std.proofs.Common.{subst, true}
 use Rattle.armus_base.specs.CheckedPlans.{IsCheckedPlan}
 use Rattle.armus_base.proofs.BoardRuns.{lawful_is_reachable}
 use Rattle.world_runs.proofs.AvoidedRests.{avoided_end, avoided_nobody, avoided_there}
-use Rattle.world_runs.proofs.avoided_ending.avoided_end_from.Goals as goal
+use Rattle.world_runs.proofs.ending.avoided_end_from.Goals as goal
 
 pub at-requires-clause-reachable : goal.at-requires-clause-reachable
 at-requires-clause-reachable g c = lawful_is_reachable true c.args.plan.now _ c.requires.lawful.0 c.requires.lawful.1

@@ -1,6 +1,6 @@
 use Rattle.avoider.proofs.NobodyDies.{opening_alive}
 use Rattle.world_runs.proofs.SerialEnds.{serial_end, serial_is_avoided}
-use Rattle.world_runs.proofs.avoided_ending.run_serial_avoid.Goals as goal
+use Rattle.world_runs.proofs.ending.run_serial_avoid.Goals as goal
 
 pub end_by-requires-clause-keeps : goal.end_by-requires-clause-keeps
 end_by-requires-clause-keeps g c κs within = opening_alive c.args.plan.now c.in_ok-world.world c.in_ok-world.ensures.opening

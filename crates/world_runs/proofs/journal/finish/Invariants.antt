@@ -1,5 +1,5 @@
 use Rattle.world_runs.specs.inside.Turns.{left_in}
-use Rattle.world_runs.proofs.recorded_ending.finish.Given as goal
+use Rattle.world_runs.proofs.journal.finish.Given as goal
 
 abbrev pub invariant-loop-logged : goal.invariant-loop-logged
 invariant-loop-logged g l = Unit {0}

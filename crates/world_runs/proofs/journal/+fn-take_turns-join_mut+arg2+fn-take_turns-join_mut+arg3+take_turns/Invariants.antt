@@ -1,4 +1,4 @@
-use Rattle.world_runs.proofs.recorded_round.+fn-take_turns-join_mut+arg2+fn-take_turns-join_mut+arg3+take_turns.Given as goal
+use Rattle.world_runs.proofs.journal.+fn-take_turns-join_mut+arg2+fn-take_turns-join_mut+arg3+take_turns.Given as goal
 
 abbrev pub decreases-join_mut+arg2 : goal.decreases-join_mut+arg2
 decreases-join_mut+arg2 g l = l.few

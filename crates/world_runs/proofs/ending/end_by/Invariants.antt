@@ -1,7 +1,7 @@
 use Rattle.std.proofs.Common.{◌≡◌, length}
 use Rattle.world_runs.specs.inside.Turns.{left_in}
 use Rattle.world_runs.specs.inside.WorldRounds.{GoesByRounds}
-use Rattle.world_runs.proofs.world_ending.end_by.Given as goal
+use Rattle.world_runs.proofs.ending.end_by.Given as goal
 
 abbrev pub invariant-rounds : goal.invariant-rounds
 invariant-rounds g l =

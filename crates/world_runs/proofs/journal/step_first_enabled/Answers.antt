@@ -6,7 +6,7 @@ use Rattle.pl_core.specs.calls.Worlds.{WorldValue}
 use Rattle.world_runs.specs.inside.Turns.{left_in}
 use Rattle.world_runs.proofs.Left.{step_leaves_less_left}
 use Rattle.world_runs.proofs.RecordedEnds.{same_if_false, step_if_true, stuck_more}
-use Rattle.world_runs.proofs.recorded_ending.step_first_enabled.Goals as goal
+use Rattle.world_runs.proofs.journal.step_first_enabled.Goals as goal
 
 pub returns-then-branch-clause-moved : goal.returns-then-branch-clause-moved
 returns-then-branch-clause-moved g c = λ e.

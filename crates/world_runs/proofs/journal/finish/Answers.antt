@@ -1,5 +1,5 @@
 use Rattle.world_runs.proofs.RecordedEnds.{quiet_as, recorded_as}
-use Rattle.world_runs.proofs.recorded_ending.finish.Goals as goal
+use Rattle.world_runs.proofs.journal.finish.Goals as goal
 
 pub finish-requires : goal.finish-requires
 finish-requires g c =
