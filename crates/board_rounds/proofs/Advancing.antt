@@ -6,14 +6,13 @@ use Rattle.std.proofs.lemmas.List.Sums.{sum_by-cons}
 use Rattle.armus_base.specs.Plans.{Action, Advances, Blocks, Drops, Forks, Makes, Passes, Plan, Refuses, Registers, actions}
 use Rattle.armus_base.specs.Runs.{Place, next_place}
 use Rattle.armus_base.specs.CheckedPlans.{IsCheckedPlan}
-use Rattle.armus_base.proofs.Elements.{Contains-head, Contains-tail}
+use Rattle.armus_base.proofs.Elements.{Contains-head, Contains-tail, from_map}
 use Rattle.board.specs.calls.Views.{own_place, task_of}
 use Rattle.board.specs.calls.Seats.{Frame}
 use Rattle.board_rounds.specs.calls.Turns.{Acts, EachActs, LeadsByCode, Working, no_task, one_task}
 use Rattle.board_rounds.specs.calls.TaskSeats.{AreTaskSeatsOf, all_steps, number, progress_of}
 use Rattle.board_rounds.specs.calls.Rounds.{emptied}
 use Rattle.board_rounds.proofs.Apart.{differ_sum, sum_over}
-use Rattle.board_rounds.proofs.Between.{from_map}
 use Rattle.board_rounds.proofs.Goings.{task_is}
 use Rattle.board_rounds.proofs.Shuffling.{once_differ}
 

@@ -8,7 +8,7 @@ use Rattle.armus_base.proofs.Steps.{updated_other, updated_same}
 use Rattle.std.proofs.lemmas.Bool.{cases_eq}
 use Rattle.armus_base.specs.Runs.{IsByCode, Place, next_place}
 use Rattle.armus_base.specs.CheckedPlans.{IsCheckedPlan}
-use Rattle.armus_base.proofs.Elements.{Contains-cons_cases, Contains-head, Contains-tail, nothing_in_nil}
+use Rattle.armus_base.proofs.Elements.{Contains-cons_cases, Contains-head, Contains-tail, from_map, in_map, nothing_in_nil}
 use Rattle.armus_base.proofs.Codes.{child_later, parent_is}
 use Rattle.board.specs.calls.Views.{own_place, task_of}
 use Rattle.board.specs.calls.Seats.{Frame, Known}
@@ -16,7 +16,7 @@ use Rattle.board_rounds.specs.calls.Turns.{Acts, AreChildSeats, EachActs, LeadsB
 use Rattle.board_rounds.specs.calls.TaskSeats.{IsForkedWithin, done_of, number, sum_below}
 use Rattle.board_rounds.specs.calls.Rounds.{emptied, fresh, fresh_of}
 use Rattle.board_rounds.proofs.Goings.{same_task}
-use Rattle.board_rounds.proofs.Between.{from_fresh, from_map, in_map}
+use Rattle.board_rounds.proofs.Between.{from_fresh}
 use Rattle.board_rounds.proofs.TaskSeatsKept.{became, step_done, was}
 use Rattle.std.specs.List.{flat_map}
 

@@ -23,7 +23,7 @@ use Rattle.phase_scan.proofs.Loads.{goes_both, longest_later}
 use Rattle.phase_scan.proofs.Supposes.{own_phase_stays}
 use Rattle.verdict.specs.declared.found.Cycle.{Cycle}
 use Rattle.avoider.specs.calls.OnBoard.{HasPublished, HasRefused, IsUndecided, Judges}
-use Rattle.board_rounds.specs.declared.deciding.Attempt.{Attempt}
+use Rattle.board_rounds.specs.declared.beginning.Attempt.{Attempt}
 use Rattle.board_rounds.specs.calls.Turns.{EndsTurn, Goes, LeadsByCode, is_locked_out}
 use Rattle.board_rounds.specs.inside.Attempts.{IsRefusedAt, drops_below, loads_at_least}
 use Rattle.board_rounds.proofs.Goings.{goes_loads, goes_made, goes_on, goes_step, goes_then, next_still, own_stays, same_task, stepped_place, task_is}

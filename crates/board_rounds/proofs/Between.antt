@@ -3,7 +3,7 @@ use Rattle.std.proofs.Common.{◌≡◌, ℕ, zero, suc, List, [], ◌∷◌, �
 use Rattle.std.specs.List.{flat_map}
 use Rattle.std.specs.Prelude.{All, Contains}
 use Rattle.std.proofs.lemmas.List.Elements.{Contains-append_cases, Contains-append_left, Contains-append_right}
-use Rattle.armus_base.proofs.Elements.{Contains-cons_cases, Contains-head, Contains-tail, nothing_in_nil}
+use Rattle.armus_base.proofs.Elements.{Contains-cons_cases, Contains-head, Contains-tail, from_map, in_map, nothing_in_nil}
 use Rattle.armus_base.specs.Plans.{Action}
 use Rattle.board.specs.calls.Views.{own_place}
 use Rattle.armus_base.specs.Runs.{Place}
@@ -25,20 +25,6 @@ task_seats_same f P Q to from board_tasks =
       root = (board_tasks.root.0, to board_tasks.root.0 board_tasks.root.1, board_tasks.root.2);
       forked = λ k q j c l is. let r = board_tasks.forked k (from k q) j c l is in (r.0, to r.0 r.1, r.2);
     }
-
-pub in_map : {X Y : Type 0} (g : X → Y) (xs : List X) (x : X) → Contains xs x → Contains (map g xs) (g x)
-in_map g [] x i = absurd (nothing_in_nil x i)
-in_map g (y ∷ xs) x i = elim (Contains-cons_cases y xs x i) [
-  | inl here ↦ subst (λ z. Contains (map g (y ∷ xs)) (g z)) here (Contains-head (g y) (map g xs))
-  | inr there ↦ Contains-tail (g y) (map g xs) (g x) (in_map g xs x there)
-]
-
-pub from_map : {X Y : Type 0} (g : X → Y) (xs : List X) (y : Y) → Contains (map g xs) y → (x : X) × Contains xs x × (g x ≡ y)
-from_map g [] y i = absurd (nothing_in_nil y i)
-from_map g (x ∷ xs) y i = elim (Contains-cons_cases (g x) (map g xs) y i) [
-  | inl here ↦ (x, Contains-head x xs, here)
-  | inr there ↦ (let r = from_map g xs y there in (r.0, Contains-tail x xs r.0 r.1, r.2))
-]
 
 in_fresh : (ws : List Working) (w : Working) (k : Known) → Contains ws w → Contains w.children k → Contains (flat_map fresh_of ws) (fresh k)
 in_fresh [] w k i at = absurd (nothing_in_nil w i)

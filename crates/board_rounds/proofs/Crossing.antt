@@ -15,7 +15,7 @@ use Rattle.board.proofs.Sending.{board_sync, task_seat_send}
 use Rattle.armus_base.proofs.plan.Plan.TheSendSync as plan_crosses
 use Rattle.avoider.proofs.Sending.{judge_send}
 use Rattle.phase_scan.proofs.Sending.{cells_send}
-use Rattle.board_rounds.specs.contracts.round_setting.RoundSetting as settings
+use Rattle.board_rounds.specs.contracts.rounds.TurnSetting as settings
 use Rattle.board_rounds.specs.contracts.task.Task as tasks
 use Rattle.board_rounds.specs.contracts.worker_cells.WorkerCells as rooms
 

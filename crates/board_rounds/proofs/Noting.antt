@@ -5,7 +5,7 @@ use Rattle.std.proofs.lemmas.Bool.{cases_eq}
 use Rattle.std.proofs.lemmas.List.{length-set}
 use Rattle.std.proofs.lemmas.List.Elements.{Contains-append_cases, Contains-append_left, Contains-append_right}
 use Rattle.armus_base.specs.Plans.{Plan}
-use Rattle.armus_base.proofs.Elements.{Contains-cons_cases, Contains-head, nothing_in_nil}
+use Rattle.armus_base.proofs.Elements.{Contains-cons_cases, Contains-head, from_map, in_map, nothing_in_nil}
 use Rattle.armus_base.proofs.Lists.{slice_get-set_same, slice_get-set_other}
 use Rattle.pl_core.specs.declared.place.Place.{Place as KeptPlace}
 use Rattle.board.specs.calls.Seats.{Frame, Known, TakesIn}
@@ -13,7 +13,7 @@ use Rattle.board.specs.calls.Views.{seen, task_of}
 use Rattle.board_rounds.specs.calls.Turns.{Working, standing_of}
 use Rattle.board_rounds.specs.calls.TaskSeats.{ArePlacesOf, AreTaskSeatsOf, KnowsTasks, number}
 use Rattle.board_rounds.specs.inside.Endings.{NotesPlaces, TakesAll}
-use Rattle.board_rounds.proofs.Between.{from_map, in_map, seats_of_tasks}
+use Rattle.board_rounds.proofs.Between.{seats_of_tasks}
 use Rattle.board_rounds.proofs.Settling.{closed, taken_here, takes_more, whose}
 
 pub none_noted : (places : List KeptPlace) → NotesPlaces [] places places

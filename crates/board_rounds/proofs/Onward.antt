@@ -15,7 +15,7 @@ use Rattle.board.specs.calls.Views.{own_place, task_of}
 use Rattle.board.specs.inside.Walking.{begins, left_of}
 use Rattle.board.proofs.Seated.{event_here, next_there, place_made}
 use Rattle.board.proofs.Walking.{IsBefore, before_next}
-use Rattle.board_rounds.specs.declared.deciding.Attempt.TheVariants.{Begun, LockedOut, Refused}
+use Rattle.board_rounds.specs.declared.beginning.Attempt.TheVariants.{Begun, LockedOut, Refused}
 use Rattle.board_rounds.specs.inside.Attempts.{BeginsOp, IsRefusedAt, drops_below}
 use Rattle.board_rounds.specs.inside.Tasks.{AreLeft, HasCome, MakesSome}
 use Rattle.board_rounds.specs.calls.Turns.{Acts, AreChildSeats, EndsTurn, Goes, LeadsByCode, Working, tasks_forked}

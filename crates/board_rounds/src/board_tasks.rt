@@ -7,14 +7,14 @@ ghost use Rattle.board.specs.calls.Seats.{IsNewSeat, IsOf, IsSeat, Known, nothin
 ghost use Rattle.board.specs.calls.Steps.{IsSameSeat};
 ghost use Rattle.board.specs.calls.Views.{own_place, seen};
 ghost use Rattle.board_rounds.specs.calls.Turns.{ActsNoMore, MayTakeTurn, Working};
-ghost use Rattle.board_rounds.specs.calls.TaskSeats.{ArePlacesOf, AreTasksOf, KnowsTasks, all_of, left_to};
+ghost use Rattle.board_rounds.specs.calls.TaskSeats.{ArePlacesOf, AreTasksOf, KnowsTasks, all_of, left_to, number};
 ghost use Rattle.board_rounds.specs.calls.Rounds.{HasRound, HaveEnded, MakesRound, emptied, fresh, fresh_of};
+ghost use Rattle.board_rounds.specs.inside.Endings.{NotesPlaces, TakesAll};
 ghost use Rattle.board_rounds.specs.inside.Rounds.{IsAtStart, IsChildIn};
 
-use crate::ending::{note_places, take_in_all};
 use crate::rounds::take_turns;
 use crate::worker_cells::{WorkerCells, provide};
-use crate::{RoundSetting, Task};
+use crate::{Task, TurnSetting};
 use armus_base::{Gate, List, NoMemory, Plan};
 use avoider::Judging;
 use board::{Board, TaskSeat, ViewSeat};
@@ -88,7 +88,7 @@ impl<'p> BoardTasks<'p> {
     /// its turn in this round, or had ended before; a turn may be cut short only where the tasks have made more loads in the round than the bound.
     pub fn round<R: Threads + Sync, G: Gate>(
         &mut self,
-        setting: &RoundSetting<'_, R, G>,
+        setting: &TurnSetting<'_, R, G>,
         plan: &'p Plan,
         workers: u8,
     ) -> Result<Rounded, NoMemory>
@@ -152,7 +152,7 @@ impl<'p> BoardTasks<'p> {
 
 // One turn of each of these tasks, after which the children whom they forked are tasks among them, in order of number.
 fn go_round<'p, R: Threads + Sync, G: Gate>(
-    setting: &RoundSetting<'_, R, G>,
+    setting: &TurnSetting<'_, R, G>,
     plan: &'p Plan,
     workers: u8,
     cells: &mut [WorkerCells],
@@ -272,4 +272,28 @@ fn some_ended(tasks: &[Task<'_>]) -> bool
         }
     }
     false
+}
+
+// Notes the place of each of these tasks under its number.
+fn note_places(tasks: &[Task<'_>], places: &mut Vec<Place>)
+    requires { All (λ task. number task < length places.old.items) tasks.now }
+    ensures { NotesPlaces tasks.now places.old.items places.new.items }
+{
+    for task in tasks {
+        places[task.id().0 as usize] = task.place();
+    }
+}
+
+// Takes the seats of these tasks in, one after the other.
+fn take_in_all(board: &Board, view: &mut ViewSeat, tasks: Vec<Task<'_>>)
+    requires made { IsOf view.old board.now }
+    requires seats { All (λ task. IsOf task.seat board.now) tasks.items }
+    requires no_child { All (λ task. task.children ≡ []) tasks.items }
+    ensures made { IsOf view.new board.now }
+    ensures same { IsSameSeat view.old.view view.new.view }
+    ensures taken { TakesAll (map (λ (task : Working). task.seat) tasks.entry.items) view.old view.new }
+{
+    for task in tasks {
+        view.take_in(board, task.into_seat());
+    }
 }

@@ -1,18 +1,69 @@
 // A round of turns by several workers.
 ghost use Rattle.std.specs.Thread.{IsSync};
-ghost use Rattle.std.specs.Prelude.{◌≡◌, ◌≤◌, ◌-◌, ◌^◌, All, false, length, map};
-ghost use Rattle.board_rounds.specs.calls.Turns.{MayTakeTurn, TakesTurns};
+ghost use Rattle.std.specs.Prelude.{◌≡◌, ◌≤◌, ◌-◌, ◌^◌, All, IfOk, List, OnOk, false, length, map};
+ghost use Rattle.armus_base.specs.Plans.{Action};
+ghost use Rattle.board.specs.calls.Seats.{IsOf};
+ghost use Rattle.board_rounds.specs.calls.Turns.{Acts, CountsLoadsOf, EndsTurnWithin, MayTakeTurn, TakesTurns, max_events};
 
-use crate::calling::Calls;
-use crate::taking_turns::TakeTurn;
+use crate::Task;
 use crate::worker_cells::{WorkerCells, provide};
-use crate::{RoundSetting, Task};
 use adaptive::Wanted;
-use armus_base::{Gate, NoMemory, Plan};
+use armus_base::{Gate, NoMemory, Plan, Point};
 use avoider::Judging;
 use board::Board;
 use std::alloc::Global;
 use std::thread::{Threads, join_mut};
+
+/// What a task calls before each op that it tries: a gate, of which it does not matter to the task whether threads share it. A method of a trait can hand on
+/// no bound that speaks of threads.
+pub trait Calls {
+    fn call(&self, point: Point);
+}
+
+impl<G: Gate> Calls for G {
+    fn call(&self, point: Point) {
+        self.at(point);
+    }
+}
+
+/// What turns need beside the tasks.
+#[derive(Drop)]
+pub struct TurnSetting<'r, R, C> {
+    /// The handle by which threads are started.
+    pub rt: &'r R,
+    /// The allocator.
+    pub alloc: Global,
+    /// The board on which the tasks act.
+    pub board: &'r Board,
+    /// What is called before each op.
+    pub gate: &'r C,
+    /// How many loads the tasks of a worker may make in a round; once they have made more, the worker lets each task act up to its next await at the
+    /// latest. With 2^64 - 1 no turn is cut short.
+    pub bound: u64,
+}
+
+/// A task that takes turns. A round is proved for any type of them: what a slice of tasks holds after it was split is known only where the type of its
+/// elements names no lifetime, or is a parameter.
+pub(crate) trait TakeTurn {
+    ghost use Rattle.board_rounds.specs.calls.Turns.{Working};
+
+    // The task as contracts see it.
+    ghost working: { Self → Working };
+
+    /// Its turn: it acts until it is done, or is published and finds a member behind, or is refused, or finds the lock taken; once more loads than the bound
+    /// were counted with these cells, until the next await at the latest. It answers how many events happened. The gate is called before each op that it tries.
+    fn turn<R, C: Calls>(
+        &mut self,
+        setting: &TurnSetting<'_, R, C>,
+        cells: &mut WorkerCells,
+    ) -> Result<u32, NoMemory>
+        requires made { IsOf (working self.old).seat setting.now.board.now }
+        requires free { (working self.old).seat.view.holds ≡ false }
+        ensures acts { (own : List Action) × Acts setting.now.board.now own (working self.old) (working self.new) × IfOk result (λ n. n ≡ length own) }
+        ensures few { IfOk result (λ n. n ≤ max_events) }
+        ensures counted { CountsLoadsOf (working self.old).seat (working self.new).seat cells.old cells.new }
+        ensures ends { OnOk result (EndsTurnWithin setting.now.bound cells.new.loads (working self.old).seat (working self.new).seat) };
+}
 
 /// One turn of each of these tasks, by so many workers. In its turn a task acts until it is done, or finds a member of the phaser on which it is
 /// published behind, or is refused, or finds the lock taken. It answers how many events happened by these tasks. The gate is called before each op. The
@@ -37,7 +88,7 @@ pub fn round<R: Threads + Sync, G: Gate>(
     provide(&mut cells, workers, Judging::Graph(wanted))?;
     let cells = cells.as_mut_slice();
     let bound = u64::MAX;
-    let setting = RoundSetting {
+    let setting = TurnSetting {
         rt,
         alloc,
         board,
@@ -52,7 +103,7 @@ pub fn round<R: Threads + Sync, G: Gate>(
 /// value, what the tasks are afterwards is not known.
 #[cycle(taking)]
 pub(crate) fn take_turns<T: TakeTurn + Send, R: Threads + Sync, C: Calls + Sync>(
-    setting: &RoundSetting<'_, R, C>,
+    setting: &TurnSetting<'_, R, C>,
     workers: u8,
     cells: &mut [WorkerCells],
     tasks: &mut [T],
@@ -63,15 +114,7 @@ pub(crate) fn take_turns<T: TakeTurn + Send, R: Threads + Sync, C: Calls + Sync>
     ensures turns { TakesTurns setting.now.bound setting.now.board.now (map T.working tasks.old) (map T.working tasks.new) result }
 {
     if workers < 2 || tasks.len() < 2 {
-        let alloc = setting.alloc;
-        take_turns_in_order(
-            alloc,
-            setting.board,
-            &mut cells[0],
-            setting.bound,
-            setting.gate,
-            tasks,
-        )
+        take_turns_in_order(setting, &mut cells[0], tasks)
     } else {
         take_turns_in_halves(setting, workers, cells, tasks)
     }
@@ -80,7 +123,7 @@ pub(crate) fn take_turns<T: TakeTurn + Send, R: Threads + Sync, C: Calls + Sync>
 // One turn of each of these tasks, of which there are several, by several workers: one half beside the other.
 #[cycle(taking)]
 fn take_turns_in_halves<T: TakeTurn + Send, R: Threads + Sync, C: Calls + Sync>(
-    setting: &RoundSetting<'_, R, C>,
+    setting: &TurnSetting<'_, R, C>,
     workers: u8,
     cells: &mut [WorkerCells],
     tasks: &mut [T],
@@ -109,21 +152,19 @@ fn take_turns_in_halves<T: TakeTurn + Send, R: Threads + Sync, C: Calls + Sync>(
 }
 
 // One turn of each of these tasks, in order, by one worker; once they have made more loads than the bound, turns are cut short.
-fn take_turns_in_order<T: TakeTurn, C: Calls>(
-    alloc: Global,
-    board: &Board,
+fn take_turns_in_order<T: TakeTurn, R, C: Calls>(
+    setting: &TurnSetting<'_, R, C>,
     cells: &mut WorkerCells,
-    bound: u64,
-    gate: &C,
     tasks: &mut [T],
 ) -> Result<u32, NoMemory>
-    requires ready { All (MayTakeTurn board.now) (map T.working tasks.old) }
-    ensures turns { TakesTurns bound board.now (map T.working tasks.old) (map T.working tasks.new) result }
+    requires ready { All (MayTakeTurn setting.now.board.now) (map T.working tasks.old) }
+    ensures turns { TakesTurns setting.now.bound setting.now.board.now (map T.working tasks.old) (map T.working tasks.new) result }
 {
-    let most = cells.loads().saturating_add(bound);
+    let bound = cells.loads().saturating_add(setting.bound);
+    let until = TurnSetting { bound, ..*setting };
     let mut made = 0u32;
     for task in tasks.iter_mut() {
-        made = made.saturating_add(task.turn(alloc, board, cells, most, gate)?);
+        made = made.saturating_add(task.turn(&until, cells)?);
     }
     Ok(made)
 }

@@ -4,18 +4,16 @@ ghost use Rattle.armus_base.specs.Plans.{Action};
 ghost use Rattle.armus_base.specs.Runs.{first_place};
 ghost use Rattle.board.specs.calls.Views.{own_place};
 ghost use Rattle.board.specs.calls.Seats.{IsOf, event_of};
+ghost use Rattle.phase_scan.specs.calls.Looks.{IsLook, LoadsAlone};
 ghost use Rattle.board_rounds.specs.calls.Turns.{Acts, ActsNoMore, CountsEvents, CountsLoadsOf, EndsTurn, EndsTurnWithin, PausesAt, StandsAtAwait, in_64_bits, standing_of};
 ghost use Rattle.board_rounds.specs.inside.Tasks.{MakesSome};
 
-use crate::beginning::{await_to_decide, begin};
-use crate::calling::Calls;
-use crate::deciding::Attempt;
-use crate::looking::look_by;
-use crate::taking_turns::TakeTurn;
+use crate::beginning::{Attempt, await_to_decide, begin};
+use crate::rounds::{Calls, TakeTurn, TurnSetting};
 use crate::worker_cells::WorkerCells;
 use armus_base::{Cursor, List, NoMemory, Plan, Point, TaskId};
 use board::{Board, TaskSeat};
-use phase_scan::Look;
+use phase_scan::{Look, look};
 use pl_core::Place;
 use std::alloc::Global;
 use std::marker::Model;
@@ -131,26 +129,23 @@ impl<'p> Task<'p> {
     /// refused, or finds the lock taken; once more loads than the bound were counted with these cells, its turn is over at the next await. It answers how many
     /// events happened, and which of the two it was. The gate is called before each op that it tries. After `NoMemory` it stands where its own steps brought
     /// it, and has forked nobody.
-    pub fn act<C: Calls>(
+    pub fn act<R, C: Calls>(
         &mut self,
-        alloc: Global,
-        board: &Board,
+        setting: &TurnSetting<'_, R, C>,
         cells: &mut WorkerCells,
-        bound: u64,
-        gate: &C,
     ) -> Result<Acted, NoMemory>
-        requires made { IsOf self.old.seat board.now }
+        requires made { IsOf self.old.seat setting.now.board.now }
         requires free { self.old.seat.view.holds ≡ false }
-        ensures acts { (own : List Action) × Acts board.now own self.old self.new × IfOk result (λ acted. acted.events ≡ length own) }
+        ensures acts { (own : List Action) × Acts setting.now.board.now own self.old self.new × IfOk result (λ acted. acted.events ≡ length own) }
         ensures few { (n : ℕ) → CountsEvents n self.old → IfOk result (λ acted. CountsEvents (n + acted.events) self.new) }
-        ensures pause { IfOk result (λ acted. PausesAt bound cells.new.loads acted.pause self.old self.new) }
+        ensures pause { IfOk result (λ acted. PausesAt setting.now.bound cells.new.loads acted.pause self.old self.new) }
         ensures nobody { OnErr result (self.new.children ≡ self.old.children) }
         ensures counted { CountsLoadsOf self.old.seat self.new.seat cells.old cells.new }
     {
         let _ = self.seat.id();
         let had = self.children.len();
         let mut events = 0;
-        'act: while let Some(more) = self.go_on(alloc, board, cells, bound, gate)? {
+        'act: while let Some(more) = self.go_on(setting, cells)? {
             events += more;
             if self.children.len() > had {
                 let pause = Pause::Forked;
@@ -162,36 +157,33 @@ impl<'p> Task<'p> {
     }
 
     // Makes its next event, if it may, and after a refusal its drops; answers how many events happened.
-    fn go_on<C: Calls>(
+    fn go_on<R, C: Calls>(
         &mut self,
-        alloc: Global,
-        board: &Board,
+        setting: &TurnSetting<'_, R, C>,
         cells: &mut WorkerCells,
-        bound: u64,
-        gate: &C,
     ) -> Result<Option<u32>, NoMemory>
-        requires made { IsOf self.old.seat board.now }
+        requires made { IsOf self.old.seat setting.now.board.now }
         requires free { self.old.seat.view.holds ≡ false }
-        ensures some { IfOk result (λ o. IfSome o (λ n. MakesSome board.now n self.old self.new)) }
-        ensures none { IfOk result (λ o. o ≡ None → Acts board.now [] self.old self.new × EndsTurnWithin bound cells.new.loads self.old.seat self.new.seat) }
-        ensures err { OnErr result (Acts board.now [] self.old self.new) }
+        ensures some { IfOk result (λ o. IfSome o (λ n. MakesSome setting.now.board.now n self.old self.new)) }
+        ensures none { IfOk result (λ o. o ≡ None → Acts setting.now.board.now [] self.old self.new × EndsTurnWithin setting.now.bound cells.new.loads self.old.seat self.new.seat) }
+        ensures err { OnErr result (Acts setting.now.board.now [] self.old self.new) }
         ensures counted { CountsLoadsOf self.old.seat self.new.seat cells.old cells.new }
     {
         let t = self.seat.id();
         if self.refused {
             return Ok(None);
         }
-        if self.is_cut_short(board, cells, bound) {
+        if self.is_cut_short(setting.board, cells, setting.bound) {
             return Ok(None);
         }
         if self.seat.event().is_some() {
-            return Ok(self.pass(board, cells));
+            return Ok(self.pass(setting.board, cells));
         }
         let Some(op) = self.cursor.peek() else {
             return Ok(None);
         };
-        gate.call(Point::Op { t, k: self.begun });
-        let children = &mut self.children;
+        setting.gate.call(Point::Op { t, k: self.begun });
+        let (alloc, board, children) = (setting.alloc, setting.board, &mut self.children);
         match begin(&mut self.seat, children, alloc, board, op, cells)? {
             Attempt::LockedOut => Ok(None),
             Attempt::Begun => {
@@ -207,7 +199,8 @@ impl<'p> Task<'p> {
         }
     }
 
-    // Whether its turn is over though it may go on: more loads than the bound were counted with these cells, and it is at an await.
+    // Whether its turn is over though it may go on: more loads than the bound were counted with these cells, and it is published or, where deadlock is avoided,
+    // stands before an await that it has not published.
     fn is_cut_short(&self, board: &Board, cells: &WorkerCells, bound: u64) -> bool
         requires made { IsOf self.now.seat board.now }
         requires free { self.now.seat.view.holds ≡ false }
@@ -217,16 +210,6 @@ impl<'p> Task<'p> {
         if cells.loads() <= bound {
             return false;
         }
-        self.is_at_await(board)
-    }
-
-    // Whether it is published or, where deadlock is avoided, stands before an await that it has not published.
-    fn is_at_await(&self, board: &Board) -> bool
-        requires made { IsOf self.now.seat board.now }
-        requires free { self.now.seat.view.holds ≡ false }
-        requires unrefused { (own_place self.now.seat.view).dropped ≡ None }
-        ensures { result ≡ true → StandsAtAwait self.now.seat }
-    {
         let _ = self.seat.id();
         if self.seat.event().is_some() {
             return true;
@@ -265,23 +248,42 @@ impl<'p> Task<'p> {
 impl<'p> TakeTurn for Task<'p> {
     ghost working = { λ task. task };
 
-    fn turn<C: Calls>(
+    fn turn<R, C: Calls>(
         &mut self,
-        alloc: Global,
-        board: &Board,
+        setting: &TurnSetting<'_, R, C>,
         cells: &mut WorkerCells,
-        bound: u64,
-        gate: &C,
     ) -> Result<u32, NoMemory> {
         let _ = self.seat.id();
         let mut made = 0;
         'turn: loop {
-            let acted = self.act(alloc, board, cells, bound, gate)?;
+            let acted = self.act(setting, cells)?;
             made += acted.events;
             match acted.pause {
                 Pause::TurnOver => return Ok(made),
                 Pause::Forked => {}
             }
+        }
+    }
+}
+
+// Looks as `look` does, and counts its loads with these cells.
+fn look_by(seat: &mut TaskSeat, board: &Board, cells: &mut WorkerCells) -> Look
+    requires made { IsOf seat.old board.now }
+    requires event { IsSome (event_of seat.old) }
+    ensures goes_on { LoadsAlone seat.old seat.new }
+    ensures answer { IsLook result seat.old seat.new }
+    ensures counted { CountsLoadsOf seat.old seat.new cells.old cells.new }
+{
+    let _ = seat.id();
+    let first = seat.scanned();
+    match look(seat, board) {
+        Look::Reached => {
+            cells.note_loads(u64::from(board.tasks().saturating_sub(first)));
+            Look::Reached
+        }
+        Look::Behind { t, phase } => {
+            cells.note_loads(u64::from(t.0.saturating_sub(first)) + 1);
+            Look::Behind { t, phase }
         }
     }
 }

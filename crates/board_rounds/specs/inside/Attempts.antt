@@ -10,8 +10,8 @@ use Rattle.board.specs.calls.Seats.{Frame, IsOf, Known, aim_at}
 use Rattle.board.specs.calls.Steps.{own_phase}
 use Rattle.board.specs.calls.Views.{avoids, next_action}
 use Rattle.board.specs.inside.Walking.{IsActionOfPlan, begins}
-use Rattle.board_rounds.specs.declared.deciding.Attempt.{Attempt}
-use Rattle.board_rounds.specs.declared.deciding.Attempt.TheVariants.{Begun, LockedOut, Refused}
+use Rattle.board_rounds.specs.declared.beginning.Attempt.{Attempt}
+use Rattle.board_rounds.specs.declared.beginning.Attempt.TheVariants.{Begun, LockedOut, Refused}
 use Rattle.board_rounds.specs.calls.Turns.{EndsTurn, Goes, HasLeftAll}
 
 -- the seat is one of the board, its task stands before this op, and does not hold the lock

@@ -9,7 +9,7 @@ abbrev pub invariant-loop-task : goal.invariant-loop-task
 invariant-loop-task g l = record {
   owns : List (List Action);
   total : ℕ;
-  so_far : IsSoFar l.bound l.board l.task-index 0 total owns (map g.T.TakeTurn.working l.initial.tasks) (map g.T.TakeTurn.working l.tasks);
+  so_far : IsSoFar l.setting.bound l.setting.board.now l.task-index 0 total owns (map g.T.TakeTurn.working l.initial.tasks) (map g.T.TakeTurn.working l.tasks);
   counted : l.cells.loads ≤ l.initial.cells.loads + total;
   events : l.made ≡ in_32_bits (sum_by length owns);
 }

@@ -12,7 +12,7 @@ pub act-init : goal.act-init
 act-init g c =
     let w = c.args.self.now in record {
       own = [];
-      acts = acts_itself c.args.board.now w (subst (λ (x : Working). IsSeat x.seat) c.self.view_is c.id.ensures.seat);
+      acts = acts_itself c.args.setting.now.board.now w (subst (λ (x : Working). IsSeat x.seat) c.self.view_is c.id.ensures.seat);
       made = c.requires.made;
       free = c.requires.free;
       counted = refl;
@@ -26,44 +26,44 @@ pub returns-in_err-more-clause-acts : goal.returns-in_err-more-clause-acts
 returns-in_err-more-clause-acts g c =
     let i = c.act.invariant in (
       i.own ++ [],
-      acts_on c.args.board.now c.args.self.now c.act.self c.go_on.new.self i.own [] i.acts c.in_err-more.ensures.err,
+      acts_on c.args.setting.now.board.now c.args.self.now c.act.self c.go_on.new.self i.own [] i.acts c.in_err-more.ensures.err,
       search rules,
     )
 
 pub returns-in_err-more-clause-nobody : goal.returns-in_err-more-clause-nobody
 returns-in_err-more-clause-nobody g c =
     let i = c.act.invariant in
-    let same : c.go_on.new.self.children ≡ c.args.self.now.children = no_child_made c.args.board.now c.act.self c.go_on.new.self c.in_err-more.ensures.err ∙ i.nobody in
+    let same : c.go_on.new.self.children ≡ c.args.self.now.children = no_child_made c.args.setting.now.board.now c.act.self c.go_on.new.self c.in_err-more.ensures.err ∙ i.nobody in
     search rules
 
 pub overflow_add-events : goal.overflow_add-events
 overflow_add-events g c =
     let i = c.act.invariant in
-    let m = (subst (λ o. IfSome o (λ n. MakesSome c.args.board.now n c.act.self c.go_on.new.self)) c.in-Some.is c.in_ok-more.ensures.some) in
-    let k = counts_on c.args.board.now (0 + c.act.events) c.in-Some.more c.act.self c.go_on.new.self (i.counts 0 (counts_nothing c.args.self.now)) m in
+    let m = (subst (λ o. IfSome o (λ n. MakesSome c.args.setting.now.board.now n c.act.self c.go_on.new.self)) c.in-Some.is c.in_ok-more.ensures.some) in
+    let k = counts_on c.args.setting.now.board.now (0 + c.act.events) c.in-Some.more c.act.self c.go_on.new.self (i.counts 0 (counts_nothing c.args.self.now)) m in
     let l = few_events ((0 + c.act.events) + c.in-Some.more) c.go_on.new.self m.acts.goes.kept.checked k in
     omega arith
 
 pub returns-then-len-had-clause-acts : goal.returns-then-len-had-clause-acts
 returns-then-len-had-clause-acts g c =
     let i = c.act.invariant in
-    let m = (subst (λ o. IfSome o (λ n. MakesSome c.args.board.now n c.act.self c.go_on.new.self)) c.in-Some.is c.in_ok-more.ensures.some) in (
+    let m = (subst (λ o. IfSome o (λ n. MakesSome c.args.setting.now.board.now n c.act.self c.go_on.new.self)) c.in-Some.is c.in_ok-more.ensures.some) in (
       i.own ++ m.own,
-      acts_on c.args.board.now c.args.self.now c.act.self c.go_on.new.self i.own m.own i.acts m.acts,
+      acts_on c.args.setting.now.board.now c.args.self.now c.act.self c.go_on.new.self i.own m.own i.acts m.acts,
       (let l = length-append i.own m.own in let a = i.counted in let b = m.counted in omega arith),
     )
 
 pub returns-then-len-had-clause-few : goal.returns-then-len-had-clause-few
 returns-then-len-had-clause-few g c = λ n h.
     let i = c.act.invariant in
-    let m = (subst (λ o. IfSome o (λ n. MakesSome c.args.board.now n c.act.self c.go_on.new.self)) c.in-Some.is c.in_ok-more.ensures.some) in
+    let m = (subst (λ o. IfSome o (λ n. MakesSome c.args.setting.now.board.now n c.act.self c.go_on.new.self)) c.in-Some.is c.in_ok-more.ensures.some) in
     subst (λ k. CountsEvents k c.go_on.new.self) (let z : (n + c.act.events) + c.in-Some.more ≡ n + (c.act.events + c.in-Some.more) = omega arith in z)
-    (counts_on c.args.board.now (n + c.act.events) c.in-Some.more c.act.self c.go_on.new.self (i.counts n h) m)
+    (counts_on c.args.setting.now.board.now (n + c.act.events) c.in-Some.more c.act.self c.go_on.new.self (i.counts n h) m)
 
 pub returns-then-len-had-clause-pause : goal.returns-then-len-had-clause-pause
 returns-then-len-had-clause-pause g c =
     let i = c.act.invariant in
-    let m = (subst (λ o. IfSome o (λ n. MakesSome c.args.board.now n c.act.self c.go_on.new.self)) c.in-Some.is c.in_ok-more.ensures.some) in
+    let m = (subst (λ o. IfSome o (λ n. MakesSome c.args.setting.now.board.now n c.act.self c.go_on.new.self)) c.in-Some.is c.in_ok-more.ensures.some) in
     let grown = m.acts.children ∙ ap (λ ks. ks ++ m.acts.new) i.nobody in
     let more : 0 < length m.acts.new =
     (let l = ap (λ (x : Working). length x.children) c.self-in-act.view_is in let k = ap length grown in let a = length-append c.args.self.now.children m.acts.new in
@@ -72,20 +72,20 @@ returns-then-len-had-clause-pause g c =
     (one.0, grown ∙ ap (λ ks. c.args.self.now.children ++ ks) one.1)
 
 pub act-smaller : goal.act-smaller
-act-smaller g c = leaves_less c.args.board.now c.in-Some.more c.act.self c.go_on.new.self (subst (λ o. IfSome o (λ n. MakesSome c.args.board.now n c.act.self c.go_on.new.self)) c.in-Some.is c.in_ok-more.ensures.some)
+act-smaller g c = leaves_less c.args.setting.now.board.now c.in-Some.more c.act.self c.go_on.new.self (subst (λ o. IfSome o (λ n. MakesSome c.args.setting.now.board.now n c.act.self c.go_on.new.self)) c.in-Some.is c.in_ok-more.ensures.some)
 
 pub act-preserved : goal.act-preserved
 act-preserved g c =
     let i = c.act.invariant in
-    let m = (subst (λ o. IfSome o (λ n. MakesSome c.args.board.now n c.act.self c.go_on.new.self)) c.in-Some.is c.in_ok-more.ensures.some) in record {
+    let m = (subst (λ o. IfSome o (λ n. MakesSome c.args.setting.now.board.now n c.act.self c.go_on.new.self)) c.in-Some.is c.in_ok-more.ensures.some) in record {
       own = i.own ++ m.own;
-      acts = acts_on c.args.board.now c.args.self.now c.act.self c.go_on.new.self i.own m.own i.acts m.acts;
-      made = of_on c.args.board.now m.own c.act.self.seat c.go_on.new.self.seat i.made m.acts.goes;
+      acts = acts_on c.args.setting.now.board.now c.args.self.now c.act.self c.go_on.new.self i.own m.own i.acts m.acts;
+      made = of_on c.args.setting.now.board.now m.own c.act.self.seat c.go_on.new.self.seat i.made m.acts.goes;
       free = m.acts.goes.same.holds ∙ i.free;
       counted = (let l = length-append i.own m.own in let a = i.counted in let b = m.counted in omega arith);
       counts = λ n h.
           subst (λ k. CountsEvents k c.go_on.new.self) (let z : (n + c.act.events) + c.in-Some.more ≡ n + (c.act.events + c.in-Some.more) = omega arith in z)
-          (counts_on c.args.board.now (n + c.act.events) c.in-Some.more c.act.self c.go_on.new.self (i.counts n h) m);
+          (counts_on c.args.setting.now.board.now (n + c.act.events) c.in-Some.more c.act.self c.go_on.new.self (i.counts n h) m);
       nobody = (
           let grown = m.acts.children ∙ ap (λ ks. ks ++ m.acts.new) i.nobody in
           let few : length m.acts.new ≤ 0 =
@@ -101,20 +101,20 @@ returns-clause-acts g c =
     let i = c.act.invariant in
     let none = c.in_ok-more.ensures.none c.in_default.is in (
       i.own ++ [],
-      acts_on c.args.board.now c.args.self.now c.act.self c.go_on.new.self i.own [] i.acts none.0,
+      acts_on c.args.setting.now.board.now c.args.self.now c.act.self c.go_on.new.self i.own [] i.acts none.0,
       i.counted ∙ ap length (sym (append-nil i.own)),
     )
 
 pub returns-clause-few : goal.returns-clause-few
 returns-clause-few g c = λ n h.
     let i = c.act.invariant in
-    counts_still c.args.board.now (n + c.act.events) c.act.self c.go_on.new.self (i.counts n h) (c.in_ok-more.ensures.none c.in_default.is).0
+    counts_still c.args.setting.now.board.now (n + c.act.events) c.act.self c.go_on.new.self (i.counts n h) (c.in_ok-more.ensures.none c.in_default.is).0
 
 pub returns-clause-pause : goal.returns-clause-pause
 returns-clause-pause g c =
     let i = c.act.invariant in
     let none = c.in_ok-more.ensures.none c.in_default.is in
-    (ends_since_within c.args.bound c.go_on.new.cells.loads c.args.self.now.seat c.act.self.seat c.go_on.new.self.seat i.acts.goes.loads none.1, no_child_made c.args.board.now c.act.self c.go_on.new.self none.0 ∙ i.nobody)
+    (ends_since_within c.args.setting.now.bound c.go_on.new.cells.loads c.args.self.now.seat c.act.self.seat c.go_on.new.self.seat i.acts.goes.loads none.1, no_child_made c.args.setting.now.board.now c.act.self c.go_on.new.self none.0 ∙ i.nobody)
 
 pub returns-in_err-more-clause-counted : goal.returns-in_err-more-clause-counted
 returns-in_err-more-clause-counted g c = (let was = c.act.invariant.loads in let more = c.go_on.ensures.counted in omega arith)

@@ -8,8 +8,8 @@ use Rattle.board_rounds.proofs.task.Task.act.Given as goal
 abbrev pub invariant-act : goal.invariant-act
 invariant-act g l = record {
   own : List Action;
-  acts : Acts l.board own l.initial.self l.self;
-  made : IsOf l.self.seat l.board;
+  acts : Acts l.setting.board.now own l.initial.self l.self;
+  made : IsOf l.self.seat l.setting.board.now;
   free : l.self.seat.view.holds ≡ false;
   counted : l.events ≡ length own;
   counts : (n : ℕ) → CountsEvents n l.initial.self → CountsEvents (n + l.events) l.self;

@@ -15,7 +15,7 @@ pub returns-in_default-clause-none : goal.returns-in_default-clause-none
 returns-in_default-clause-none g c = λ _.
     let idle = sym c.event.ensures ∙ no_event _ (sym c.is_some.ensures ∙ c.if-is_some.false) in
     let past = sym c.peek.ensures.next ∙ c.in_default.is in (
-      acts_itself c.args.board.now c.args.self.now (subst (λ (w : Working). IsSeat w.seat) c.self.view_is c.id-t.ensures.seat),
+      acts_itself c.args.setting.now.board.now c.args.self.now (subst (λ (w : Working). IsSeat w.seat) c.self.view_is c.id-t.ensures.seat),
       inl (subst (λ (w : Working). EndsTurn w.seat w.seat) c.self.view_is (is_done (ends_done c.self.inside.cursor c.self.inside.seat
           (c.self.invariant.come.ops_are c.if-self.false) idle past))),
     )
@@ -37,13 +37,13 @@ come g c = subst (HasCome c.self.inside.seat c.self.inside.cursor c.self.inside.
 pub begin-requires : goal.begin-requires
 begin-requires g c =
     let at = (goal.at.begin-requires g c).In-Some in
-    let made = subst (λ (w : Working). IsOf w.seat c.args.board.now) (sym c.self.view_is) c.requires.made in
+    let made = subst (λ (w : Working). IsOf w.seat c.args.setting.now.board.now) (sym c.self.view_is) c.requires.made in
     record {
       ready = record {
         made = made;
         unlocked = free g at;
         next = before_next c.in-Some.op (drop 1 c.self.inside.cursor) c.self.inside.seat (before g at);
-        plan = before_of_plan c.in-Some.op (drop 1 c.self.inside.cursor) c.self.inside.seat (before g at) c.args.board.now.plan made.plan;
+        plan = before_of_plan c.in-Some.op (drop 1 c.self.inside.cursor) c.self.inside.seat (before g at) c.args.setting.now.board.now.plan made.plan;
       };
     }
 
@@ -56,8 +56,8 @@ returns-in_err-begin-clause-err g c =
     let at = (goal.at.returns-in_err-begin-clause-err g c).In-Some in
     let e = c.in_err-begin.ensures in
     failed c.from_residual.result _
-    (subst (λ (w : Working). Acts c.args.board.now [] w (record { seat = c.begin.new.seat; children = c.begin.new.children.items })) c.self.view_is
-    (nothing_acts c.args.board.now c.self.inside.cursor c.self.inside.events c.self.inside.seat c.begin.new.seat c.self.inside.children.items
+    (subst (λ (w : Working). Acts c.args.setting.now.board.now [] w (record { seat = c.begin.new.seat; children = c.begin.new.children.items })) c.self.view_is
+    (nothing_acts c.args.setting.now.board.now c.self.inside.cursor c.self.inside.events c.self.inside.seat c.begin.new.seat c.self.inside.children.items
     c.begin.new.children.items c.in-Some.op _ (come g at) (before g at) e.same_children e.same))
 
 pub returns-in-LockedOut-clause-none : goal.returns-in-LockedOut-clause-none
@@ -65,9 +65,9 @@ returns-in-LockedOut-clause-none g c = λ _.
     let at = (goal.at.returns-in-LockedOut-clause-none g c).In-Some in
     let new = c.in_ok-begin.ensures.children in
     let tried = subst (λ a. BeginsOp c.in-Some.op c.self.inside.seat c.begin.new.seat a) c.in-LockedOut.is c.in_ok-begin.ensures.begins in
-    let r = locked_out c.args.board.now c.self.inside.cursor c.self.inside.events c.self.inside.seat c.begin.new.seat c.self.inside.children.items
+    let r = locked_out c.args.setting.now.board.now c.self.inside.cursor c.self.inside.events c.self.inside.seat c.begin.new.seat c.self.inside.children.items
     c.begin.new.children.items c.in-Some.op _ (come g at) (before g at) new.0 new.1 new.2 tried in
-    let both = subst (λ (w : Working). Acts c.args.board.now [] w (record { seat = c.begin.new.seat; children = c.begin.new.children.items }) × EndsTurn w.seat c.begin.new.seat)
+    let both = subst (λ (w : Working). Acts c.args.setting.now.board.now [] w (record { seat = c.begin.new.seat; children = c.begin.new.children.items }) × EndsTurn w.seat c.begin.new.seat)
     c.self.view_is r.0 in
     (both.0, inl both.1)
 
@@ -75,7 +75,7 @@ pub overflow_add-self : goal.overflow_add-self
 overflow_add-self g c =
     let at = (goal.at.overflow_add-self g c).In-Some in
     let new = c.in_ok-begin.ensures.children in
-    let fits = begun_fits c.args.board.now c.self.inside.cursor c.self.inside.events c.self.inside.seat c.begin.new.seat c.self.inside.children.items
+    let fits = begun_fits c.args.setting.now.board.now c.self.inside.cursor c.self.inside.events c.self.inside.seat c.begin.new.seat c.self.inside.children.items
     c.begin.new.children.items c.in-Some.op _ (come g at) (before g at) new.0 new.1 new.2 in
     let few = c.self.invariant.begun in
     omega arith
@@ -84,7 +84,7 @@ pub overflow_add-self-in-Begun : goal.overflow_add-self-in-Begun
 overflow_add-self-in-Begun g c =
     let at = (goal.at.overflow_add-self-in-Begun g c).In-Some in
     let new = c.in_ok-begin.ensures.children in
-    let fits = begun_fits c.args.board.now c.self.inside.cursor c.self.inside.events c.self.inside.seat c.begin.new.seat c.self.inside.children.items
+    let fits = begun_fits c.args.setting.now.board.now c.self.inside.cursor c.self.inside.events c.self.inside.seat c.begin.new.seat c.self.inside.children.items
     c.begin.new.children.items c.in-Some.op _ (come g at) (before g at) new.0 new.1 new.2 in
     omega arith
 
@@ -97,7 +97,7 @@ invariant_of-self-in-Begun g c =
     record {
       come = subst (λ (ops : List Op). HasCome c.begin.new.seat ops (c.self.inside.events + 1) c.self.inside.refused) (sym rest)
           (subst (HasCome c.begin.new.seat (drop 1 c.self.inside.cursor) (c.self.inside.events + 1)) (sym c.if-self.false)
-          (begun_come c.args.board.now c.self.inside.cursor c.self.inside.events c.self.inside.seat c.begin.new.seat c.self.inside.children.items
+          (begun_come c.args.setting.now.board.now c.self.inside.cursor c.self.inside.events c.self.inside.seat c.begin.new.seat c.self.inside.children.items
           c.begin.new.children.items c.in-Some.op _ (come g at) (before g at) new.0 new.1 new.2 tried));
       begun = (let l = c.self.invariant.begun in omega arith);
     }
@@ -107,8 +107,8 @@ returns-in-Begun-clause-some g c =
     let at = (goal.at.returns-in-Begun-clause-some g c).In-Some in
     let new = c.in_ok-begin.ensures.children in
     let tried = subst (λ a. BeginsOp c.in-Some.op c.self.inside.seat c.begin.new.seat a) c.in-Begun.is c.in_ok-begin.ensures.begins in
-    subst (λ (w : Working). MakesSome c.args.board.now 1 w (record { seat = c.begin.new.seat; children = c.begin.new.children.items })) c.self.view_is
-    (begun_makes c.args.board.now c.self.inside.cursor c.self.inside.events c.self.inside.seat c.begin.new.seat c.self.inside.children.items
+    subst (λ (w : Working). MakesSome c.args.setting.now.board.now 1 w (record { seat = c.begin.new.seat; children = c.begin.new.children.items })) c.self.view_is
+    (begun_makes c.args.setting.now.board.now c.self.inside.cursor c.self.inside.events c.self.inside.seat c.begin.new.seat c.self.inside.children.items
     c.begin.new.children.items c.in-Some.op _ (come g at) (before g at) new.0 new.1 new.2 tried)
 
 pub overflow_add-result : goal.overflow_add-result
@@ -116,7 +116,7 @@ overflow_add-result g c =
     let at = (goal.at.overflow_add-result g c).In-Some in
     let new = c.in_ok-begin.ensures.children in
     let tried = subst (λ a. BeginsOp c.in-Some.op c.self.inside.seat c.begin.new.seat a) c.in-Refused.is c.in_ok-begin.ensures.begins in
-    let fits = refused_fits c.args.board.now c.self.inside.cursor c.self.inside.events c.self.inside.seat c.begin.new.seat c.self.inside.children.items
+    let fits = refused_fits c.args.setting.now.board.now c.self.inside.cursor c.self.inside.events c.self.inside.seat c.begin.new.seat c.self.inside.children.items
     c.begin.new.children.items c.in-Some.op _ (come g at) (before g at) new.0 new.1 new.2 c.in-Refused.drops tried in
     omega arith
 
@@ -127,7 +127,7 @@ invariant_of-self-in-Refused g c =
     let tried = subst (λ a. BeginsOp c.in-Some.op c.self.inside.seat c.begin.new.seat a) c.in-Refused.is c.in_ok-begin.ensures.begins in
     record {
       come =
-          refused_come c.args.board.now c.self.inside.cursor c.self.inside.events c.self.inside.seat c.begin.new.seat c.self.inside.children.items
+          refused_come c.args.setting.now.board.now c.self.inside.cursor c.self.inside.events c.self.inside.seat c.begin.new.seat c.self.inside.children.items
           c.begin.new.children.items c.in-Some.op _ (come g at) (before g at) new.0 new.1 new.2 c.in-Refused.drops tried;
       begun = c.self.invariant.begun;
     }
@@ -137,19 +137,19 @@ returns-in-Refused-clause-some g c =
     let at = (goal.at.returns-in-Refused-clause-some g c).In-Some in
     let new = c.in_ok-begin.ensures.children in
     let tried = subst (λ a. BeginsOp c.in-Some.op c.self.inside.seat c.begin.new.seat a) c.in-Refused.is c.in_ok-begin.ensures.begins in
-    subst (λ (w : Working). MakesSome c.args.board.now (c.in-Refused.drops + 1) w (record { seat = c.begin.new.seat; children = c.begin.new.children.items })) c.self.view_is
-    (refused_makes c.args.board.now c.self.inside.cursor c.self.inside.events c.self.inside.seat c.begin.new.seat c.self.inside.children.items
+    subst (λ (w : Working). MakesSome c.args.setting.now.board.now (c.in-Refused.drops + 1) w (record { seat = c.begin.new.seat; children = c.begin.new.children.items })) c.self.view_is
+    (refused_makes c.args.setting.now.board.now c.self.inside.cursor c.self.inside.events c.self.inside.seat c.begin.new.seat c.self.inside.children.items
     c.begin.new.children.items c.in-Some.op _ (come g at) (before g at) new.0 new.1 new.2 c.in-Refused.drops tried)
 
 pub returns-then-self-clause-none : goal.returns-then-self-clause-none
 returns-then-self-clause-none g c = λ _. (
-  acts_itself c.args.board.now c.args.self.now (subst (λ (w : Working). IsSeat w.seat) c.self.view_is c.id-t.ensures.seat),
+  acts_itself c.args.setting.now.board.now c.args.self.now (subst (λ (w : Working). IsSeat w.seat) c.self.view_is c.id-t.ensures.seat),
   inl (subst (λ (w : Working). EndsTurn w.seat w.seat) c.self.view_is (is_refused (c.self.invariant.come.gone c.if-self.true))),
 )
 
 pub returns-then-is_cut_short-clause-none : goal.returns-then-is_cut_short-clause-none
 returns-then-is_cut_short-clause-none g c = λ _. (
-  acts_itself c.args.board.now c.args.self.now (subst (λ (w : Working). IsSeat w.seat) c.self.view_is c.id-t.ensures.seat),
+  acts_itself c.args.setting.now.board.now c.args.self.now (subst (λ (w : Working). IsSeat w.seat) c.self.view_is c.id-t.ensures.seat),
   inr (c.is_cut_short.ensures c.if-is_cut_short.true),
 )
 

@@ -8,8 +8,8 @@ use Rattle.board_rounds.proofs.task.TaskTakeTurn.turn.Given as goal
 abbrev pub invariant-turn : goal.invariant-turn
 invariant-turn g l = record {
   own : List Action;
-  acts : Acts l.board own l.initial.self l.self;
-  made : IsOf l.self.seat l.board;
+  acts : Acts l.setting.board.now own l.initial.self l.self;
+  made : IsOf l.self.seat l.setting.board.now;
   free : l.self.seat.view.holds ≡ false;
   counted : l.made ≡ length own;
   counts : CountsEvents l.made l.self;

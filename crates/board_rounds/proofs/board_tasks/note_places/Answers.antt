@@ -5,7 +5,7 @@ use Rattle.board_rounds.specs.calls.Turns.{Working}
 use Rattle.board_rounds.specs.calls.TaskSeats.{number}
 use Rattle.board_rounds.specs.inside.Endings.{NotesPlaces}
 use Rattle.board_rounds.proofs.Noting.{one_noted}
-use Rattle.board_rounds.proofs.ending.note_places.Goals as goal
+use Rattle.board_rounds.proofs.board_tasks.note_places.Goals as goal
 
 pub loop-task-preserved : goal.loop-task-preserved
 loop-task-preserved c =

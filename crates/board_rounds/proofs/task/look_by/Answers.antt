@@ -1,7 +1,7 @@
 use Rattle.std.proofs.Common.{arith, ap, length}
 use Rattle.armus_base.specs.Plans.{Plan}
 use Rattle.board_rounds.proofs.LookLoads.{behind_loads, reached_loads}
-use Rattle.board_rounds.proofs.looking.look_by.Goals as goal
+use Rattle.board_rounds.proofs.task.look_by.Goals as goal
 
 pub returns-in-Reached-clause-counted : goal.returns-in-Reached-clause-counted
 returns-in-Reached-clause-counted c =

@@ -1,7 +1,7 @@
 use Rattle.std.proofs.Common.{◌≡◌}
 use Rattle.armus_base.specs.Places.{members_below}
 use Rattle.board.specs.calls.Steps.{own_phase}
-use Rattle.board_rounds.proofs.deciding.memberships.Given as goal
+use Rattle.board_rounds.proofs.beginning.memberships.Given as goal
 
 abbrev pub invariant-loop-p : goal.invariant-loop-p
 invariant-loop-p l = record {

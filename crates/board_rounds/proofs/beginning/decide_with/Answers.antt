@@ -9,8 +9,8 @@ use Rattle.avoider.specs.calls.OnBoard.{IsDecidedOnBoard}
 use Rattle.board_rounds.specs.calls.Turns.{EndsTurn, Goes}
 use Rattle.board_rounds.specs.inside.Attempts.{IsRefusedAt}
 use Rattle.board_rounds.proofs.Attempting.{ends_locked_out, goes_locked_out, goes_published, goes_refused, loads_published, loads_refused}
-use Rattle.board_rounds.proofs.deciding.decide_with.Goals.{in-Published, in-Refused}
-use Rattle.board_rounds.proofs.deciding.decide_with.Goals as goal
+use Rattle.board_rounds.proofs.beginning.decide_with.Goals.{in-Published, in-Refused}
+use Rattle.board_rounds.proofs.beginning.decide_with.Goals as goal
 
 pub try_take-requires-clause-next : goal.try_take-requires-clause-next
 try_take-requires-clause-next c = (aim_at c.args.p.0 c.args.off, ap (λ (k : Known). next_action k.view) c.memberships-phasers.ensures.seat ∙ c.requires.ready.next)

@@ -3,7 +3,7 @@ use Rattle.board.specs.calls.Seats.{IsOf}
 use Rattle.board.specs.calls.Steps.{IsSameSeat}
 use Rattle.board_rounds.specs.calls.Turns.{Working}
 use Rattle.board_rounds.specs.inside.Endings.{TakesAll}
-use Rattle.board_rounds.proofs.ending.take_in_all.Given as goal
+use Rattle.board_rounds.proofs.board_tasks.take_in_all.Given as goal
 
 abbrev pub invariant-loop-task : goal.invariant-loop-task
 invariant-loop-task l = record {

@@ -1,7 +1,7 @@
 use Rattle.std.proofs.Common.{arith}
 use Rattle.board.specs.calls.Steps.{own_phase}
 use Rattle.board_rounds.proofs.Leaving.{few_members}
-use Rattle.board_rounds.proofs.deciding.memberships.Goals as goal
+use Rattle.board_rounds.proofs.beginning.memberships.Goals as goal
 
 pub overflow_add-count : goal.overflow_add-count
 overflow_add-count c =
