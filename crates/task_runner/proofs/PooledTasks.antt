@@ -5,13 +5,13 @@ use Rattle.std.proofs.lemmas.List.Elements.{Contains-append_right}
 use Rattle.armus_base.specs.Plans.{Action, Forks, Plan, action_at}
 use Rattle.armus_base.specs.Runs.{Place}
 use Rattle.armus_base.specs.calls.Seats.{seen_by_child}
-use Rattle.armus_base.proofs.Elements.{Contains-head}
+use Rattle.armus_base.proofs.Elements.{Contains-head, from_map, in_map}
 use Rattle.board.specs.calls.Views.{own_place, seen, task_of}
 use Rattle.board.specs.calls.Seats.{Frame, IsNewSeat, Known, nothing_seen}
 use Rattle.board_rounds.specs.calls.Turns.{Acts, AreChildSeats, IsChildSeat, Working, tasks_forked}
 use Rattle.board_rounds.specs.calls.TaskSeats.{HasSeatOf, AreTaskSeats, IsTaskSeat, IsSeatIn, KnowsTasks}
 use Rattle.board_rounds.specs.inside.Endings.{TakesAll}
-use Rattle.board_rounds.proofs.Between.{first_task_seats, from_map, in_map, seats_of_tasks, to_each}
+use Rattle.board_rounds.proofs.Between.{first_task_seats, seats_of_tasks, to_each}
 use Rattle.board_rounds.proofs.TaskSeatsKept.{child_is, goes_with_seats}
 use Rattle.board_rounds.proofs.Emptying.{contains_at}
 use Rattle.board_rounds.proofs.Goings.{task_is}

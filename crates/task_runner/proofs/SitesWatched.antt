@@ -44,7 +44,7 @@ use Rattle.sites.specs.calls.Snaps.{HasLookedOn, HasSeenLawful, IsBacked}
 use Rattle.sites.proofs.Gathered.{passed_is}
 use Rattle.sites.proofs.PassSteps.{is_there, some_one}
 use Rattle.world_runs.specs.calls.EndWorlds.{IsWorldEnd}
-use Rattle.world_runs.specs.declared.world_end.WorldEnd.{WorldEnd}
+use Rattle.world_runs.specs.declared.ending.WorldEnd.{WorldEnd}
 use Rattle.task_runner.specs.calls.SiteRuns.{HoldFinal, HoldRowsOfRun, IsRowOfRun}
 use Rattle.task_runner.specs.inside.SiteRounds.{AreWatching, IsWholeEnd}
 

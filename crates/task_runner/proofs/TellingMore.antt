@@ -17,7 +17,7 @@ use Rattle.armus_base.specs.ReadAll.{TookFront}
 use Rattle.armus_base.specs.Plans.{Plan}
 use Rattle.armus_base.specs.Places.{state_at}
 use Rattle.armus_base.specs.Deadlocks.{IsDeadBy, IsDeadIn, IsListedOn}
-use Rattle.armus_base.proofs.Elements.{Contains-cons_cases, Contains-head, Contains-tail, nothing_in_nil}
+use Rattle.armus_base.proofs.Elements.{Contains-cons_cases, Contains-head, Contains-tail, from_map, in_map, nothing_in_nil}
 use Rattle.armus_base.proofs.Fronts.{front_after}
 use Rattle.board.specs.declared.mode.Mode.{Mode}
 use Rattle.board.specs.declared.mode.Mode.TheVariants.{Detect}
@@ -27,6 +27,7 @@ use Rattle.board.specs.calls.Steps.{IsSameSeat}
 use Rattle.board.proofs.Closing.{some_task}
 use Rattle.phase_scan.specs.calls.Collects.{IsCollect}
 use Rattle.phase_scan.specs.calls.Looks.{LoadsAlone}
+use Rattle.board_rounds.proofs.Emptying.{contains_at}
 use Rattle.collector.specs.calls.Passes.{Watch}
 use Rattle.task_runner.specs.inside.LiveReporters.{TellsMore, Telling, Watches}
 use Rattle.task_runner.specs.declared.ran.RunEnd.{RunEnd}
@@ -44,27 +45,8 @@ use Rattle.task_runner.proofs.Possible.{Possible, collect_possible}
 each_of : {X : Type 0} (P : X → Type 0) (xs : List X) → All P xs → (x : X) → Contains xs x → P x
 each_of P xs all x i = subst P i.2 (all i.0 x i.1)
 
-contains_at : {X : Type 0} (xs : List X) (n : ℕ) (d : X) → n < length xs → Contains xs (get_or xs n d)
-contains_at [] n d l = absurd (omega arith)
-contains_at (x ∷ xs) zero d l = Contains-head x xs
-contains_at (x ∷ xs) (suc n) d l = Contains-tail x xs (get_or xs n d) (contains_at xs n d (omega arith))
-
 pub all_of : {X : Type 0} (P : X → Type 0) (xs : List X) → ((x : X) → Contains xs x → P x) → All P xs
 all_of P xs each k d l = each (get_or xs k d) (contains_at xs k d l)
-
-pub in_map : {X Y : Type 0} (g : X → Y) (xs : List X) (x : X) → Contains xs x → Contains (map g xs) (g x)
-in_map g [] x i = absurd (nothing_in_nil x i)
-in_map g (y ∷ xs) x i = elim (Contains-cons_cases y xs x i) [
-  | inl here ↦ subst (λ z. Contains (map g (y ∷ xs)) (g z)) here (Contains-head (g y) (map g xs))
-  | inr there ↦ Contains-tail (g y) (map g xs) (g x) (in_map g xs x there)
-]
-
-pub from_map : {X Y : Type 0} (g : X → Y) (xs : List X) (y : Y) → Contains (map g xs) y → (x : X) × Contains xs x × (g x ≡ y)
-from_map g [] y i = absurd (nothing_in_nil y i)
-from_map g (x ∷ xs) y i = elim (Contains-cons_cases (g x) (map g xs) y i) [
-  | inl here ↦ (x, Contains-head x xs, here)
-  | inr there ↦ (let r = from_map g xs y there in (r.0, Contains-tail x xs r.0 r.1, r.2))
-]
 
 map_more : {X Y : Type 0} (g : X → Y) (xs ys : List X) → map g (xs ++ ys) ≡ map g xs ++ map g ys
 map_more g [] ys = refl

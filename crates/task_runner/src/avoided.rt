@@ -4,12 +4,14 @@ ghost use Rattle.armus_base.specs.calls.Limits.{max_workers};
 ghost use Rattle.world_runs.specs.calls.AvoidedRuns.{IsAvoidedEnd, IsSerialEnd};
 
 use crate::RunOptions;
-use crate::avoided_board::avoid_on_board;
+use crate::beside::Nothing;
+use crate::board_run::BoardRun;
 use armus_base::{Final, Gate, NoMemory, Plan};
 use avoider::Judging;
+use board::{Board, Mode};
 use std::alloc::Global;
 use std::thread::Threads;
-use world_runs::run_serial_avoid;
+use world_runs::{avoided_end_from, run_serial_avoid};
 
 /// The state in which a maximal avoided run of the plan ends; nobody is dead in it, and in the run each await was refused exactly where its task would
 /// have been dead. With one worker it is the serial avoided run, which goes by rounds: in a round each task that was forked before it acts, in order of
@@ -48,7 +50,9 @@ pub fn run_avoid_kept<R: Threads + Sync, G: Gate>(
     avoid_by(rt, alloc, plan, options, Judging::Order, gate)
 }
 
-// The same, where awaits are judged so.
+// The same, where awaits are judged so. On the board tasks take turns by rounds, until a round without an event, or until the board costs too much; in its turn
+// a task decides on each await under the lock of the board. Then one viewer takes all seats in and the board is closed; from the places at which its tasks
+// stood the run goes on in one thread until no task may go on.
 fn avoid_by<R: Threads + Sync, G: Gate>(
     rt: &R,
     alloc: Global,
@@ -64,5 +68,9 @@ fn avoid_by<R: Threads + Sync, G: Gate>(
     if options.workers < 2 {
         return run_serial_avoid(alloc, plan, judging, gate);
     }
-    avoid_on_board(rt, alloc, plan, options, judging, gate)
+    let (board, seat, view) = Board::start(alloc, plan, Mode::Avoid)?;
+    let mut run = BoardRun::start(alloc, &board, seat, plan, options, judging)?;
+    run.go(rt, &board, gate, &mut Nothing {}, &mut ())?;
+    let places = run.leave(board, view)?;
+    avoided_end_from(alloc, plan, places.as_slice(), judging, gate)
 }

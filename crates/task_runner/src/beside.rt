@@ -1,4 +1,4 @@
-// What goes beside the rounds of a run on a board.
+// What goes beside the rounds of a run on a board, or nothing.
 ghost use Rattle.std.specs.Prelude.{◌≡◌, OnOk};
 
 use armus_base::NoMemory;
@@ -54,4 +54,51 @@ pub(crate) trait Beside<O> {
 
     // a round may want memory beside a pass that did not
     ghost wanting: { (f : Frame) (x y : Self) (a b : O) → fits f y b → passes f x a y b (Ok tt) → passes f x a y b (Err no_memory) };
+}
+
+/// No pass at all.
+#[derive(Drop)]
+pub(crate) struct Nothing {}
+
+impl<O> Beside<O> for Nothing {
+    ghost use Rattle.std.specs.Prelude.{Result, Ok, Err, false, ◌≡◌};
+    ghost use Rattle.std.proofs.Common.{refl, ◌∙◌};
+
+    type Early = NoMemory;
+
+    ghost there = { false };
+
+    ghost fits = { λ f x a. Unit {0} };
+
+    ghost passes = { λ f x a y b r. b ≡ a };
+
+    ghost no_memory = { record {} };
+
+    ghost none = { λ f x a fits. refl };
+
+    ghost more = { λ f x y z a b c r p q. q ∙ p };
+
+    ghost wanting = { λ f x y a b fits p. p };
+
+    fn is_there(&self) -> bool {
+        false
+    }
+
+    fn pass<C: Calls>(
+        &mut self,
+        alloc: Global,
+        board: &Board,
+        gate: &C,
+        out: &mut O,
+    ) -> Result<(), NoMemory> {
+        let _ = alloc;
+        let _ = board;
+        let _ = gate;
+        let _ = out;
+        Ok(())
+    }
+
+    fn early(error: NoMemory) -> NoMemory {
+        error
+    }
 }

@@ -14,7 +14,7 @@ use crate::leaving::{bound_on_loads, goes_on};
 use armus_base::{Gate, List, NoMemory, Plan};
 use avoider::Judging;
 use board::{Board, TaskSeat, ViewSeat};
-use board_rounds::{BoardTasks, RoundSetting, Rounded};
+use board_rounds::{BoardTasks, Rounded, TurnSetting};
 use pl_core::Place;
 use std::alloc::Global;
 use std::thread::{Threads, join_mut};
@@ -152,7 +152,7 @@ impl<'p> BoardRun<'p> {
         ensures round { IfOk result (HasHadRound board.now self.new.plan.now with_pass self.old.board_tasks self.new.board_tasks) }
     {
         let workers = self.round_workers.workers(self.options.workers);
-        let setting = RoundSetting {
+        let setting = TurnSetting {
             rt,
             alloc: self.alloc,
             board,

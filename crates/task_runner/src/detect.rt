@@ -9,9 +9,9 @@ ghost use Rattle.task_runner.specs.inside.BoardRuns.{HaveAllEnded};
 ghost use Rattle.task_runner.specs.inside.DetectRounds.{IsUnderWay};
 ghost use Rattle.task_runner.specs.inside.LiveReporters.{HasPassed, SeesOn, TellsMore, TellsOn, Watches};
 
+use crate::beside::Nothing;
 use crate::board_run::BoardRun;
 use crate::live_reporter::LiveReporter;
-use crate::nothing::Nothing;
 use crate::rest::tell_rest;
 use crate::{Ran, RunEnd, RunOptions};
 use armus_base::{Gate, NoMemory, Plan, Sink};
@@ -19,7 +19,7 @@ use avoider::Judging;
 use board::{Board, Mode};
 use std::alloc::Global;
 use std::thread::Threads;
-use world_runs::end_from;
+use world_runs::world_end_from;
 
 /// Runs the plan on a board that detects deadlock. Its tasks take turns by rounds, with the given number of workers, until a round without an event or,
 /// without `live`, until the board costs too much; with `live` a detector makes one pass beside each round, and each task that it is the first to name has
@@ -107,18 +107,18 @@ fn end_run<G: Gate, K: Sink>(
     live_reporter.take_in(&board, board_tasks);
     last_pass(alloc, &board, &options, gate, &mut live_reporter, out)?;
     let (words, told, dead) = live_reporter.close(board);
-    let Ok(end) = end_from(alloc, plan, places.as_slice(), gate) else {
+    let Ok(ended) = world_end_from(alloc, plan, places.as_slice(), gate) else {
         return Err(RunEnd::NoMemory);
     };
     tell_rest(
         alloc,
-        end.blocked.as_slice(),
+        ended.end.blocked.as_slice(),
         told.as_slice(),
         &options,
         out,
     )?;
     Ok(Ran {
-        end,
+        end: ended.end,
         places,
         words,
         dead,

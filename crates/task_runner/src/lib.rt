@@ -2,14 +2,11 @@
 #![tactic(auto)]
 
 mod avoided;
-mod avoided_board;
 mod beside;
-mod board_name;
 mod board_run;
 mod detect;
 mod leaving;
 mod live_reporter;
-mod nothing;
 mod pool;
 mod pool_end;
 mod pool_worker;
@@ -17,10 +14,7 @@ mod pooled_task;
 mod ran;
 mod rest;
 mod site_runs;
-mod sweep;
 mod viewers;
-mod whole_ending;
-mod works_on_pool;
 
 pub use avoided::{run_avoid, run_avoid_kept};
 pub use board_rounds::{Task, round};

@@ -9,15 +9,14 @@ ghost use Rattle.world_runs.specs.calls.PlainRuns.{IsPlainEnd};
 ghost use Rattle.task_runner.specs.inside.Pooled.{AreAllWorkers};
 
 use crate::RunOptions;
-use crate::board_name::BoardName;
+use crate::leaving::MANY_LOADS;
 use crate::pool_end::end_run;
-use crate::pool_worker::PoolWorker;
-use crate::pooled_task::PooledTask;
-use crate::works_on_pool::WorksOnPool;
+use crate::pool_worker::{PoolWorker, WorksOnPool};
+use crate::pooled_task::{BoardName, PooledTask};
 use armus_base::{Final, Gate, List, NoMemory, Plan};
 use avoider::Judging;
 use board::{Board, Mode, TaskSeat, ViewSeat};
-use board_rounds::Calls;
+use board_rounds::{Calls, TurnSetting};
 use slot_pool::{Named, Pool, Worker};
 use std::alloc::Global;
 use std::marker::Brand;
@@ -83,7 +82,14 @@ fn run_on<N: BoardName + Send, R: Threads + Wait + Sync, G: Gate>(
     };
     let judging = Judging::Graph(run.options.wanted);
     let workers = engage(alloc, plan, workers.into_vec(), judging)?;
-    let workers = work_all(rt, alloc, &run.board, &pool, gate, workers)?;
+    let setting = TurnSetting {
+        rt,
+        alloc,
+        board: &run.board,
+        gate,
+        bound: MANY_LOADS,
+    };
+    let workers = work_all(&setting, &pool, workers)?;
     let mut tasks = Vec::new(alloc);
     let workers = dismiss(alloc, workers, &mut tasks)?;
     let entries = pool.close(workers).into_vec();
@@ -115,28 +121,21 @@ fn work_all<
     J: WorksOnPool<Q> + Send + Drop,
     R: Threads + Wait + Sync,
     C: Calls + Sync,
->(
-    rt: &R,
-    alloc: Global,
-    board: &Board,
-    pool: &Pool<Q>,
-    gate: &C,
-    workers: Vec<J>,
-) -> Result<Vec<J>, NoMemory>
-    requires board { board.now ≡ J.frame }
+>(setting: &TurnSetting<'_, R, C>, pool: &Pool<Q>, workers: Vec<J>) -> Result<Vec<J>, NoMemory>
+    requires board { setting.now.board.now ≡ J.frame }
     requires tasks { pool.now.tasks ≡ length J.frame.plan.parents }
     requires workers { AreAllWorkers pool.now (map J.worker_value workers.items) }
     ensures workers { IfOk result (λ v. AreAllWorkers pool.now (map J.worker_value v.items)) }
 {
     let work = |worker: J| -> J
-        requires { (board.now ≡ J.frame) × (pool.now.tasks ≡ length J.frame.plan.parents) × IsOfPool (J.worker_value worker) pool.now × (J.worker_value worker).view.has ≡ [] }
+        requires { (setting.now.board.now ≡ J.frame) × (pool.now.tasks ≡ length J.frame.plan.parents) × IsOfPool (J.worker_value worker) pool.now × (J.worker_value worker).view.has ≡ [] }
         ensures { IsSameWorker (J.worker_value worker) (J.worker_value result) × ((J.worker_value result).view.has ≡ []) }
     {
         let mut worker = worker;
-        worker.work(rt, alloc, board, pool, gate);
+        worker.work(setting, pool);
         worker
     };
-    let done = thread::map_vec(rt, workers, &work)?;
+    let done = thread::map_vec(setting.rt, workers, &work)?;
     Ok(done)
 }
 

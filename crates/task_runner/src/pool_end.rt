@@ -12,15 +12,14 @@ ghost use Rattle.board_rounds.specs.inside.Endings.{NotesPlaces, TakesAll};
 ghost use Rattle.world_runs.specs.calls.PlainRuns.{IsPlainEnd};
 ghost use Rattle.task_runner.specs.inside.Pooled.{AreForksMarked, AreClosedUnderForks, ContainsTask};
 
-use crate::board_name::BoardName;
 use crate::pool::PoolRun;
-use crate::pooled_task::PooledTask;
+use crate::pooled_task::{BoardName, PooledTask};
 use armus_base::{Cursor, Final, Gate, List, NoMemory, Op, Plan};
 use board::{Board, ViewSeat};
 use collector::Collector;
 use pl_core::Place;
 use std::alloc::Global;
-use world_runs::{end_from, run_plain};
+use world_runs::{run_plain, world_end_from};
 
 /// Ends the run of these tasks: a viewer takes their seats in, a detector makes one pass, and the board is closed; the run goes on in one thread from the
 /// places at which the tasks stood, or from the opening where one that was forked is not among them.
@@ -47,7 +46,8 @@ pub(crate) fn end_run<N: BoardName, G: Gate>(
     let _ = collector.pass(alloc, &mut view, &board, options.wanted)?;
     let _ = board.close(view);
     if whole {
-        return end_from(alloc, plan, places.as_slice(), gate);
+        let ended = world_end_from(alloc, plan, places.as_slice(), gate)?;
+        return Ok(ended.end);
     }
     run_plain(alloc, plan, gate)
 }

@@ -3,20 +3,73 @@ ghost use Rattle.std.specs.Prelude.{◌≡◌, ◌<◌, [], IfOk, IfSome, length
 ghost use Rattle.board_rounds.specs.calls.TaskSeats.{number};
 ghost use Rattle.slot_pool.specs.calls.PoolValues.{IsOfPool, IsSameWorker};
 
-use crate::board_name::BoardName;
 use crate::leaving::are_many;
-use crate::pooled_task::PooledTask;
-use crate::sweep::Sweep;
-use crate::works_on_pool::WorksOnPool;
+use crate::pooled_task::{BoardName, PooledTask};
 use armus_base::{NoMemory, Plan, TaskId};
 use avoider::Judging;
-use board::Board;
-use board_rounds::{Calls, Pause, WorkerCells};
-use slot_pool::{Claim, Pool, Worker};
+use board_rounds::{Calls, Pause, TurnSetting, WorkerCells};
+use slot_pool::{Claim, Named, Pool, Worker};
 use std::alloc::Global;
 use std::marker::Model;
 use std::sync::Wait;
 use std::thread::yield_now;
+
+/// A worker of a pool of such records. Workers side by side are proved for any type of them: what threads answer is known only where the type of a worker
+/// names no lifetime, or is a parameter.
+pub(crate) trait WorksOnPool<Q: Named> {
+    ghost use Rattle.board.specs.calls.Seats.{Frame};
+    ghost use Rattle.slot_pool.specs.calls.PoolValues.{WorkerValue};
+
+    // The board of the records.
+    ghost frame: { Frame };
+
+    // The worker as contracts see it.
+    ghost worker_value: { Self → WorkerValue };
+
+    /// Sweeps over the pool until a sweep in which it made no event and found no record with another worker, or until the board costs too much, or until it
+    /// meets want of memory. The gate is called before each op.
+    fn work<R: Wait, C: Calls>(&mut self, setting: &TurnSetting<'_, R, C>, pool: &Pool<Q>)
+        requires board { setting.now.board.now ≡ frame }
+        requires tasks { pool.now.tasks ≡ length frame.plan.parents }
+        requires made { IsOfPool (worker_value self.old) pool.now }
+        requires idle { (worker_value self.old).view.has ≡ [] }
+        ensures same { IsSameWorker (worker_value self.old) (worker_value self.new) }
+        ensures idle { (worker_value self.new).view.has ≡ [] };
+}
+
+/// What a worker found at one or several tasks.
+#[derive(Clone, Copy)]
+enum Sweep {
+    /// No event happened, and no other worker had a task.
+    Quiet,
+    /// No event happened, and another worker had a task.
+    Held,
+    /// An event happened.
+    Moved,
+}
+
+impl Sweep {
+    /// What it found at a task by which so many events happened.
+    fn after(events: u32) -> Sweep {
+        if events > 0 {
+            Sweep::Moved
+        } else {
+            Sweep::Quiet
+        }
+    }
+
+    /// What it found at both.
+    fn and(self, other: Sweep) -> Sweep {
+        match self {
+            Sweep::Quiet => other,
+            Sweep::Moved => Sweep::Moved,
+            Sweep::Held => match other {
+                Sweep::Moved => Sweep::Moved,
+                _ => Sweep::Held,
+            },
+        }
+    }
+}
 
 /// A worker of a pool of tasks. Contracts see it as the pool's worker.
 #[derive(Drop)]
@@ -51,14 +104,11 @@ impl<'p, N: BoardName> WorksOnPool<PooledTask<'p, N>> for PoolWorker<'p, N> {
 
     fn work<R: Wait, C: Calls>(
         &mut self,
-        rt: &R,
-        alloc: Global,
-        board: &Board,
+        setting: &TurnSetting<'_, R, C>,
         pool: &Pool<PooledTask<'p, N>>,
-        gate: &C,
     ) {
-        for _ in rt.forever() {
-            if !self.go_on(alloc, board, pool, gate) {
+        for _ in setting.rt.forever() {
+            if !self.go_on(setting, pool) {
                 return;
             }
         }
@@ -88,21 +138,19 @@ impl<'p, N: BoardName> PoolWorker<'p, N> {
     }
 
     // One sweep; answers whether another one is to come.
-    fn go_on<C: Calls>(
+    fn go_on<R, C: Calls>(
         &mut self,
-        alloc: Global,
-        board: &Board,
+        setting: &TurnSetting<'_, R, C>,
         pool: &Pool<PooledTask<'p, N>>,
-        gate: &C,
     ) -> bool
-        requires board { board.now ≡ N.board }
+        requires board { setting.now.board.now ≡ N.board }
         requires tasks { pool.now.tasks ≡ length N.board.plan.parents }
         requires made { IsOfPool self.old pool.now }
         requires idle { self.old.view.has ≡ [] }
         ensures same { IsSameWorker self.old self.new }
         ensures idle { self.new.view.has ≡ [] }
     {
-        match self.sweep(alloc, board, pool, gate) {
+        match self.sweep(setting, pool) {
             Ok(Sweep::Moved) => !self.costs_too_much(),
             Ok(Sweep::Held) => {
                 yield_now();
@@ -122,14 +170,12 @@ impl<'p, N: BoardName> PoolWorker<'p, N> {
     }
 
     // Visits each task, in order of number.
-    fn sweep<C: Calls>(
+    fn sweep<R, C: Calls>(
         &mut self,
-        alloc: Global,
-        board: &Board,
+        setting: &TurnSetting<'_, R, C>,
         pool: &Pool<PooledTask<'p, N>>,
-        gate: &C,
     ) -> Result<Sweep, NoMemory>
-        requires board { board.now ≡ N.board }
+        requires board { setting.now.board.now ≡ N.board }
         requires tasks { pool.now.tasks ≡ length N.board.plan.parents }
         requires made { IsOfPool self.old pool.now }
         requires idle { self.old.view.has ≡ [] }
@@ -137,23 +183,21 @@ impl<'p, N: BoardName> PoolWorker<'p, N> {
         ensures idle { self.new.view.has ≡ [] }
     {
         let mut found = Sweep::Quiet;
-        for t in 0..board.tasks() {
-            let here = self.visit(alloc, board, pool, gate, TaskId(t))?;
+        for t in 0..setting.board.tasks() {
+            let here = self.visit(setting, pool, TaskId(t))?;
             found = found.and(here);
         }
         Ok(found)
     }
 
     // Claims a task, gives it one turn, and puts it back.
-    fn visit<C: Calls>(
+    fn visit<R, C: Calls>(
         &mut self,
-        alloc: Global,
-        board: &Board,
+        setting: &TurnSetting<'_, R, C>,
         pool: &Pool<PooledTask<'p, N>>,
-        gate: &C,
         t: TaskId,
     ) -> Result<Sweep, NoMemory>
-        requires board { board.now ≡ N.board }
+        requires board { setting.now.board.now ≡ N.board }
         requires tasks { pool.now.tasks ≡ length N.board.plan.parents }
         requires task { t.0 < length N.board.plan.parents }
         requires made { IsOfPool self.old pool.now }
@@ -165,7 +209,7 @@ impl<'p, N: BoardName> PoolWorker<'p, N> {
             Claim::Empty => Ok(Sweep::Quiet),
             Claim::Held { by: _ } => Ok(Sweep::Held),
             Claim::Got(mut task) => {
-                let turned = self.turn(alloc, board, pool, gate, &mut task);
+                let turned = self.turn(setting, pool, &mut task);
                 self.worker.put(pool, task);
                 turned
             }
@@ -173,15 +217,13 @@ impl<'p, N: BoardName> PoolWorker<'p, N> {
     }
 
     // One turn of a task; each task that it forks is placed at once.
-    fn turn<C: Calls>(
+    fn turn<R, C: Calls>(
         &mut self,
-        alloc: Global,
-        board: &Board,
+        setting: &TurnSetting<'_, R, C>,
         pool: &Pool<PooledTask<'p, N>>,
-        gate: &C,
         task: &mut PooledTask<'p, N>,
     ) -> Result<Sweep, NoMemory>
-        requires board { board.now ≡ N.board }
+        requires board { setting.now.board.now ≡ N.board }
         requires tasks { pool.now.tasks ≡ length N.board.plan.parents }
         requires made { IsOfPool self.old pool.now }
         ensures same { IsSameWorker self.old self.new }
@@ -190,8 +232,7 @@ impl<'p, N: BoardName> PoolWorker<'p, N> {
     {
         let mut found = Sweep::Quiet;
         for _ in 0..u64::MAX {
-            let cells = &mut self.cells;
-            let (acted, child) = task.act(alloc, board, self.plan, cells, gate)?;
+            let (acted, child) = task.act(setting, self.plan, &mut self.cells)?;
             found = found.and(Sweep::after(acted.events));
             self.place(pool, child)?;
             match acted.pause {

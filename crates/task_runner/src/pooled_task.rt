@@ -6,15 +6,28 @@ ghost use Rattle.board_rounds.specs.calls.TaskSeats.{IsTaskSeat, number};
 ghost use Rattle.board_rounds.specs.calls.Turns.{standing_of};
 ghost use Rattle.task_runner.specs.inside.Pooled.{IsForked};
 
-use crate::board_name::BoardName;
-use crate::leaving::MANY_LOADS;
 use armus_base::{NoMemory, Plan, TaskId};
-use board::{Board, TaskSeat};
-use board_rounds::{Acted, Calls, Task, WorkerCells};
+use board::TaskSeat;
+use board_rounds::{Acted, Calls, Task, TurnSetting, WorkerCells};
 use pl_core::Place;
 use slot_pool::Named;
 use std::alloc::Global;
-use std::marker::{Model, PhantomData};
+use std::marker::{Brand, Model, PhantomData};
+
+/// A name of one board, which contracts alone see: the tasks of a pool keep that they are of a run on this board. A caller passes `Brand`, and its proof
+/// picks the board.
+pub(crate) trait BoardName {
+    ghost use Rattle.board.specs.calls.Seats.{Frame};
+
+    // The board.
+    ghost board: { Frame };
+}
+
+impl BoardName for Brand {
+    ghost use Rattle.task_runner.specs.inside.Pooled.{first_board};
+
+    ghost board = { first_board };
+}
 
 /// A task of a run on N's board, between two stretches of its turns: it has no child's seat.
 #[derive(Drop)]
@@ -62,22 +75,20 @@ impl<'p, N: BoardName> PooledTask<'p, N> {
 
     /// A stretch of its turn, which is cut short where its worker has loaded too much; answers what it was, and the task that it forked. After `NoMemory` it
     /// stands where its own steps brought it.
-    pub(crate) fn act<C: Calls>(
+    pub(crate) fn act<R, C: Calls>(
         &mut self,
-        alloc: Global,
-        board: &Board,
+        setting: &TurnSetting<'_, R, C>,
         plan: &'p Plan,
         cells: &mut WorkerCells,
-        gate: &C,
     ) -> Result<(Acted, Option<PooledTask<'p, N>>), NoMemory>
-        requires board { board.now ≡ N.board }
+        requires board { setting.now.board.now ≡ N.board }
         requires plan { N.board.plan ≡ plan.now }
         ensures same { number self.new ≡ number self.old }
         ensures child { IfOk result (λ r. IfSome r.1 (λ child. number child < length N.board.plan.parents)) }
     {
-        let acted = self.task.act(alloc, board, cells, MANY_LOADS, gate)?;
-        let seats = self.task.take_children(alloc).into_vec();
-        Ok((acted, last_of(alloc, seats, plan)))
+        let acted = self.task.act(setting, cells)?;
+        let seats = self.task.take_children(setting.alloc).into_vec();
+        Ok((acted, last_of(setting.alloc, seats, plan)))
     }
 
     /// Its number.

@@ -17,7 +17,7 @@ pub struct Ran {
 }
 
 /// Why a run ended early.
-#[derive(Clone, Copy, Debug, PartialEq, Eq)]
+#[derive(Clone, Copy)]
 pub enum RunEnd {
     /// The sink counted a fault.
     Write,

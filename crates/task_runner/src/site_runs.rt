@@ -16,7 +16,6 @@ ghost use Rattle.task_runner.specs.inside.SiteRounds.{IsWholeEnd};
 use crate::RunOptions;
 use crate::board_run::BoardRun;
 use crate::viewers::Viewers;
-use crate::whole_ending::whole_end_from;
 use adaptive::{Analysis, Wanted};
 use armus_base::{Final, Gate, List, NoMemory, Plan, Status};
 use avoider::Judging;
@@ -24,6 +23,7 @@ use board::{Board, Mode, ViewSeat};
 use sites::{KeepEnd, Keeper, SiteEnd, check_sites, put_parts};
 use std::alloc::Global;
 use std::thread::Threads;
+use world_runs::world_end_from;
 
 /// Runs the plan on a board that detects deadlock, its tasks spread over so many sites: site s has the tasks t with t mod `sites` = s. The tasks take
 /// turns by rounds, with the given number of workers, until a round without an event. Beside each round goes one pass over all sites: each puts what its
@@ -97,7 +97,9 @@ fn end_of_board<G: Gate>(
 {
     let (alloc, plan) = (run.alloc, run.plan);
     let places = run.leave(board, view)?;
-    whole_end_from(alloc, plan, places.as_slice(), gate)
+    let ended = world_end_from(alloc, plan, places.as_slice(), gate)?;
+    let statuses = ended.world.statuses(alloc)?;
+    Ok((ended.end, statuses))
 }
 
 // Puts each site's part of the statuses, and then checks all rows.

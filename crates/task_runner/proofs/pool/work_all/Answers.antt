@@ -8,7 +8,7 @@ use Rattle.task_runner.proofs.pool.work_all.Goals as goal
 
 pub map_vec-requires-sync-F : goal.map_vec-requires-sync-F
 map_vec-requires-sync-F g c κs within =
-    param_sync 4 _ (arg_sync _ no _ (work_sync _ _ _ _ _ _ (param 2 g.row.R) (param 0 g.row.Q) (param 3 g.row.C) _ tt tt (search rules) (search rules) (search rules)))
+    param_sync 4 _ (arg_sync _ no _ (work_sync _ _ _ _ (param 2 g.row.R) (param 0 g.row.Q) (param 3 g.row.C) _ (search rules) (search rules) (search rules)))
 
 pub map_vec-requires-after_bounds : goal.map_vec-requires-after_bounds
 map_vec-requires-after_bounds g c κs within = λ i x l is.

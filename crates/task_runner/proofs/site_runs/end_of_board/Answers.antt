@@ -7,6 +7,7 @@ use Rattle.pl_core.specs.declared.place.Place.{Place as KeptPlace}
 use Rattle.pl_core.specs.calls.Worlds.{places_at}
 use Rattle.board.specs.declared.mode.Mode.{Mode}
 use Rattle.board.specs.calls.Views.{avoids}
+use Rattle.task_runner.proofs.SitesWatched.{whole_end}
 use Rattle.task_runner.proofs.UnrefusedPlaces.{unrefused_places}
 use Rattle.task_runner.proofs.site_runs.end_of_board.Goals.{In_ok-places}
 use Rattle.task_runner.proofs.site_runs.end_of_board.Goals as goal
@@ -21,20 +22,27 @@ detected g c =
 pub leave-requires-clause-ends : goal.leave-requires-clause-ends
 leave-requires-clause-ends g c = (true, c.requires.ends)
 
-pub whole_end_from-requires-clause-one_each : goal.whole_end_from-requires-clause-one_each
-whole_end_from-requires-clause-one_each g c κs within = ap length c.as_slice.ensures.items ∙ c.in_ok-places.ensures.one_each
+pub world_end_from-requires-clause-one_each : goal.world_end_from-requires-clause-one_each
+world_end_from-requires-clause-one_each g c κs within = ap length c.as_slice.ensures.items ∙ c.in_ok-places.ensures.one_each
 
-pub whole_end_from-requires-clause-reachable : goal.whole_end_from-requires-clause-reachable
-whole_end_from-requires-clause-reachable g c κs within =
+pub world_end_from-requires-clause-reachable : goal.world_end_from-requires-clause-reachable
+world_end_from-requires-clause-reachable g c κs within =
     let plan = c.args.run.plan.now in
     let places : List KeptPlace = c.in_ok-places.places in
-    let lawful = detected g (goal.at.whole_end_from-requires-clause-reachable g c).In_ok-places in
+    let lawful = detected g (goal.at.world_end_from-requires-clause-reachable g c).In_ok-places in
     subst (λ (xs : List KeptPlace). IsReachable plan (places_at plan xs)) (sym c.as_slice.ensures.items)
     (lawful_is_reachable false plan (places_at plan places) c.in_ok-places.ensures.lawful.0 lawful)
 
-pub whole_end_from-requires-clause-plain : goal.whole_end_from-requires-clause-plain
-whole_end_from-requires-clause-plain g c κs within = λ t place is.
+pub world_end_from-requires-clause-plain : goal.world_end_from-requires-clause-plain
+world_end_from-requires-clause-plain g c κs within = λ t place is.
     let plan = c.args.run.plan.now in
     let places : List KeptPlace = c.in_ok-places.places in
-    let lawful = detected g (goal.at.whole_end_from-requires-clause-plain g c).In_ok-places in
+    let lawful = detected g (goal.at.world_end_from-requires-clause-plain g c).In_ok-places in
     unrefused_places plan places c.in_ok-places.ensures.lawful.0 lawful t place (ap (λ (xs : List KeptPlace). slice_get xs t) (sym c.as_slice.ensures.items) ∙ is)
+
+pub returns : goal.returns
+returns g c =
+    record {
+      end = whole_end c.args.run.plan.now c.in_ok-ended.ended c.in_ok-statuses.statuses c.in_ok-ended.ensures.checked c.in_ok-ended.ensures.end
+          c.in_ok-statuses.ensures.statuses;
+    }

@@ -6,7 +6,7 @@ use Rattle.pl_core.specs.declared.place.Place.{Place as KeptPlace}
 use Rattle.pl_core.specs.calls.Worlds.{places_at}
 use Rattle.board.specs.declared.mode.Mode.{Mode}
 use Rattle.board.specs.calls.Views.{avoids}
-use Rattle.task_runner.proofs.avoided_board.avoid_on_board.Goals as goal
+use Rattle.task_runner.proofs.avoided.avoid_by.Goals as goal
 
 pub leave-requires-clause-unknown : goal.leave-requires-clause-unknown
 leave-requires-clause-unknown g c = λ u. ap (λ (s : SeenBy). s.exact u) c.in_ok-board.ensures.viewer.seen_is
