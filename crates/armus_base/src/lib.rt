@@ -27,7 +27,7 @@ mod write;
 pub use code::Code;
 pub use cursor::Cursor;
 pub use ending::{Final, TaskEnd};
-pub use errors::{Failed, NoMemory, ReadEnd, WriteFault};
+pub use errors::{Failed, NoMemory, ReadEnd, WantOfMemory, WriteFault};
 pub use event::Event;
 pub use ids::{Phase, PhaserId, TaskId};
 pub use laws::{

@@ -4,8 +4,8 @@ ghost use Rattle.std.specs.Prelude.{◌≡◌, string_bytes, IfOk};
 ghost use Rattle.clock_pl.specs.declared.fault.ClockEnd.TheVariants as ends;
 ghost use Rattle.clock_pl.specs.ClockLines.{clock_fault_line};
 
-use armus_base::{List, NoMemory};
-use std::alloc::{AllocError, AllocFailed, Global};
+use armus_base::{List, NoMemory, WantOfMemory};
+use std::alloc::{AllocError, Global};
 use thiserror::Error;
 
 /// The kind of a name that stands for no clock.
@@ -56,26 +56,10 @@ pub enum ClockEnd {
     NoMemory,
 }
 
-impl From<NoMemory> for ClockEnd {
+impl<E: WantOfMemory> From<E> for ClockEnd {
     ghost from_gives = { λ _ e. e ≡ ends.NoMemory };
 
-    fn from(_e: NoMemory) -> ClockEnd {
-        ClockEnd::NoMemory
-    }
-}
-
-impl From<AllocError> for ClockEnd {
-    ghost from_gives = { λ _ e. e ≡ ends.NoMemory };
-
-    fn from(_e: AllocError) -> ClockEnd {
-        ClockEnd::NoMemory
-    }
-}
-
-impl<T: Drop> From<AllocFailed<T>> for ClockEnd {
-    ghost from_gives = { λ _ e. e ≡ ends.NoMemory };
-
-    fn from(_e: AllocFailed<T>) -> ClockEnd {
+    fn from(_e: E) -> ClockEnd {
         ClockEnd::NoMemory
     }
 }

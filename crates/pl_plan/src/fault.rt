@@ -3,8 +3,7 @@
 ghost use Rattle.std.specs.Prelude.{◌≡◌};
 ghost use Rattle.pl_plan.specs.declared.fault.PlanEnd.TheVariants as ends;
 
-use armus_base::NoMemory;
-use std::alloc::{AllocError, AllocFailed};
+use armus_base::WantOfMemory;
 use thiserror::Error;
 
 /// The kind of a name that stands for nothing where it is used.
@@ -61,26 +60,10 @@ pub enum PlanEnd {
     NoMemory,
 }
 
-impl From<NoMemory> for PlanEnd {
+impl<E: WantOfMemory> From<E> for PlanEnd {
     ghost from_gives = { λ _ e. e ≡ ends.NoMemory };
 
-    fn from(_e: NoMemory) -> PlanEnd {
-        PlanEnd::NoMemory
-    }
-}
-
-impl From<AllocError> for PlanEnd {
-    ghost from_gives = { λ _ e. e ≡ ends.NoMemory };
-
-    fn from(_e: AllocError) -> PlanEnd {
-        PlanEnd::NoMemory
-    }
-}
-
-impl<T: Drop> From<AllocFailed<T>> for PlanEnd {
-    ghost from_gives = { λ _ e. e ≡ ends.NoMemory };
-
-    fn from(_e: AllocFailed<T>) -> PlanEnd {
+    fn from(_e: E) -> PlanEnd {
         PlanEnd::NoMemory
     }
 }

@@ -3,8 +3,7 @@
 ghost use Rattle.std.specs.Prelude.{◌≡◌};
 ghost use Rattle.pl_syntax.specs.declared.fault.ParseEnd.TheVariants as ends;
 
-use armus_base::NoMemory;
-use std::alloc::{AllocError, AllocFailed};
+use armus_base::WantOfMemory;
 use thiserror::Error;
 
 /// The kind of a byte that begins no token, and of a word with a capital letter or a first `_` that is no keyword.
@@ -42,26 +41,10 @@ pub enum ParseEnd {
     NoMemory,
 }
 
-impl From<NoMemory> for ParseEnd {
+impl<E: WantOfMemory> From<E> for ParseEnd {
     ghost from_gives = { λ _ e. e ≡ ends.NoMemory };
 
-    fn from(_e: NoMemory) -> ParseEnd {
-        ParseEnd::NoMemory
-    }
-}
-
-impl From<AllocError> for ParseEnd {
-    ghost from_gives = { λ _ e. e ≡ ends.NoMemory };
-
-    fn from(_e: AllocError) -> ParseEnd {
-        ParseEnd::NoMemory
-    }
-}
-
-impl<T: Drop> From<AllocFailed<T>> for ParseEnd {
-    ghost from_gives = { λ _ e. e ≡ ends.NoMemory };
-
-    fn from(_e: AllocFailed<T>) -> ParseEnd {
+    fn from(_e: E) -> ParseEnd {
         ParseEnd::NoMemory
     }
 }

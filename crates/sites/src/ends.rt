@@ -4,8 +4,7 @@ ghost use Rattle.sites.specs.declared.ends.DecodeEnd.TheVariants as decode_ends;
 ghost use Rattle.sites.specs.declared.ends.KeepEnd.TheVariants as keep_ends;
 ghost use Rattle.sites.specs.declared.ends.SiteEnd.TheVariants as site_ends;
 
-use armus_base::NoMemory;
-use std::alloc::{AllocError, AllocFailed};
+use armus_base::WantOfMemory;
 
 /// Why a keeper gave no answer.
 #[derive(Clone, Copy, Debug, PartialEq, Eq)]
@@ -36,50 +35,26 @@ pub enum SiteEnd {
     NoMemory,
 }
 
-impl From<NoMemory> for DecodeEnd {
+impl<E: WantOfMemory> From<E> for DecodeEnd {
     ghost from_gives = { λ _ e. e ≡ decode_ends.NoMemory };
 
-    fn from(_e: NoMemory) -> DecodeEnd {
+    fn from(_e: E) -> DecodeEnd {
         DecodeEnd::NoMemory
     }
 }
 
-impl From<AllocError> for DecodeEnd {
-    ghost from_gives = { λ _ e. e ≡ decode_ends.NoMemory };
-
-    fn from(_e: AllocError) -> DecodeEnd {
-        DecodeEnd::NoMemory
-    }
-}
-
-impl<T: Drop> From<AllocFailed<T>> for DecodeEnd {
-    ghost from_gives = { λ _ e. e ≡ decode_ends.NoMemory };
-
-    fn from(_e: AllocFailed<T>) -> DecodeEnd {
-        DecodeEnd::NoMemory
-    }
-}
-
-impl From<NoMemory> for KeepEnd {
+impl<E: WantOfMemory> From<E> for KeepEnd {
     ghost from_gives = { λ _ e. e ≡ keep_ends.NoMemory };
 
-    fn from(_e: NoMemory) -> KeepEnd {
+    fn from(_e: E) -> KeepEnd {
         KeepEnd::NoMemory
     }
 }
 
-impl From<AllocError> for KeepEnd {
-    ghost from_gives = { λ _ e. e ≡ keep_ends.NoMemory };
-
-    fn from(_e: AllocError) -> KeepEnd {
-        KeepEnd::NoMemory
-    }
-}
-
-impl From<NoMemory> for SiteEnd {
+impl<E: WantOfMemory> From<E> for SiteEnd {
     ghost from_gives = { λ _ e. e ≡ site_ends.NoMemory };
 
-    fn from(_e: NoMemory) -> SiteEnd {
+    fn from(_e: E) -> SiteEnd {
         SiteEnd::NoMemory
     }
 }
