@@ -12,7 +12,8 @@ use Rattle.pl_plan.specs.inside.CheckerSteps.{HasNames, checker_act, checker_cou
 use Rattle.pl_plan.specs.inside.Shows.{ShowsState}
 use Rattle.pl_plan.specs.inside.Simulates.{KeepsAll, Simulates}
 use Rattle.pl_plan.specs.inside.Steps.{IsStep}
-use Rattle.pl_plan.proofs.ByTable.{answer, first_if, first_kind, passes_if, visit_by}
+use Rattle.pl_plan.proofs.ByTable.{first_if, first_kind, passes_if, visit_by}
+use Rattle.pl_plan.proofs.FirstRows.{answer}
 use Rattle.pl_plan.proofs.Onward.{count_keeps, respell}
 use Rattle.pl_plan.proofs.Simulating as simulating
 use Rattle.pl_plan.proofs.Walks.{keeps_acting, keeps_ok, simulates_acting}

@@ -14,7 +14,8 @@ use Rattle.pl_plan.specs.declared.step.Thing.TheVariants as a_thing
 use Rattle.pl_plan.specs.inside.Checker.{Checker, thing_at}
 use Rattle.pl_plan.specs.inside.CheckerSteps.{thing_of}
 use Rattle.pl_plan.specs.inside.Shows.{ShowsState}
-use Rattle.pl_plan.proofs.ByTable.{first_kind, kind_or, kind_some}
+use Rattle.pl_plan.proofs.ByTable.{first_kind, kind_some}
+use Rattle.pl_plan.proofs.FirstRows.{kind_or}
 use Rattle.check_scenes.specs.Deeds.{did_draw, did_fork, did_leave, did_make, name_given, did_register, stage_statement}
 use Rattle.check_scenes.specs.Scenes.{IsScene, Past, about, about_cells, about_drawn, about_member, about_name, about_names, about_registered, about_visit, done_by, drawn_at, forked_at, made_at, named_phaser, named_task, parent_number, current_task, turns_around}
 use Rattle.check_scenes.specs.Turns.{loops_around, loops_of, turn_in, turns_in, visits_among}

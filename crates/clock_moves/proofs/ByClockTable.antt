@@ -6,13 +6,13 @@ use Rattle.std.specs.Str.{bytes_eq}
 use Rattle.std.proofs.lemmas.Bool.{leb-true, le-leb, ne_eqb}
 use Rattle.std.proofs.lemmas.Bool.Decides.{nat_tests}
 use Rattle.std.proofs.lemmas.List.{length-append, length-map}
-use Rattle.armus_base.proofs.Elements.{Contains-cons_cases, Contains-head, Contains-tail, nothing_in_nil}
 use Rattle.armus_base.specs.Limits.{max_ops}
 use Rattle.armus_base.specs.declared.offset.Offset.TheVariants.{Here}
 use Rattle.armus_base.specs.declared.op.Op.{Op}
 use Rattle.armus_base.specs.declared.op.Op.TheVariants as op
 use Rattle.pl_plan.specs.Unfolding.{Outcome, ◌>>=◌, fault, fault_unless, phaser, task}
 use Rattle.pl_plan.specs.declared.fault.CheckFault.{CheckFault}
+use Rattle.pl_plan.proofs.FirstRows.{answer, first_in, first_of, first_of-append, kind_or, kind_some, none_kind, passes_in, step}
 use Rattle.clock_syntax.specs.Trees.{ClockPlain, ClockTree, advance, clock, drop, resume, skip}
 use Rattle.clock_moves.specs.Moves.{Move, advances, begins, drops, ends, opens, ops_of, resumes, starts, stops}
 use Rattle.clock_moves.specs.Unfolding.{ClockPart, ClockUnfolding, a_close, a_finish, a_loop, a_plain, a_turn, an_async, act_async, act_close, act_finish, act_plain, as_clock, clock_act, clock_of, clocks_of, come, coming, count_clock_visit, governed_by, innermost, listed_twice, move_at, next_activity, next_clock, not_registered, start_at, still_pending, stop, naming, too_many_activities, too_many_clock_cells, too_many_clock_ops, too_many_clock_visits, too_many_clocks, with_activity, with_clock_made, with_move}
@@ -20,23 +20,18 @@ use Rattle.clock_moves.specs.calls.ClockTests.{ClockRow, ComesByTable, FaultsByT
 
 -- ---- the first row at fault, computed
 
-abbrev kind_or : Bool → ℕ → Option ℕ → Option ℕ
-kind_or true kind o = Some kind
-kind_or false kind o = o
+abbrev kind_in : ClockRow → ℕ
+kind_in r = r.kind
+
+abbrev fails_at : ClockUnfolding → ClockRow → Bool
+fails_at u r = r.fails u
 
 -- that of these rows, or else this
 abbrev first_then : List ClockRow → ClockUnfolding → Option ℕ → Option ℕ
-first_then [] u rest = rest
-first_then (r ∷ rows) u rest = kind_or (r.fails u) r.kind (first_then rows u rest)
+first_then rows u rest = first_of ClockRow kind_in (fails_at u) rows rest
 
 first_then-append : (xs ys : List ClockRow) (u : ClockUnfolding) (rest : Option ℕ) → first_then (xs ++ ys) u rest ≡ first_then xs u (first_then ys u rest)
-first_then-append [] ys u rest = refl
-first_then-append (x ∷ xs) ys u rest = ap (kind_or (x.fails u) x.kind) (first_then-append xs ys u rest)
-
--- the unfolding, or the fault of this kind at statement n
-abbrev answer : ℕ → Option ℕ → ClockUnfolding → Outcome ClockUnfolding
-answer n None w = Ok w
-answer n (Some kind) w = Err (fault kind n)
+first_then-append xs ys u rest = first_of-append ClockRow kind_in (fails_at u) xs ys rest
 
 -- ---- what a coming answers
 
@@ -45,12 +40,6 @@ bind_assoc (Ok x) f g = refl
 bind_assoc (Err e) f g = refl
 
 module _ (n : ℕ) (w : ClockUnfolding) where
-  -- one test, and then the rest
-  step : (good : Bool) (kind : ℕ) (rest : Option ℕ) (o : Outcome ClockUnfolding) → o ≡ answer n rest w →
-      (fault_unless good kind n >>= λ _. o) ≡ answer n (kind_or (not good) kind rest) w
-  step true kind rest o e = e
-  step false kind rest o e = refl
-
   module _ (u : ClockUnfolding) where
     name_step :
         (idle : Bool) (earlier : List (List ℕ)) (x : List ℕ) (f : ℕ → Outcome ClockUnfolding) (rest : Option ℕ) → f (clock_named u x) ≡ answer n rest w →
@@ -100,7 +89,7 @@ op_step :
 unfolding move_at
 op_step t n m v k is some =
     ap (λ z. fault_unless (nat_le (v.ops + z) max_ops) too_many_clock_ops n >>= λ _. Ok (with_move t m v)) is
-    ∙ step n (with_move t m v) (nat_le (v.ops + k) max_ops) 8 None (Ok (with_move t m v)) refl
+    ∙ step (nat_le (v.ops + k) max_ops) 8 n None (with_move t m v) (Ok (with_move t m v)) refl
     ∙ ap (λ b. answer n (kind_or (not b && not (nat_le (v.ops + k) 1048576)) 8 None) (with_move t m v)) (sym some)
 
 module _ (t n : ℕ) (u : ClockUnfolding) where
@@ -279,76 +268,22 @@ come_is t n a_turn u = visit_step t n a_turn u
 
 -- ---- the first row at fault
 
-module _ (u : ClockUnfolding) where
-  one_more : (q : ClockRow) (rows : List ClockRow) → q.fails u ≡ false → PassesClockTable rows u → PassesClockTable (q ∷ rows) u
-  one_more q rows is rest r m =
-      elim (Contains-cons_cases q rows r m) [
-        | inl same ↦ ap (λ (z : ClockRow). z.fails u) (sym same) ∙ is
-        | inr later ↦ rest r later
-      ]
+first_fault : (rows : List ClockRow) (u : ClockUnfolding) (kind : ℕ) → first_then rows u None ≡ Some kind → IsFirstClockFault rows u kind
+first_fault rows u kind e =
+    let f = first_in ClockRow kind_in (fails_at u) rows kind e in
+    record { before = f.before; failing = f.failing; after = f.after; of_table = f.of_rows; passed = f.passed; fails = f.fails_here; kind_is = f.kind_is }
 
-  passes_by :
-      (q : ClockRow) (rows : List ClockRow) (b : Bool) → q.fails u ≡ b → kind_or b q.kind (first_then rows u None) ≡ None →
-      (first_then rows u None ≡ None → PassesClockTable rows u) → PassesClockTable (q ∷ rows) u
-  passes_by q rows true is e rest = absurd (cc)
-  passes_by q rows false is e rest = one_more q rows is (rest e)
-
-  passes_in : (rows : List ClockRow) → first_then rows u None ≡ None → PassesClockTable rows u
-  passes_in [] none = λ r m. absurd (nothing_in_nil r m)
-  passes_in (q ∷ rows) none = passes_by q rows (q.fails u) refl none (passes_in rows)
-
-  first_by :
-      (q : ClockRow) (rows : List ClockRow) (kind : ℕ) (b : Bool) → q.fails u ≡ b → kind_or b q.kind (first_then rows u None) ≡ Some kind →
-      (first_then rows u None ≡ Some kind → IsFirstClockFault rows u kind) → IsFirstClockFault (q ∷ rows) u kind
-  first_by q rows kind true is e rest =
-      record {
-        before = [];
-        failing = q;
-        after = rows;
-        of_table = refl;
-        passed = λ r m. absurd (nothing_in_nil r m);
-        fails = is;
-        kind_is = cc;
-      }
-  first_by q rows kind false is e rest =
-      let f = rest e in
-      record {
-        before = q ∷ f.before;
-        failing = f.failing;
-        after = f.after;
-        of_table = ap (λ z. q ∷ z) f.of_table;
-        passed = one_more q f.before is f.passed;
-        fails = f.fails;
-        kind_is = f.kind_is;
-      }
-
-  first_in : (rows : List ClockRow) (kind : ℕ) → first_then rows u None ≡ Some kind → IsFirstClockFault rows u kind
-  first_in [] kind e = absurd (cc)
-  first_in (q ∷ rows) kind e = first_by q rows kind (q.fails u) refl e (first_in rows kind)
-
-  -- and back
-  none_kind : (rows : List ClockRow) → PassesClockTable rows u → first_then rows u None ≡ None
-  none_kind [] all = refl
-  none_kind (q ∷ rows) all =
-      ap (λ b. kind_or b q.kind (first_then rows u None)) (all q (Contains-head q rows)) ∙ none_kind rows (λ r m. all r (Contains-tail q rows r m))
-
-  kind_behind :
-      (before : List ClockRow) (failing : ClockRow) (after : List ClockRow) → PassesClockTable before u → failing.fails u ≡ true →
-      first_then (before ++ (failing ∷ after)) u None ≡ Some failing.kind
-  kind_behind [] failing after passed fails = ap (λ b. kind_or b failing.kind (first_then after u None)) fails
-  kind_behind (q ∷ before) failing after passed fails =
-      ap (λ b. kind_or b q.kind (first_then (before ++ (failing ∷ after)) u None)) (passed q (Contains-head q before))
-      ∙ kind_behind before failing after (λ r m. passed r (Contains-tail q before r m)) fails
-
-  kind_some : (rows : List ClockRow) (kind : ℕ) → IsFirstClockFault rows u kind → first_then rows u None ≡ Some kind
-  kind_some rows kind f =
-      ap (λ z. first_then z u None) f.of_table ∙ kind_behind f.before f.failing f.after f.passed f.fails ∙ ap Some f.kind_is
+-- and back
+kind_of_first : (rows : List ClockRow) (u : ClockUnfolding) (kind : ℕ) → IsFirstClockFault rows u kind → first_then rows u None ≡ Some kind
+kind_of_first rows u kind f =
+    kind_some ClockRow kind_in (fails_at u) rows kind
+    (record { before = f.before; failing = f.failing; after = f.after; of_rows = f.of_table; passed = f.passed; fails_here = f.fails; kind_is = f.kind_is })
 
 -- ---- the laws
 
 module _ (n : ℕ) (rows : List ClockRow) (u w : ClockUnfolding) where
   answered : (o : Option ℕ) (z : ClockUnfolding) → first_then rows u None ≡ o → answer n o w ≡ Ok z → PassesClockTable rows u × z ≡ w
-  answered None z is e = (passes_in u rows is, sym (same w z e))
+  answered None z is e = (passes_in ClockRow kind_in (fails_at u) rows is, sym (same w z e))
     where
       same : (x y : ClockUnfolding) → ◌≡◌ {A = Outcome ClockUnfolding} (Ok x) (Ok y) → x ≡ y
       same x y e = cc
@@ -358,14 +293,14 @@ module _ (n : ℕ) (rows : List ClockRow) (u w : ClockUnfolding) where
   at_fault None f is e = absurd cc
   at_fault (Some kind) f is e =
       let same : fault kind n ≡ f = cc in
-      (ap (λ (z : CheckFault). z.statement) (sym same), first_in u rows f.kind (is ∙ ap (λ (z : CheckFault). Some z.kind) same))
+      (ap (λ (z : CheckFault). z.statement) (sym same), first_fault rows u f.kind (is ∙ ap (λ (z : CheckFault). Some z.kind) same))
 
 pub comes_by_table : ComesByTable
 comes_by_table t m u w = (
   λ e. answered m.statement (clock_table m.part) u (clock_done t m.statement m.part (visited m.part u)) (first_then (clock_table m.part) u None) w refl
       (sym (come_is t m.statement m.part u) ∙ e),
   λ h. come_is t m.statement m.part u
-      ∙ ap (λ o. answer m.statement o (clock_done t m.statement m.part (visited m.part u))) (none_kind u (clock_table m.part) h.0) ∙ ap Ok (sym h.1),
+      ∙ ap (λ o. answer m.statement o (clock_done t m.statement m.part (visited m.part u))) (none_kind ClockRow kind_in (fails_at u) (clock_table m.part) h.0) ∙ ap Ok (sym h.1),
 )
 
 pub faults_by_table : FaultsByTable
@@ -373,7 +308,7 @@ faults_by_table t m u f = (
   λ e. at_fault m.statement (clock_table m.part) u (clock_done t m.statement m.part (visited m.part u)) (first_then (clock_table m.part) u None) f refl
       (sym (come_is t m.statement m.part u) ∙ e),
   λ h. come_is t m.statement m.part u
-      ∙ ap (λ o. answer m.statement o (clock_done t m.statement m.part (visited m.part u))) (kind_some u (clock_table m.part) f.kind h.1)
+      ∙ ap (λ o. answer m.statement o (clock_done t m.statement m.part (visited m.part u))) (kind_of_first (clock_table m.part) u f.kind h.1)
       ∙ ap (λ n. Err (fault f.kind n)) (sym h.0),
 )
 
@@ -389,7 +324,7 @@ module _ (t n : ℕ) (u : ClockUnfolding) where
   stop_is : stop t n u ≡ answer n (kind_or (not (nat_le many 1048576)) 8 None) stopped
   unfolding stop move_at
   stop_is =
-      step n stopped (nat_le (u.ops + length (ops_of u.now.standing (stops (left_at_end u)))) max_ops) 8 None (Ok stopped) refl
+      step (nat_le (u.ops + length (ops_of u.now.standing (stops (left_at_end u)))) max_ops) 8 n None stopped (Ok stopped) refl
       ∙ ap (λ k. answer n (kind_or (not (nat_le (u.ops + k) 1048576)) 8 None) stopped) (length-map (left_at_end u) (λ p. op.Drop (phaser p)))
 
   with_room : (b : Bool) (w : ClockUnfolding) → nat_le many 1048576 ≡ b → answer n (kind_or (not b) 8 None) stopped ≡ Ok w → many ≤ 1048576 × w ≡ stopped

@@ -1,126 +1,44 @@
 -- A stage does what its tests, made row by row, say.
 use Rattle.std.proofs.Common.{◌≡◌, ℕ, ◌+◌, ◌*◌, Bool, true, false, not, Some, None, Ok, Err, Option, List, [], ◌∷◌, ◌++◌, sym, ◌∙◌, ap, refl, inl, inr}
-use Rattle.std.specs.Prelude.{◌||◌, Contains, is_none, nat_le, nat_lt, length, sum_by}
-use Rattle.armus_base.proofs.Elements.{Contains-cons_cases, Contains-head, Contains-tail, nothing_in_nil}
+use Rattle.std.specs.Prelude.{◌||◌, is_none, nat_le, nat_lt, length, sum_by}
 use Rattle.armus_base.specs.declared.op.Op.{Op}
 use Rattle.armus_base.specs.declared.op.Op.TheVariants as op
 use Rattle.pl_syntax.specs.Tree.{new_task, new_phaser, reg, dereg, adv, await, skip}
 use Rattle.pl_plan.specs.Unfolding.{Coming, a_plain, a_fork, a_loop, a_turn, Visit, UnfoldingState, Start, Thing, a_task, a_phaser, Outcome, ◌>>=◌, fault, fault_unless, as_task, as_phaser, unforked_child, member_of, task, phaser, add_op, act, act_fork, come_to, count_visit, make_visit, with_member, with_members, with_new_phaser, with_start}
-use Rattle.pl_plan.specs.Tests.{Row, is_phaser, is_task, phaser_number, task_number, IsFirstFailing, Passes, drew, is_forked, table, first_unknown, first_of_other_kind, second_unknown, second_of_other_kind, not_drawn, forked_already, no_member, member_already, no_task_left, no_phaser_left, no_cell_left, no_op_left}
+use Rattle.pl_plan.specs.Tests.{Row, is_phaser, is_task, phaser_number, task_number, IsFirstFailing, Passes, drew, is_forked, table}
 use Rattle.pl_plan.specs.Stages.{after_stage, done_at, comes, with_code}
+use Rattle.pl_plan.proofs.FirstRows.{answer, first_in, first_of, kind_or, kind_some as kind_some_in, none_kind, passes_in, step}
 
 -- ---- the first row at fault, computed
 
-abbrev pub kind_or : Bool → ℕ → Option ℕ → Option ℕ
-kind_or true kind o = Some kind
-kind_or false kind o = o
+abbrev kind_in : Row → ℕ
+kind_in r = r.kind
+
+abbrev fails_at : UnfoldingState → ℕ → Coming → Row → Bool
+fails_at s t c r = r.fails s t c
 
 abbrev pub first_kind : List Row → UnfoldingState → ℕ → Coming → Option ℕ
-first_kind [] s t c = None
-first_kind (r ∷ rows) s t c = kind_or (r.fails s t c) r.kind (first_kind rows s t c)
+first_kind rows s t c = first_of Row kind_in (fails_at s t c) rows None
 
 module _ (s : UnfoldingState) (t : ℕ) (c : Coming) where
-  -- where no row is at fault, none of them is
-  abbrev NoneFails : List Row → Type 0
-  NoneFails rows = (r : Row) → Contains rows r → r.fails s t c ≡ false
-
-  one_more : (q : Row) (rows : List Row) → q.fails s t c ≡ false → NoneFails rows → NoneFails (q ∷ rows)
-  one_more q rows is rest r m =
-      elim (Contains-cons_cases q rows r m) [
-        | inl same ↦ ap (λ (z : Row). z.fails s t c) (sym same) ∙ is
-        | inr later ↦ rest r later
-      ]
-
-  passes_by : (q : Row) (rows : List Row) (b : Bool) → q.fails s t c ≡ b → kind_or b q.kind (first_kind rows s t c) ≡ None →
-      (first_kind rows s t c ≡ None → NoneFails rows) → NoneFails (q ∷ rows)
-  passes_by q rows true is e rest = absurd (cc)
-  passes_by q rows false is e rest = one_more q rows is (rest e)
-
-  passes_in : (rows : List Row) → first_kind rows s t c ≡ None → NoneFails rows
-  passes_in [] none = λ r m. absurd (nothing_in_nil r m)
-  passes_in (q ∷ rows) none = passes_by q rows (q.fails s t c) refl none (passes_in rows)
-
   pub passes_if : first_kind table s t c ≡ None → Passes s t c
-  passes_if = passes_in table
-
-  -- the first row at fault of some rows
-  record IsFirstIn (rows : List Row) (kind : ℕ) : Type 0 where
-    before : List Row
-    failing : Row
-    after : List Row
-    of_rows : rows ≡ before ++ (failing ∷ after)
-    passed : NoneFails before
-    fails : failing.fails s t c ≡ true
-    kind_is : failing.kind ≡ kind
-
-  first_by :
-      (q : Row) (rows : List Row) (kind : ℕ) (b : Bool) → q.fails s t c ≡ b → kind_or b q.kind (first_kind rows s t c) ≡ Some kind →
-      (first_kind rows s t c ≡ Some kind → IsFirstIn rows kind) → IsFirstIn (q ∷ rows) kind
-  first_by q rows kind true is e rest =
-      record {
-        before = [];
-        failing = q;
-        after = rows;
-        of_rows = refl;
-        passed = λ r m. absurd (nothing_in_nil r m);
-        fails = is;
-        kind_is = cc;
-      }
-  first_by q rows kind false is e rest =
-      let f = rest e in
-      record {
-        before = q ∷ f.before;
-        failing = f.failing;
-        after = f.after;
-        of_rows = ap (λ z. q ∷ z) f.of_rows;
-        passed = one_more q f.before is f.passed;
-        fails = f.fails;
-        kind_is = f.kind_is;
-      }
-
-  first_in : (rows : List Row) (kind : ℕ) → first_kind rows s t c ≡ Some kind → IsFirstIn rows kind
-  first_in [] kind e = absurd (cc)
-  first_in (q ∷ rows) kind e = first_by q rows kind (q.fails s t c) refl e (first_in rows kind)
+  passes_if = passes_in Row kind_in (fails_at s t c) table
 
   pub first_if : (kind : ℕ) → first_kind table s t c ≡ Some kind → IsFirstFailing s t c kind
   first_if kind e =
-      let f = first_in table kind e in
-      record { before = f.before; failing = f.failing; after = f.after; of_table = f.of_rows; passed = f.passed; fails = f.fails; kind_is = f.kind_is }
+      let f = first_in Row kind_in (fails_at s t c) table kind e in
+      record { before = f.before; failing = f.failing; after = f.after; of_table = f.of_rows; passed = f.passed; fails = f.fails_here; kind_is = f.kind_is }
 
   -- and back
-  none_kind : (rows : List Row) → NoneFails rows → first_kind rows s t c ≡ None
-  none_kind [] all = refl
-  none_kind (q ∷ rows) all =
-      ap (λ b. kind_or b q.kind (first_kind rows s t c)) (all q (Contains-head q rows)) ∙ none_kind rows (λ r m. all r (Contains-tail q rows r m))
-
   pub kind_none : Passes s t c → first_kind table s t c ≡ None
-  kind_none = none_kind table
-
-  kind_behind :
-      (before : List Row) (failing : Row) (after : List Row) → NoneFails before → failing.fails s t c ≡ true →
-      first_kind (before ++ (failing ∷ after)) s t c ≡ Some failing.kind
-  kind_behind [] failing after passed fails = ap (λ b. kind_or b failing.kind (first_kind after s t c)) fails
-  kind_behind (q ∷ before) failing after passed fails =
-      ap (λ b. kind_or b q.kind (first_kind (before ++ (failing ∷ after)) s t c)) (passed q (Contains-head q before))
-      ∙ kind_behind before failing after (λ r m. passed r (Contains-tail q before r m)) fails
+  kind_none = none_kind Row kind_in (fails_at s t c) table
 
   pub kind_some : (kind : ℕ) → IsFirstFailing s t c kind → first_kind table s t c ≡ Some kind
   kind_some kind f =
-      ap (λ rows. first_kind rows s t c) f.of_table ∙ kind_behind f.before f.failing f.after f.passed f.fails ∙ ap Some f.kind_is
+      kind_some_in Row kind_in (fails_at s t c) table kind
+      (record { before = f.before; failing = f.failing; after = f.after; of_rows = f.of_table; passed = f.passed; fails_here = f.fails; kind_is = f.kind_is })
 
 -- ---- what a visit answers
-
--- the state, or the fault of this kind at statement n
-abbrev pub answer : ℕ → Option ℕ → UnfoldingState → Outcome UnfoldingState
-answer n None s = Ok s
-answer n (Some kind) s = Err (fault kind n)
-
--- one test, and then the rest
-step :
-    (good : Bool) (kind n : ℕ) (rest : Option ℕ) (done : UnfoldingState) (o : Outcome UnfoldingState) → o ≡ answer n rest done →
-    (fault_unless good kind n >>= λ _. o) ≡ answer n (kind_or (not good) kind rest) done
-step true kind n rest done o e = e
-step false kind n rest done o e = refl
 
 -- a test that is no test of the table's form: what must not hold
 step_not :
@@ -152,10 +70,12 @@ unfolding add_op
 step_op t n o s = step (nat_lt (sum_by length s.plan.codes) 1048576) 9 n None (with_code t o s) (Ok (with_code t o s)) refl
 
 -- what stands behind the test of visits
+abbrev behind_first : List Row → List Row
+behind_first [] = []
+behind_first (r ∷ rows) = rows
+
 abbrev behind_visits : List Row
-behind_visits =
-    first_unknown ∷ first_of_other_kind ∷ second_unknown ∷ second_of_other_kind ∷ not_drawn ∷ forked_already ∷ no_member ∷ member_already
-    ∷ no_task_left ∷ no_phaser_left ∷ no_cell_left ∷ no_op_left ∷ []
+behind_visits = behind_first table
 
 -- the tests behind that of visits, and what is done
 abbrev IsByTable : ℕ → ℕ → Coming → UnfoldingState → Outcome UnfoldingState → Type 0

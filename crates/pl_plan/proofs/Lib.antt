@@ -21,6 +21,7 @@ pub mod Adding
 pub mod WorkedPrograms
 pub mod Planned
 pub mod FaultIsOfProgram
+pub mod FirstRows
 pub mod ByTable
 pub mod Unfolds
 pub mod Folds

@@ -14,7 +14,8 @@ use Rattle.pl_plan.specs.calls.Laws.{FaultIsFirst, PlanIsUnfolded}
 use Rattle.pl_plan.specs.Stages.{IsFirstCheckFault, IsNextStage, StagesLead, Stage, StagePasses, after_stage, all_stages, begins, with_start_names, comes, stages_below, stages_of, FailsAt, at_visit, at_end, leaves, leaves_below, ends_of, has_op_left, with_code}
 use Rattle.pl_plan.specs.calls.Stages.{Unfolds}
 use Rattle.pl_plan.proofs.Drawn.{drawn_more}
-use Rattle.pl_plan.proofs.ByTable.{answer, first_if, first_kind, kind_none, kind_some, visit_by, passes_if}
+use Rattle.pl_plan.proofs.ByTable.{first_if, first_kind, kind_none, kind_some, visit_by, passes_if}
+use Rattle.pl_plan.proofs.FirstRows.{answer}
 use Rattle.pl_plan.proofs.Places.{at_more}
 use Rattle.pl_plan.proofs.PlanPieces.{end_has_pieces, one_list_each}
 

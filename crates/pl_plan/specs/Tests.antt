@@ -106,63 +106,36 @@ pub record Row : Type 0 where
 abbrev row : ℕ → (UnfoldingState → ℕ → Coming → Bool) → Row
 row kind fails = record { kind = kind; fails = fails }
 
--- all, and turns: this visit is number 4,194,305
-abbrev pub no_visit_left : Row
-no_visit_left = row 10 (λ s t c. not (nat_lt s.visits 4194304))
-
--- fork, reg, dereg, adv, await: the name x is unknown
-abbrev pub first_unknown : Row
-first_unknown = row 1 (λ s t c. (of_child c || of_member c) && is_none (first_thing s c))
-
--- x names the other kind of thing: a task is wanted by fork and reg, a phaser by dereg, adv and await
-abbrev pub first_of_other_kind : Row
-first_of_other_kind = row 2 (λ s t c. (of_child c && is_phaser (first_thing s c)) || (of_member c && is_task (first_thing s c)))
-
--- reg: the name y is unknown
-abbrev pub second_unknown : Row
-second_unknown = row 1 (λ s t c. of_reg c && is_none (second_thing s c))
-
--- reg: y names a task
-abbrev pub second_of_other_kind : Row
-second_of_other_kind = row 2 (λ s t c. of_reg c && is_task (second_thing s c))
-
--- fork, reg: the current task did not draw x
-abbrev pub not_drawn : Row
-not_drawn = row 5 (λ s t c. of_child c && not (drew s t (task_number (first_thing s c))))
-
--- fork, reg: x is already forked
-abbrev pub forked_already : Row
-forked_already = row 6 (λ s t c. of_child c && is_forked s (task_number (first_thing s c)))
-
--- reg, dereg, adv, await: the current task is not a member
-abbrev pub no_member : Row
-no_member = row 3 (λ s t c. (of_reg c || of_member c) && not (s.members t (phaser_wanted s c)))
-
--- reg: x is already a member of y
-abbrev pub member_already : Row
-member_already = row 4 (λ s t c. of_reg c && s.members (task_number (first_thing s c)) (phaser_wanted s c))
-
--- newTid: 4,096 tasks are there
-abbrev pub no_task_left : Row
-no_task_left = row 7 (λ s t c. of_new_task c && not (nat_lt (length s.plan.parents) 4096))
-
--- newPhaser: 1,024 phasers are there
-abbrev pub no_phaser_left : Row
-no_phaser_left = row 8 (λ s t c. of_new_phaser c && not (nat_lt (length s.plan.makers) 1024))
-
--- newTid, newPhaser: the cells, with the new task or phaser counted, are more than 1,048,576
-abbrev pub no_cell_left : Row
-no_cell_left = row 11 (λ s t c. (of_new_task c || of_new_phaser c) && not (nat_le (cells_with s c) 1048576))
-
--- newPhaser, fork, reg, dereg, adv, await: 1,048,576 ops are there
-abbrev pub no_op_left : Row
-no_op_left = row 9 (λ s t c. (of_new_phaser c || (of_child c || of_member c)) && not (nat_lt (sum_by length s.plan.codes) 1048576))
-
--- the rows, in the order in which they are tried
+-- The rows, in the order in which they are tried. Behind the statements that a row concerns stands what is wrong.
 abbrev pub table : List Row
 table =
-    no_visit_left ∷ first_unknown ∷ first_of_other_kind ∷ second_unknown ∷ second_of_other_kind ∷ not_drawn ∷ forked_already ∷ no_member
-    ∷ member_already ∷ no_task_left ∷ no_phaser_left ∷ no_cell_left ∷ no_op_left ∷ []
+    -- all, and turns: this visit is number 4,194,305
+    row 10 (λ s t c. not (nat_lt s.visits 4194304))
+    -- fork, reg, dereg, adv, await: the name x is unknown
+    ∷ row 1 (λ s t c. (of_child c || of_member c) && is_none (first_thing s c))
+    -- x names the other kind of thing: a task is wanted by fork and reg, a phaser by dereg, adv and await
+    ∷ row 2 (λ s t c. (of_child c && is_phaser (first_thing s c)) || (of_member c && is_task (first_thing s c)))
+    -- reg: the name y is unknown
+    ∷ row 1 (λ s t c. of_reg c && is_none (second_thing s c))
+    -- reg: y names a task
+    ∷ row 2 (λ s t c. of_reg c && is_task (second_thing s c))
+    -- fork, reg: the current task did not draw x
+    ∷ row 5 (λ s t c. of_child c && not (drew s t (task_number (first_thing s c))))
+    -- fork, reg: x is already forked
+    ∷ row 6 (λ s t c. of_child c && is_forked s (task_number (first_thing s c)))
+    -- reg, dereg, adv, await: the current task is not a member
+    ∷ row 3 (λ s t c. (of_reg c || of_member c) && not (s.members t (phaser_wanted s c)))
+    -- reg: x is already a member of y
+    ∷ row 4 (λ s t c. of_reg c && s.members (task_number (first_thing s c)) (phaser_wanted s c))
+    -- newTid: 4,096 tasks are there
+    ∷ row 7 (λ s t c. of_new_task c && not (nat_lt (length s.plan.parents) 4096))
+    -- newPhaser: 1,024 phasers are there
+    ∷ row 8 (λ s t c. of_new_phaser c && not (nat_lt (length s.plan.makers) 1024))
+    -- newTid, newPhaser: the cells, with the new task or phaser counted, are more than 1,048,576
+    ∷ row 11 (λ s t c. (of_new_task c || of_new_phaser c) && not (nat_le (cells_with s c) 1048576))
+    -- newPhaser, fork, reg, dereg, adv, await: 1,048,576 ops are there
+    ∷ row 9 (λ s t c. (of_new_phaser c || (of_child c || of_member c)) && not (nat_lt (sum_by length s.plan.codes) 1048576))
+    ∷ []
 
 -- no row is at fault
 abbrev pub Passes : UnfoldingState → ℕ → Coming → Type 0
