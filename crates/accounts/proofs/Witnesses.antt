@@ -2,6 +2,7 @@
 use Rattle.std.proofs.Common.{◌≡◌, ℕ, suc, ◌-◌, List, [], ◌∷◌, Option, Some, None, Ok, true, length, refl, sym, ap, subst, ◌∙◌, arith, length-append}
 use Rattle.std.specs.Prelude.{option_map, slice_index_or}
 use Rattle.std.specs.List.{slice_get}
+use Rattle.std.proofs.lemmas.Slice.Zip.{AllZip-long}
 use Rattle.armus_base.specs.declared.ending.TaskEnd.{TaskEnd}
 use Rattle.armus_base.specs.declared.ending.TaskEnd.TheVariants.{Blocked}
 use Rattle.armus_base.specs.declared.event.Event.{Event}
@@ -12,9 +13,9 @@ use Rattle.armus_base.specs.Plans.{Plan}
 use Rattle.armus_base.specs.Runs.{Place}
 use Rattle.pl_plan.specs.Unfolding.{Coming, a_fork, a_loop, a_plain, a_turn, plan_of}
 use Rattle.pl_plan.specs.Tests.{of_new_task}
-use Rattle.pl_syntax.specs.BodyEnds.{AllEndAt, end_tokens}
+use Rattle.pl_syntax.specs.BodyEnds.{EndsAt, end_tokens}
 use Rattle.pl_syntax.specs.Grammar.{tokens}
-use Rattle.pl_syntax.specs.StatementOffsets.{AllBeginAt, statement_tokens}
+use Rattle.pl_syntax.specs.StatementOffsets.{BeginAt, statement_tokens}
 use Rattle.pl_syntax.specs.Tokens.{Token, sign, the_end}
 use Rattle.pl_syntax.specs.Tree.{Tree, adv, await, count, dereg, done, fork, loop, new_phaser, new_task, plain, reg, skip}
 use Rattle.pl_syntax.specs.declared.token.Sign.TheVariants.{CloseBrace}
@@ -56,23 +57,10 @@ many_ends (loop k body more) rest =
     let a = length-append (end_tokens body own) (end_tokens more rest) in
     let b = many_ends body own in let c = many_ends more rest in omega arith
 
-module _ (text : List ℕ) (p : Program) where
-  as_many_begin : (owns : List (List Token)) (offsets : List ℕ) → AllBeginAt text p owns offsets → length offsets ≡ length owns
-  as_many_begin [] [] all = refl
-  as_many_begin [] (o ∷ offsets) all = absurd all
-  as_many_begin (own ∷ owns) [] all = absurd all
-  as_many_begin (own ∷ owns) (o ∷ offsets) all = ap suc (as_many_begin owns offsets all.1)
-
-  as_many_end : (owns : List (Option (List Token))) (ends : List (Option ℕ)) → AllEndAt text p owns ends → length ends ≡ length owns
-  as_many_end [] [] all = refl
-  as_many_end [] (e ∷ ends) all = absurd all
-  as_many_end (own ∷ owns) [] all = absurd all
-  as_many_end (own ∷ owns) (e ∷ ends) all = ap suc (as_many_end owns ends all.1)
-
 pub statements_have_places : StatementsHavePlaces
 statements_have_places p l is = (
-  as_many_begin l.text p (statement_tokens p.body (the_end ∷ [])) l.offsets is.offsets ∙ many_tokens p.body (the_end ∷ []),
-  as_many_end l.text p (end_tokens p.body (the_end ∷ [])) l.ends is.ends ∙ many_ends p.body (the_end ∷ []),
+  AllZip-long (BeginAt l.text p) (statement_tokens p.body (the_end ∷ [])) l.offsets is.offsets ∙ many_tokens p.body (the_end ∷ []),
+  AllZip-long (EndsAt l.text p) (end_tokens p.body (the_end ∷ [])) l.ends is.ends ∙ many_ends p.body (the_end ∷ []),
 )
 
 -- ---- who waits

@@ -1,6 +1,7 @@
--- What a list contains.
-use Rattle.std.proofs.Common.{◌≡◌, zero, suc, List, [], ◌∷◌, refl, subst, ◌⊎◌, inl, inr, arith}
+-- What a list contains, and what holds of two lists, place by place.
+use Rattle.std.proofs.Common.{◌≡◌, zero, suc, List, [], ◌∷◌, ◌++◌, refl, subst, ◌⊎◌, inl, inr, arith}
 use Rattle.std.specs.Prelude.{Contains, map}
+use Rattle.std.specs.List.{AllZip}
 
 pub nothing_in_nil : {X : Type 0} (x : X) → Contains [] x → ⊥
 nothing_in_nil x (k, lt, e) = omega arith
@@ -28,3 +29,22 @@ from_map g (x ∷ xs) y i = elim (Contains-cons_cases (g x) (map g xs) y i) [
   | inl here ↦ (x, Contains-head x xs, here)
   | inr there ↦ (let r = from_map g xs y there in (r.0, Contains-tail x xs r.0 r.1, r.2))
 ]
+
+module _ {X Y : Type 0} (R : X → Y → Type 0) where
+  pub AllZip-append : (xs more : List X) (ys others : List Y) → AllZip R xs ys → AllZip R more others → AllZip R (xs ++ more) (ys ++ others)
+  AllZip-append [] more [] others a b = b
+  AllZip-append [] more (y ∷ ys) others a b = absurd a
+  AllZip-append (x ∷ xs) more [] others a b = absurd a
+  AllZip-append (x ∷ xs) more (y ∷ ys) others a b = (a.0, AllZip-append xs more ys others a.1 b)
+
+  -- where each has one, a list has one
+  pub one_zip : ((x : X) (y z : Y) → R x y → R x z → y ≡ z) → (xs : List X) (ys zs : List Y) → AllZip R xs ys → AllZip R xs zs → ys ≡ zs
+  one_zip one [] [] [] a b = refl
+  one_zip one [] (y ∷ ys) zs a b = absurd a
+  one_zip one [] [] (z ∷ zs) a b = absurd b
+  one_zip one (x ∷ xs) [] zs a b = absurd a
+  one_zip one (x ∷ xs) (y ∷ ys) [] a b = absurd b
+  one_zip one (x ∷ xs) (y ∷ ys) (z ∷ zs) a b =
+      let first = one x y z a.0 b.0 in
+      let others = one_zip one xs ys zs a.1 b.1 in
+      cc

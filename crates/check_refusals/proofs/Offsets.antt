@@ -1,11 +1,12 @@
 -- The offsets of statements are within the text.
 use Rattle.std.proofs.Common.{ℕ, zero, suc, ◌-◌, ◌≤◌, ◌==◌, Bool, true, false, cond, List, [], ◌∷◌, length, get_or, arith}
+use Rattle.std.specs.List.{AllZip}
 use Rattle.pl_syntax.specs.declared.tree.Program.{Program}
 use Rattle.pl_syntax.specs.Tokens.{Token}
-use Rattle.pl_syntax.specs.StatementOffsets.{AllBeginAt, AreOffsets}
+use Rattle.pl_syntax.specs.StatementOffsets.{AreOffsets, BeginAt}
 use Rattle.check_refusals.specs.StatementPlaces.{statement_offset}
 
-all_within : (text : List ℕ) (p : Program) (owns : List (List Token)) (offsets : List ℕ) → AllBeginAt text p owns offsets → (i : ℕ) →
+all_within : (text : List ℕ) (p : Program) (owns : List (List Token)) (offsets : List ℕ) → AllZip (BeginAt text p) owns offsets → (i : ℕ) →
     get_or offsets i (length text) ≤ length text
 all_within text p [] [] all i = omega arith
 all_within text p [] (o ∷ os) all i = absurd all

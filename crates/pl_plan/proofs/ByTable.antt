@@ -1,5 +1,5 @@
 -- A stage does what its tests, made row by row, say.
-use Rattle.std.proofs.Common.{◌≡◌, ℕ, ◌+◌, ◌*◌, Bool, true, false, not, Some, None, Ok, Err, Option, List, [], ◌∷◌, ◌++◌, sym, ◌∙◌, ap, refl, inl, inr}
+use Rattle.std.proofs.Common.{◌≡◌, ℕ, ◌+◌, ◌*◌, Bool, true, false, not, Some, None, Ok, Option, List, [], ◌∷◌, refl}
 use Rattle.std.specs.Prelude.{◌||◌, is_none, nat_le, nat_lt, length, sum_by}
 use Rattle.armus_base.specs.declared.op.Op.{Op}
 use Rattle.armus_base.specs.declared.op.Op.TheVariants as op

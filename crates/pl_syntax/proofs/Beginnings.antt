@@ -1,13 +1,15 @@
 -- The statements of a tree begin where the reader of offsets finds them.
 use Rattle.std.proofs.Common.{◌≡◌, ℕ, Bool, true, false, if◌then◌else◌, List, [], ◌∷◌, ◌++◌, Ok, refl, sym, ap, subst, ◌∙◌, append_assoc, append-nil}
+use Rattle.std.specs.List.{AllZip}
 use Rattle.armus_base.specs.declared.offset.Offset.TheVariants.{Ahead, Back, Here}
+use Rattle.armus_base.proofs.Elements.{AllZip-append}
 use Rattle.pl_syntax.specs.declared.scan.Scan.{Scan}
 use Rattle.pl_syntax.specs.declared.token.Sign.TheVariants.{CloseBrace}
 use Rattle.pl_syntax.specs.declared.tree.Program.{Program}
 use Rattle.pl_syntax.specs.Tokens.{Token, the_end, sign, word, name, number, front, place, Leads}
 use Rattle.pl_syntax.specs.Tree.{Tree, done, plain, fork, loop, Plain, new_task, new_phaser, reg, dereg, adv, await, skip}
 use Rattle.pl_syntax.specs.Grammar.{ReadsTokens, header, plain_tokens, scan_of, sentence, tokens}
-use Rattle.pl_syntax.specs.StatementOffsets.{AllBeginAt, AreOffsets, BeginAt, statement_tokens}
+use Rattle.pl_syntax.specs.StatementOffsets.{AreOffsets, BeginAt, statement_tokens}
 use Rattle.pl_syntax.specs.inside.Beginnings.{begins_statement, beginnings, is_boundary, with_offset}
 use Rattle.pl_syntax.proofs.Fronts.{ok_pair}
 use Rattle.pl_syntax.proofs.Leaves.{Leads-append}
@@ -53,21 +55,13 @@ sentence_begins p = tree_begins p (the_end ∷ []) ∙ append-nil (statement_tok
 
 -- ---- offsets
 
--- one more
-pub begin_more : (text : List ℕ) (p : Program) (found : List (List Token)) (offsets : List ℕ) (own : List Token) (offset : ℕ) →
-    AllBeginAt text p found offsets → BeginAt text p own offset → AllBeginAt text p (found ++ own ∷ []) (offsets ++ offset ∷ [])
-begin_more text p [] [] own offset all one = (one, tt)
-begin_more text p [] (o ∷ offsets) own offset all one = absurd all
-begin_more text p (f ∷ found) [] own offset all one = absurd all
-begin_more text p (f ∷ found) (o ∷ offsets) own offset all one = (all.0, begin_more text p found offsets own offset all.1 one)
-
 -- with or without one more
 abbrev pub with_statement : Bool → List Token → List (List Token) → List (List Token)
 with_statement begins own found = if begins then found ++ own ∷ [] else found
 
 pub begun_with : (text : List ℕ) (p : Program) (begins : Bool) (found : List (List Token)) (offsets : List ℕ) (own : List Token) (offset : ℕ) →
-    AllBeginAt text p found offsets → BeginAt text p own offset → AllBeginAt text p (with_statement begins own found) (with_offset begins offset offsets)
-begun_with text p true found offsets own offset all one = begin_more text p found offsets own offset all one
+    AllZip (BeginAt text p) found offsets → BeginAt text p own offset → AllZip (BeginAt text p) (with_statement begins own found) (with_offset begins offset offsets)
+begun_with text p true found offsets own offset all one = AllZip-append (BeginAt text p) found (own ∷ []) offsets (offset ∷ []) all (one, tt)
 begun_with text p false found offsets own offset all one = all
 
 pub whole_with : (begins : Bool) (own : List Token) (found more : List (List Token)) →
@@ -167,7 +161,7 @@ ends_here (number k) ts e same = absurd cc
 -- these offsets are those of the statements before the tokens that are left, and what begins in these is left to be found
 pub record Noted (text : List ℕ) (p : Program) (offsets : List ℕ) (may : Bool) (left : List Token) : Type 0 where
   pub found : List (List Token)
-  pub begun : AllBeginAt text p found offsets
+  pub begun : AllZip (BeginAt text p) found offsets
   pub whole : found ++ beginnings may left ≡ statement_tokens p.body (the_end ∷ [])
 
 -- what was read, what was found there, and what is left to be read
@@ -253,4 +247,4 @@ module _ (text : List ℕ) (p : Program) (rest : List ℕ) where
           let none : with_offset (begins_statement may t) (place (scan_of p.two text) rest) offsets ≡ offsets =
           ap (λ x. with_offset (begins_statement may x) (place (scan_of p.two text) rest) offsets) at_end
           ∙ ap (λ b. with_offset b (place (scan_of p.two text) rest) offsets) (end_begins_none may) in
-          subst (λ x. AreOffsets text p x) (sym none) (subst (λ owns. AllBeginAt text p owns offsets) found_all s.noted.begun)
+          subst (λ x. AreOffsets text p x) (sym none) (subst (λ owns. AllZip (BeginAt text p) owns offsets) found_all s.noted.begun)

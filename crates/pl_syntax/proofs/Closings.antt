@@ -1,12 +1,13 @@
 -- The closing braces of a text are found where its reader notes them.
 use Rattle.std.proofs.Common.{◌≡◌, ℕ, List, [], ◌∷◌, ◌++◌, Ok, refl, sym, ap, subst, ◌∙◌, append_assoc, append-nil}
+use Rattle.std.specs.List.{AllZip}
 use Rattle.armus_base.specs.declared.offset.Offset.TheVariants.{Ahead, Back, Here}
 use Rattle.pl_syntax.specs.declared.token.Sign.TheVariants.{CloseBrace}
 use Rattle.pl_syntax.specs.declared.tree.Program.{Program}
 use Rattle.pl_syntax.specs.Tokens.{Token, the_end, sign, front, place, Leads}
 use Rattle.pl_syntax.specs.Tree.{Tree, done, plain, fork, loop, Plain, new_task, new_phaser, reg, dereg, adv, await, skip}
 use Rattle.pl_syntax.specs.Grammar.{ReadsTokens, plain_tokens, scan_of, sentence, tokens}
-use Rattle.pl_syntax.specs.StatementOffsets.{AllBeginAt}
+use Rattle.pl_syntax.specs.StatementOffsets.{BeginAt}
 use Rattle.pl_syntax.specs.inside.Beginnings.{with_offset}
 use Rattle.pl_syntax.specs.inside.Closings.{brace_tokens, closes, closings}
 use Rattle.pl_syntax.proofs.Fronts.{ok_pair}
@@ -55,7 +56,7 @@ pub record Closing (text : List ℕ) (p : Program) (braces : List ℕ) (rest : L
   pub all : ahead ++ left ≡ sentence p.body
   pub reads : ReadsTokens p.two text ahead rest
   pub goes_on : Leads (scan_of p.two text) rest left []
-  pub begun : AllBeginAt text p found braces
+  pub begun : AllZip (BeginAt text p) found braces
   pub whole : found ++ closings left ≡ brace_tokens p.body (the_end ∷ [])
   pub ends : EndsOnce left
 
@@ -119,15 +120,15 @@ module _ (text : List ℕ) (p : Program) (rest : List ℕ) where
   -- at the end all are found
   pub closing_all :
       (braces : List ℕ) (t : Token) (after : List ℕ) → Closing text p braces rest → front (scan_of p.two text) rest ≡ Ok (t, after) → t ≡ the_end →
-      AllBeginAt text p (brace_tokens p.body (the_end ∷ [])) braces
+      AllZip (BeginAt text p) (brace_tokens p.body (the_end ∷ [])) braces
   closing_all braces t after s here at_end = find_all s.left s.goes_on s.whole s.ends
     where
       find_all :
           (ts : List Token) → Leads (scan_of p.two text) rest ts [] → s.found ++ closings ts ≡ brace_tokens p.body (the_end ∷ []) → EndsOnce ts →
-          AllBeginAt text p (brace_tokens p.body (the_end ∷ [])) braces
+          AllZip (BeginAt text p) (brace_tokens p.body (the_end ∷ [])) braces
       find_all [] l whole e = absurd e
       find_all (u ∷ us) (m, there, l) whole e =
           let same = ok_pair (u, m) (t, after) (sym there ∙ here) in
           let last : u ∷ us ≡ the_end ∷ [] = cons_is u us (same.0 ∙ at_end) (ends_here u us e (same.0 ∙ at_end)) in
           let found_all : s.found ≡ brace_tokens p.body (the_end ∷ []) = sym (append-nil s.found) ∙ (ap (λ ts. s.found ++ closings ts) (sym last) ∙ whole) in
-          subst (λ owns. AllBeginAt text p owns braces) found_all s.begun
+          subst (λ owns. AllZip (BeginAt text p) owns braces) found_all s.begun

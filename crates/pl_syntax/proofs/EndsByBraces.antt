@@ -1,54 +1,41 @@
 -- The body of each statement ends at its brace.
 use Rattle.std.proofs.Common.{◌≡◌, ℕ, ◌+◌, ◌<◌, ◌≤◌, List, [], ◌∷◌, ◌++◌, length, drop, get_or, Option, Some, None, refl, sym, ap, subst, ◌∙◌, append_assoc, append-nil, length-append, arith}
 use Rattle.std.specs.Prelude.{slice_get}
+use Rattle.std.specs.List.{AllZip}
 use Rattle.std.proofs.Math.ListN.{set}
 use Rattle.std.proofs.Math.Seq.{drop-append-add, get_or-append_seam, set-append_seam}
 use Rattle.std.proofs.lemmas.Option.{slice_get-get_or, slice_get_past}
 use Rattle.std.proofs.lemmas.List.{drop-drop, drop_all, drop_more, get_or-drop, length-drop}
+use Rattle.std.proofs.lemmas.Slice.Zip.{AllZip-long}
+use Rattle.armus_base.proofs.Elements.{AllZip-append}
 use Rattle.pl_syntax.specs.declared.token.Sign.TheVariants.{CloseBrace}
 use Rattle.pl_syntax.specs.declared.tree.Program.{Program}
 use Rattle.pl_syntax.specs.declared.tree.Stmt.{Stmt}
 use Rattle.pl_syntax.specs.declared.tree.Stmt.TheVariants as s
 use Rattle.pl_syntax.specs.calls.Bodies.{followed_by, tree_of}
-use Rattle.pl_syntax.specs.BodyEnds.{AllEndAt, AreEnds, EndsAt, end_tokens}
+use Rattle.pl_syntax.specs.BodyEnds.{AreEnds, EndsAt, end_tokens}
 use Rattle.pl_syntax.specs.Tokens.{Token, the_end, sign}
 use Rattle.pl_syntax.specs.Tree.{Tree, count, done, plain, fork, loop}
 use Rattle.pl_syntax.specs.Grammar.{tokens}
-use Rattle.pl_syntax.specs.StatementOffsets.{AllBeginAt}
+use Rattle.pl_syntax.specs.StatementOffsets.{BeginAt}
 use Rattle.pl_syntax.specs.inside.Closings.{bodies, brace_tokens, ends_by}
 use Rattle.pl_syntax.proofs.Parts.{counts}
 
 module _ (text : List ℕ) (p : Program) where
-  -- the ends of two lists of statements
-  both_end :
-      (owns more : List (Option (List Token))) (ends others : List (Option ℕ)) → AllEndAt text p owns ends → AllEndAt text p more others →
-      AllEndAt text p (owns ++ more) (ends ++ others)
-  both_end [] more [] others a b = b
-  both_end [] more (e ∷ ends) others a b = absurd a
-  both_end (o ∷ owns) more [] others a b = absurd a
-  both_end (o ∷ owns) more (e ∷ ends) others a b = (a.0, both_end owns more ends others a.1 b)
-
   -- braces from the front on, and those behind them
   pub record Parted (owns more : List (List Token)) (braces : List ℕ) : Type 0 where
     pub front : List ℕ
     pub behind : List ℕ
     pub is : braces ≡ front ++ behind
-    pub begun : AllBeginAt text p owns front
-    pub others : AllBeginAt text p more behind
+    pub begun : AllZip (BeginAt text p) owns front
+    pub others : AllZip (BeginAt text p) more behind
 
-  parted : (owns more : List (List Token)) (braces : List ℕ) → AllBeginAt text p (owns ++ more) braces → Parted owns more braces
+  parted : (owns more : List (List Token)) (braces : List ℕ) → AllZip (BeginAt text p) (owns ++ more) braces → Parted owns more braces
   parted [] more braces all = record { front = []; behind = braces; is = refl; begun = tt; others = all }
   parted (o ∷ owns) more [] all = absurd all
   parted (o ∷ owns) more (b ∷ braces) all =
       let rest = parted owns more braces all.1 in
       record { front = b ∷ rest.front; behind = rest.behind; is = ap (λ xs. b ∷ xs) rest.is; begun = (all.0, rest.begun); others = rest.others }
-
-  -- there are as many as bodies
-  many : (owns : List (List Token)) (braces : List ℕ) → AllBeginAt text p owns braces → length braces ≡ length owns
-  many [] [] all = refl
-  many [] (b ∷ braces) all = absurd all
-  many (o ∷ owns) [] all = absurd all
-  many (o ∷ owns) (b ∷ braces) all = let m = many owns braces all.1 in omega arith
 
 -- how many braces close these bodies
 many_braces : (p : Tree) (ts : List Token) → length (brace_tokens p ts) ≡ bodies p
@@ -68,9 +55,9 @@ module _ (text : List ℕ) (p : Program) where
   ends_with :
       (body more : Tree) (ts : List Token) (others : List (List Token)) (braces : List ℕ) →
       let own = sign CloseBrace ∷ tokens more ts in
-      AllBeginAt text p (brace_tokens body own ++ (own ∷ (brace_tokens more ts ++ others))) braces → AllEndAt text p (end_tokens body own) (ends_by body braces) →
-      ((behind : List ℕ) → AllBeginAt text p (brace_tokens more ts ++ others) behind → AllEndAt text p (end_tokens more ts) (ends_by more behind)) →
-      AllEndAt text p (Some own ∷ (end_tokens body own ++ end_tokens more ts))
+      AllZip (BeginAt text p) (brace_tokens body own ++ (own ∷ (brace_tokens more ts ++ others))) braces → AllZip (EndsAt text p) (end_tokens body own) (ends_by body braces) →
+      ((behind : List ℕ) → AllZip (BeginAt text p) (brace_tokens more ts ++ others) behind → AllZip (EndsAt text p) (end_tokens more ts) (ends_by more behind)) →
+      AllZip (EndsAt text p) (Some own ∷ (end_tokens body own ++ end_tokens more ts))
       (slice_get braces (bodies body) ∷ (ends_by body braces ++ ends_by more (drop (bodies body + 1) braces)))
   ends_with body more ts others braces all inside behind = by (parted text p (brace_tokens body own) (own ∷ (brace_tokens more ts ++ others)) braces all)
     where
@@ -79,16 +66,16 @@ module _ (text : List ℕ) (p : Program) where
 
       by :
           Parted text p (brace_tokens body own) (own ∷ (brace_tokens more ts ++ others)) braces →
-          AllEndAt text p (Some own ∷ (end_tokens body own ++ end_tokens more ts))
+          AllZip (EndsAt text p) (Some own ∷ (end_tokens body own ++ end_tokens more ts))
           (slice_get braces (bodies body) ∷ (ends_by body braces ++ ends_by more (drop (bodies body + 1) braces)))
       by found = at found.behind found.is found.others
         where
           length_is : length found.front ≡ bodies body
-          length_is = many text p (brace_tokens body own) found.front found.begun ∙ many_braces body own
+          length_is = AllZip-long (BeginAt text p) (brace_tokens body own) found.front found.begun ∙ many_braces body own
 
           at :
-              (rest : List ℕ) → braces ≡ found.front ++ rest → AllBeginAt text p (own ∷ (brace_tokens more ts ++ others)) rest →
-              AllEndAt text p (Some own ∷ (end_tokens body own ++ end_tokens more ts))
+              (rest : List ℕ) → braces ≡ found.front ++ rest → AllZip (BeginAt text p) (own ∷ (brace_tokens more ts ++ others)) rest →
+              AllZip (EndsAt text p) (Some own ∷ (end_tokens body own ++ end_tokens more ts))
               (slice_get braces (bodies body) ∷ (ends_by body braces ++ ends_by more (drop (bodies body + 1) braces)))
           at [] is none = absurd none
           at (b ∷ rest) is begun =
@@ -99,33 +86,33 @@ module _ (text : List ℕ) (p : Program) where
               let left : drop (bodies body + 1) braces ≡ rest =
               ap (λ n. drop (n + 1) braces) (sym length_is) ∙ (ap (drop (length found.front + 1)) is ∙ drop-append-add found.front (b ∷ rest) 1) in (
                 subst (EndsAt text p (Some own)) (sym got) begun.0,
-                both_end text p (end_tokens body own) (end_tokens more ts) (ends_by body braces) (ends_by more (drop (bodies body + 1) braces)) inside
-                    (subst (λ xs. AllEndAt text p (end_tokens more ts) (ends_by more xs)) (sym left) (behind rest begun.1)),
+                AllZip-append (EndsAt text p) (end_tokens body own) (end_tokens more ts) (ends_by body braces) (ends_by more (drop (bodies body + 1) braces)) inside
+                    (subst (λ xs. AllZip (EndsAt text p) (end_tokens more ts) (ends_by more xs)) (sym left) (behind rest begun.1)),
               )
 
   -- where the braces are those of a tree, and others behind them, its statements end at them
   ends_are :
-      (tree : Tree) (ts : List Token) (others : List (List Token)) (braces : List ℕ) → AllBeginAt text p (brace_tokens tree ts ++ others) braces →
-      AllEndAt text p (end_tokens tree ts) (ends_by tree braces)
+      (tree : Tree) (ts : List Token) (others : List (List Token)) (braces : List ℕ) → AllZip (BeginAt text p) (brace_tokens tree ts ++ others) braces →
+      AllZip (EndsAt text p) (end_tokens tree ts) (ends_by tree braces)
   ends_are done ts others braces all = tt
   ends_are (plain s more) ts others braces all = (tt, ends_are more ts others braces all)
   ends_are (fork x body more) ts others braces all =
       let own = sign CloseBrace ∷ tokens more ts in
-      let again = subst (λ owns. AllBeginAt text p owns braces) (append_assoc (brace_tokens body own) (own ∷ brace_tokens more ts) others) all in
+      let again = subst (λ owns. AllZip (BeginAt text p) owns braces) (append_assoc (brace_tokens body own) (own ∷ brace_tokens more ts) others) all in
       ends_with body more ts others braces again (ends_are body own (own ∷ (brace_tokens more ts ++ others)) braces again) (ends_are more ts others)
   ends_are (loop k body more) ts others braces all =
       let own = sign CloseBrace ∷ tokens more ts in
-      let again = subst (λ owns. AllBeginAt text p owns braces) (append_assoc (brace_tokens body own) (own ∷ brace_tokens more ts) others) all in
+      let again = subst (λ owns. AllZip (BeginAt text p) owns braces) (append_assoc (brace_tokens body own) (own ∷ brace_tokens more ts) others) all in
       ends_with body more ts others braces again (ends_are body own (own ∷ (brace_tokens more ts ++ others)) braces again) (ends_are more ts others)
 
   -- those of the program
   pub ends_of_all :
-      (braces : List ℕ) (ends : List (Option ℕ)) → AllBeginAt text p (brace_tokens p.body (the_end ∷ [])) braces → ends ≡ ends_by p.body braces →
+      (braces : List ℕ) (ends : List (Option ℕ)) → AllZip (BeginAt text p) (brace_tokens p.body (the_end ∷ [])) braces → ends ≡ ends_by p.body braces →
       AreEnds text p ends
   ends_of_all braces ends all is =
       subst (AreEnds text p) (sym is)
       (ends_are p.body (the_end ∷ []) [] braces
-      (subst (λ owns. AllBeginAt text p owns braces) (sym (append-nil (brace_tokens p.body (the_end ∷ [])))) all))
+      (subst (λ owns. AllZip (BeginAt text p) owns braces) (sym (append-nil (brace_tokens p.body (the_end ∷ [])))) all))
 
 -- ---- statements one after the other
 

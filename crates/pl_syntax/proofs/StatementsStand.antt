@@ -1,9 +1,11 @@
 -- A text has an offset for each of its statements, and for the brace that ends each body.
 use Rattle.std.proofs.Common.{◌≡◌, ℕ, Bool, true, false, List, [], ◌∷◌, ◌++◌, Option, Some, None, refl, sym, ◌∙◌, subst}
+use Rattle.std.specs.List.{AllZip}
 use Rattle.std.proofs.lemmas.List.{append_assoc}
-use Rattle.pl_syntax.specs.BodyEnds.{AllEndAt, AreEnds, end_tokens}
+use Rattle.armus_base.proofs.Elements.{AllZip-append}
+use Rattle.pl_syntax.specs.BodyEnds.{AreEnds, EndsAt, end_tokens}
 use Rattle.pl_syntax.specs.Grammar.{IsText, ReadsTokens, scan_of, sentence, tokens, plain_tokens}
-use Rattle.pl_syntax.specs.StatementOffsets.{AllBeginAt, AreOffsets, BeginAt, statement_tokens}
+use Rattle.pl_syntax.specs.StatementOffsets.{AreOffsets, BeginAt, statement_tokens}
 use Rattle.pl_syntax.specs.Tokens.{Leads, Token, place, sign, the_end}
 use Rattle.pl_syntax.specs.Tree.{Plain, Tree, adv, await, dereg, done, fork, loop, new_phaser, new_task, plain, reg, skip}
 use Rattle.pl_syntax.specs.declared.scan.Scan.{Scan}
@@ -67,14 +69,7 @@ module _ (text : List ℕ) (p : Program) (is : IsText text p) where
 
   -- ---- where statements begin
 
-  begin_both :
-      (xs ys : List (List Token)) (os qs : List ℕ) → AllBeginAt text p xs os → AllBeginAt text p ys qs → AllBeginAt text p (xs ++ ys) (os ++ qs)
-  begin_both [] ys [] qs a b = b
-  begin_both [] ys (o ∷ os) qs a b = absurd a
-  begin_both (x ∷ xs) ys [] qs a b = absurd a
-  begin_both (x ∷ xs) ys (o ∷ os) qs a b = (a.0, begin_both xs ys os qs a.1 b)
-
-  all_begin : (tree : Tree) (rest : List Token) → AreLast (tokens tree rest) → (offsets : List ℕ) × AllBeginAt text p (statement_tokens tree rest) offsets
+  all_begin : (tree : Tree) (rest : List Token) → AreLast (tokens tree rest) → (offsets : List ℕ) × AllZip (BeginAt text p) (statement_tokens tree rest) offsets
   all_begin done rest l = ([], tt)
   all_begin (plain s more) rest l =
       let (o, here) = begins (tokens (plain s more) rest) l in
@@ -85,24 +80,17 @@ module _ (text : List ℕ) (p : Program) (is : IsText text p) where
       let own = in_fork x body more rest l in
       let (inner, inside) = all_begin body (sign CloseBrace ∷ tokens more rest) own in
       let (os, others) = all_begin more rest (behind _ _ (behind_body body more rest own)) in
-      (o ∷ (inner ++ os), (here, begin_both (statement_tokens body (sign CloseBrace ∷ tokens more rest)) (statement_tokens more rest) inner os inside others))
+      (o ∷ (inner ++ os), (here, AllZip-append (BeginAt text p) (statement_tokens body (sign CloseBrace ∷ tokens more rest)) (statement_tokens more rest) inner os inside others))
   all_begin (loop n body more) rest l =
       let (o, here) = begins (tokens (loop n body more) rest) l in
       let own = in_loop n body more rest l in
       let (inner, inside) = all_begin body (sign CloseBrace ∷ tokens more rest) own in
       let (os, others) = all_begin more rest (behind _ _ (behind_body body more rest own)) in
-      (o ∷ (inner ++ os), (here, begin_both (statement_tokens body (sign CloseBrace ∷ tokens more rest)) (statement_tokens more rest) inner os inside others))
+      (o ∷ (inner ++ os), (here, AllZip-append (BeginAt text p) (statement_tokens body (sign CloseBrace ∷ tokens more rest)) (statement_tokens more rest) inner os inside others))
 
   -- ---- where bodies end
 
-  end_both :
-      (xs ys : List (Option (List Token))) (os qs : List (Option ℕ)) → AllEndAt text p xs os → AllEndAt text p ys qs → AllEndAt text p (xs ++ ys) (os ++ qs)
-  end_both [] ys [] qs a b = b
-  end_both [] ys (o ∷ os) qs a b = absurd a
-  end_both (x ∷ xs) ys [] qs a b = absurd a
-  end_both (x ∷ xs) ys (o ∷ os) qs a b = (a.0, end_both xs ys os qs a.1 b)
-
-  all_end : (tree : Tree) (rest : List Token) → AreLast (tokens tree rest) → (ends : List (Option ℕ)) × AllEndAt text p (end_tokens tree rest) ends
+  all_end : (tree : Tree) (rest : List Token) → AreLast (tokens tree rest) → (ends : List (Option ℕ)) × AllZip (EndsAt text p) (end_tokens tree rest) ends
   all_end done rest l = ([], tt)
   all_end (plain s more) rest l =
       let (os, others) = all_end more rest (behind_plain s (tokens more rest) l) in
@@ -113,14 +101,14 @@ module _ (text : List ℕ) (p : Program) (is : IsText text p) where
       let (o, here) = begins (sign CloseBrace ∷ tokens more rest) brace in
       let (inner, inside) = all_end body (sign CloseBrace ∷ tokens more rest) own in
       let (os, others) = all_end more rest (behind _ _ brace) in
-      (Some o ∷ (inner ++ os), (here, end_both (end_tokens body (sign CloseBrace ∷ tokens more rest)) (end_tokens more rest) inner os inside others))
+      (Some o ∷ (inner ++ os), (here, AllZip-append (EndsAt text p) (end_tokens body (sign CloseBrace ∷ tokens more rest)) (end_tokens more rest) inner os inside others))
   all_end (loop n body more) rest l =
       let own = in_loop n body more rest l in
       let brace = behind_body body more rest own in
       let (o, here) = begins (sign CloseBrace ∷ tokens more rest) brace in
       let (inner, inside) = all_end body (sign CloseBrace ∷ tokens more rest) own in
       let (os, others) = all_end more rest (behind _ _ brace) in
-      (Some o ∷ (inner ++ os), (here, end_both (end_tokens body (sign CloseBrace ∷ tokens more rest)) (end_tokens more rest) inner os inside others))
+      (Some o ∷ (inner ++ os), (here, AllZip-append (EndsAt text p) (end_tokens body (sign CloseBrace ∷ tokens more rest)) (end_tokens more rest) inner os inside others))
 
   whole : AreLast (tokens p.body (the_end ∷ []))
   whole = record { ahead = []; all = refl }

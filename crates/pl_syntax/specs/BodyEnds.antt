@@ -1,5 +1,6 @@
 -- Where the bodies of a text end: at the braces that close them.
 use Rattle.std.specs.Prelude.{ℕ, List, [], ◌∷◌, ◌++◌, Option, Some, None}
+use Rattle.std.specs.List.{AllZip}
 use Rattle.pl_syntax.specs.declared.token.Sign.TheVariants.{CloseBrace}
 use Rattle.pl_syntax.specs.declared.tree.Program.{Program}
 use Rattle.pl_syntax.specs.Tokens.{Token, the_end, sign}
@@ -24,13 +25,6 @@ EndsAt text p (Some own) (Some offset) = BeginAt text p own offset
 EndsAt text p None (Some offset) = ⊥
 EndsAt text p (Some own) None = ⊥
 
--- so many bytes stand before these braces, with one answer for each statement
-abbrev pub AllEndAt : List ℕ → Program → List (Option (List Token)) → List (Option ℕ) → Type 0
-AllEndAt text p [] [] = Unit {0}
-AllEndAt text p (own ∷ more) (end ∷ ends) = EndsAt text p own end × AllEndAt text p more ends
-AllEndAt text p [] (end ∷ ends) = ⊥
-AllEndAt text p (own ∷ more) [] = ⊥
-
 -- the offsets of the braces that close the bodies of the program's statements, in the order of the statements' numbers
 abbrev pub AreEnds : List ℕ → Program → List (Option ℕ) → Type 0
-AreEnds text p ends = AllEndAt text p (end_tokens p.body (the_end ∷ [])) ends
+AreEnds text p ends = AllZip (EndsAt text p) (end_tokens p.body (the_end ∷ [])) ends

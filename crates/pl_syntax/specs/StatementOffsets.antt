@@ -1,5 +1,6 @@
 -- Where the statements of a text begin: an offset is a number of bytes before.
 use Rattle.std.specs.Prelude.{◌≡◌, ℕ, List, [], ◌∷◌, ◌++◌}
+use Rattle.std.specs.List.{AllZip}
 use Rattle.pl_syntax.specs.declared.token.Sign.TheVariants.{CloseBrace}
 use Rattle.pl_syntax.specs.declared.tree.Program.{Program}
 use Rattle.pl_syntax.specs.Tokens.{Token, the_end, sign, place}
@@ -23,13 +24,6 @@ pub record BeginAt (text : List ℕ) (p : Program) (own : List Token) (offset : 
   pub reads : ReadsTokens p.two text ahead left
   pub offset_is : offset ≡ place (scan_of p.two text) left
 
--- so many bytes stand before each of these, one offset for each
-abbrev pub AllBeginAt : List ℕ → Program → List (List Token) → List ℕ → Type 0
-AllBeginAt text p [] [] = Unit {0}
-AllBeginAt text p (own ∷ more) (offset ∷ offsets) = BeginAt text p own offset × AllBeginAt text p more offsets
-AllBeginAt text p [] (offset ∷ offsets) = ⊥
-AllBeginAt text p (own ∷ more) [] = ⊥
-
 -- the offsets of the program's statements, in the order of their numbers
 abbrev pub AreOffsets : List ℕ → Program → List ℕ → Type 0
-AreOffsets text p offsets = AllBeginAt text p (statement_tokens p.body (the_end ∷ [])) offsets
+AreOffsets text p offsets = AllZip (BeginAt text p) (statement_tokens p.body (the_end ∷ [])) offsets

@@ -1,6 +1,6 @@
 -- The forms of words: keywords, names and numbers.
 use Rattle.std.specs.Prelude.{ℕ, ◌+◌, ◌-◌, ◌*◌, ◌==◌, Bool, false, not, ◌||◌, ◌&&◌, nat_le, if◌then◌else◌, List, [], ◌∷◌, length, codes, Option, Some, None}
-use Rattle.std.specs.List.{list_all}
+use Rattle.std.specs.List.{find, list_all}
 use Rattle.std.specs.Str.{bytes_eq}
 use Rattle.pl_syntax.specs.declared.limits.TheConstants.{MAX_DIGITS, MAX_NUMBER}
 use Rattle.pl_syntax.specs.declared.token.Keyword.{Keyword}
@@ -63,18 +63,13 @@ keywords = NewTid ∷ NewPhaser ∷ Fork ∷ Reg ∷ Dereg ∷ Adv ∷ Await ∷
 abbrev pub clock_keywords : List Keyword
 clock_keywords = Clock ∷ Async ∷ Finish ∷ Advance ∷ Resume ∷ Drop ∷ Loop ∷ Skip ∷ []
 
--- the first of these keywords that is spelled so
-abbrev pub keyword_among : List Keyword → List ℕ → Option Keyword
-keyword_among [] w = None
-keyword_among (k ∷ ks) w = if bytes_eq w (spelling_of k) then Some k else keyword_among ks w
-
 -- the keyword of PL that is spelled so
 unfoldable pub keyword_of : List ℕ → Option Keyword
-keyword_of w = keyword_among keywords w
+keyword_of w = find (λ k. bytes_eq w (spelling_of k)) keywords
 
 -- the keyword of the language of clocks that is spelled so
 unfoldable pub clock_keyword_of : List ℕ → Option Keyword
-clock_keyword_of w = keyword_among clock_keywords w
+clock_keyword_of w = find (λ k. bytes_eq w (spelling_of k)) clock_keywords
 
 -- the keyword of a language that is spelled so
 abbrev pub keyword_in : Language → List ℕ → Option Keyword

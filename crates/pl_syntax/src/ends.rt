@@ -1,9 +1,10 @@
 // Where the bodies of a text end.
 ghost use Rattle.std.specs.Prelude.{◌≡◌, ◌+◌, ◌<◌, ◌≤◌, ◌^◌, ◌∷◌, ◌++◌, [], IfOk, OnOk, drop, length, slice_get};
+ghost use Rattle.std.specs.List.{AllZip};
 ghost use Rattle.pl_syntax.specs.BodyEnds.{AreEnds};
 ghost use Rattle.pl_syntax.specs.calls.Bodies.{followed_by};
 ghost use Rattle.pl_syntax.specs.Grammar.{IsText, ReadsTokens, scan_of, sentence};
-ghost use Rattle.pl_syntax.specs.StatementOffsets.{AllBeginAt};
+ghost use Rattle.pl_syntax.specs.StatementOffsets.{BeginAt};
 ghost use Rattle.pl_syntax.specs.Tokens.{Leads, the_end};
 ghost use Rattle.pl_syntax.specs.Tree.{done};
 ghost use Rattle.pl_syntax.specs.inside.Closings.{bodies, brace_tokens, closes, ends_by};
@@ -35,7 +36,7 @@ fn braces_behind(
     requires within { length body.now ≤ length text.now }
     requires header { ReadsTokens program.now.two text.now [] body.now }
     requires reads { Leads (scan_of program.now.two text.now) body.now (sentence program.now.body) [] }
-    ensures braces { IfOk result (λ braces. AllBeginAt text.now program.now (brace_tokens program.now.body (the_end ∷ [])) braces.items) }
+    ensures braces { IfOk result (λ braces. AllZip (BeginAt text.now program.now) (brace_tokens program.now.body (the_end ∷ [])) braces.items) }
 {
     let scan = Scan {
         total: text.len(),
