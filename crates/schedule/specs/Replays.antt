@@ -34,33 +34,14 @@ pub data LinesLead (plan : Plan) : List Line → Progress → Type 0 where
   no_line : LinesLead plan [] at_start
   one_more : (lines : List Line) (a : Progress) (next : Line) (b : Progress) → LinesLead plan lines a → Takes plan a next b → LinesLead plan (lines ++ next ∷ []) b
 
--- the kind of a line that has no form
-abbrev pub no_form : ℕ
-no_form = 1
-
--- of a step whose task is not enabled
-abbrev pub not_enabled : ℕ
-not_enabled = 2
-
--- of a step of a task that the plan does not have
-abbrev pub no_task : ℕ
-no_task = 3
-
--- of a load while no pass is open
-abbrev pub no_open_pass : ℕ
-no_open_pass = 4
-
--- of a pass that starts while one is open
-abbrev pub pass_is_open : ℕ
-pass_is_open = 5
-
--- a line is at fault of this kind: it has no form; there is no such task; that task is not enabled; no pass is open; one is open already
+-- a line is at fault of this kind: 1 where it has no form, 2 where its task is not enabled, 3 where there is no such task, 4 where no pass is open, 5 where one is
+-- open already
 pub data IsFault (plan : Plan) (a : Progress) : Line → ℕ → Type 0 where
-  unreadable : IsFault plan a line.Unreadable no_form
-  strange_task : (t : ℕ) → length plan.parents ≤ t → IsFault plan a (line.Step t) no_task
-  stuck_task : (t : ℕ) → t < length plan.parents → ((x : Action) → IsOwnNextStep plan a.run t x → ⊥) → IsFault plan a (line.Step t) not_enabled
-  load_without_pass : a.open_pass ≡ None → IsFault plan a line.Load no_open_pass
-  second_pass : IsSome a.open_pass → IsFault plan a line.Pass pass_is_open
+  unreadable : IsFault plan a line.Unreadable 1
+  stuck_task : (t : ℕ) → t < length plan.parents → ((x : Action) → IsOwnNextStep plan a.run t x → ⊥) → IsFault plan a (line.Step t) 2
+  strange_task : (t : ℕ) → length plan.parents ≤ t → IsFault plan a (line.Step t) 3
+  load_without_pass : a.open_pass ≡ None → IsFault plan a line.Load 4
+  second_pass : IsSome a.open_pass → IsFault plan a line.Pass 5
 
 -- the first line at fault: its number, from 1, and its kind
 pub record IsFirstFault (plan : Plan) (lines : List Line) (number kind : ℕ) : Type 0 where
