@@ -1,5 +1,4 @@
 -- Why the functions do what their contracts say.
 pub mod NotingParts
-pub mod ClockGoingOn
 pub mod OneClockShowing
 pub mod SteppedThrough

@@ -15,7 +15,7 @@ use crate::facts::ClockOpFacts;
 use armus_base::{Event, NoMemory, Op, Phase, TaskId};
 use clock_origins::ClockThing;
 use pl_core::{Stand, World};
-use step_lines::{op_at, put_phase_change, put_with_phase};
+use step_lines::{put_phase_change, put_with_phase, ready_op};
 use task_sayings::{put_number, put_words};
 
 // The words with which an activity leaves a finish, by an op of this origin.
@@ -277,11 +277,8 @@ impl<'a> ClockOpFacts<'a> {
         requires at { IsAtOp (code_of world.now.plan t.0) (places_of world.now t.0).done i }
         ensures { OnOk result (out.new.items ≡ out.old.items ++ said_of (clock_change_words self.now.of_text (state_of world.now) t.0 origin) (action_by_code world.now t.0)) }
     {
-        let plan = world.plan();
-        match op_at(plan, t, i) {
-            Some(op) => self.put_op(out, world, t, op, origin),
-            None => unreachable!(),
-        }
+        let op = ready_op(world, t, i);
+        self.put_op(out, world, t, op, origin)
     }
 
     // Appends what the next step of an activity changes that may go on and stands at op `i` of its code, of this origin.

@@ -22,17 +22,16 @@ use Rattle.schedule.specs.inside.Following.{IsAt}
 use Rattle.schedule.proofs.Following.{state_is}
 use Rattle.schedule.proofs.JournalFits.{journal_fits_plan}
 use Rattle.schedule.proofs.LineByLine.{enabled_from, opening_is, step_follows}
-use Rattle.accounts.specs.Accounts.{Layout}
 use Rattle.task_sayings.specs.Places.{said_of}
 use Rattle.step_lines.specs.SerialRuns.{IsSerialRun, TaskMayGoOn}
-use Rattle.step_lines.specs.ShownSteps.{AreLinesOf, IsLineOf, first_steps, most_shown, more_steps_line}
+use Rattle.step_lines.specs.ShownSteps.{AreLinesOf, IsLineOf, LineWords, first_steps, most_shown, more_steps_line}
 use Rattle.step_lines.specs.StepWords.{shown_step_line}
-use Rattle.step_lines.specs.calls.SteppedRuns.{IsSteppedRun}
+use Rattle.step_lines.specs.calls.SteppedRuns.{HasNextLine, IsRunBy, IsSteppedRun, next_line}
 use Rattle.step_lines.specs.declared.facts.StepFacts.{StepFacts}
 use Rattle.step_lines.specs.declared.stepping.SteppedRun.{SteppedRun}
 use Rattle.step_lines.specs.declared.stepping.Stepping.{Stepping}
 use Rattle.step_lines.specs.calls.Known.{AreKnownFacts, kept_layout}
-use Rattle.step_lines.specs.inside.SoFar.{HasNextLine, IsSoFar, next_line}
+use Rattle.step_lines.specs.inside.SoFar.{IsSoFar}
 
 -- ---- which steps are shown
 
@@ -68,11 +67,11 @@ pub last_may_go_on : (plan : Plan) (e : Step) (h : List Step) → IsPlainRun pla
 last_may_go_on plan e h run = (e.action, own_next plan e h run, run.0.1.legal)
 
 -- the line of the next step is that of the step
-line_there : (l : Layout) (p : Program) (w : WorldValue) (h : List Step) (t number : ℕ) (x : Action) (old new : List ℕ) → IsAt w h
-    → action_at w.plan t (places h t).done ≡ Some x → number ≡ length h + 1 → HasNextLine l p number w t old new
-    → (line : List ℕ) × IsLineOf l p w.plan h (record { task = t; action = x }) line × (new ≡ old ++ line)
-line_there l p w h t number x old new at next counted goes = (
-  shown_step_line l p (length h + 1) (state_after h) t x goes.op,
+line_there : (words : LineWords) (w : WorldValue) (h : List Step) (t number : ℕ) (x : Action) (old new : List ℕ) → IsAt w h
+    → action_at w.plan t (places h t).done ≡ Some x → number ≡ length h + 1 → HasNextLine words number w t old new
+    → (line : List ℕ) × IsLineOf words w.plan h (record { task = t; action = x }) line × (new ≡ old ++ line)
+line_there words w h t number x old new at next counted goes = (
+  words w.plan (length h + 1) (state_after h) t x goes.op,
   record { op = goes.op; stands = subst (λ (a : ℕ → Place). IsAtOp (code_of w.plan t) (a t).done goes.op) at.there goes.stands; line_is = refl },
   goes.is ∙ ap (λ (line : List ℕ). old ++ line) is,
 )
@@ -80,17 +79,17 @@ line_there l p w h t number x old new at next counted goes = (
     by_code : action_by_code w t ≡ Some x
     by_code = ap (λ (a : ℕ → Place). action_at w.plan t (a t).done) at.there ∙ next
 
-    is : next_line l p number w t goes.op ≡ shown_step_line l p (length h + 1) (state_after h) t x goes.op
+    is : next_line words number w t goes.op ≡ words w.plan (length h + 1) (state_after h) t x goes.op
     is =
-        ap (said_of (λ y. shown_step_line l p number (state_of w) t y goes.op)) by_code
-        ∙ ap (λ n. shown_step_line l p n (state_of w) t x goes.op) counted
-        ∙ ap (λ s. shown_step_line l p (length h + 1) s t x goes.op) (state_is w h at)
+        ap (said_of (λ y. words w.plan number (state_of w) t y goes.op)) by_code
+        ∙ ap (λ n. words w.plan n (state_of w) t x goes.op) counted
+        ∙ ap (λ s. words w.plan (length h + 1) s t x goes.op) (state_is w h at)
 
 -- ---- one more step
 
-module _ (l : Layout) (p : Program) (old new : Stepping) (t : ℕ) (h : List Step) (so_far : IsSoFar l p h old) (makes : IsWorldStep old.world new.world t)
+module _ (words : LineWords) (old new : Stepping) (t : ℕ) (h : List Step) (so_far : IsSoFar words h old) (makes : IsWorldStep old.world new.world t)
     (least : (u : ℕ) → u < t → IsEnabled old.world u → ⊥) (counted : new.steps ≡ old.steps + 1)
-    (shown : old.steps < most_shown → HasNextLine l p (old.steps + 1) old.world t old.lines.items new.lines.items)
+    (shown : old.steps < most_shown → HasNextLine words (old.steps + 1) old.world t old.lines.items new.lines.items)
     (rest : most_shown ≤ old.steps → new.lines.items ≡ old.lines.items) where
   follows : (x : Action) × IsOwnNextStep old.world.plan h t x × IsAt new.world (record { task = t; action = x } ∷ h)
   follows = step_follows old.world.plan old.world new.world h t refl so_far.at makes
@@ -110,31 +109,31 @@ module _ (l : Layout) (p : Program) (old new : Stepping) (t : ℕ) (h : List Ste
   serial : IsSerialRun old.world.plan (e ∷ h)
   serial = (so_far.serial, record { next = run.0.1; plain = run.1.1; least = λ u less may. least u less (enabled_there old.world h u so_far.at may) })
 
-  lines : AreLinesOf l p old.world.plan (first_steps most_shown (e ∷ h)) new.lines.items
+  lines : AreLinesOf words old.world.plan (first_steps most_shown (e ∷ h)) new.lines.items
   lines = elim (cases_lt old.steps most_shown) [
     | inl below ↦
         let few : length h < most_shown = subst (λ n. n < most_shown) so_far.counted below in
-        let before : AreLinesOf l p old.world.plan h old.lines.items =
-        subst (λ (g : List Step). AreLinesOf l p old.world.plan g old.lines.items) (shown_all h few) so_far.lines in
-        let (line, is_line, is) = line_there l p old.world h t (old.steps + 1) follows.0 old.lines.items new.lines.items so_far.at next
+        let before : AreLinesOf words old.world.plan h old.lines.items =
+        subst (λ (g : List Step). AreLinesOf words old.world.plan g old.lines.items) (shown_all h few) so_far.lines in
+        let (line, is_line, is) = line_there words old.world h t (old.steps + 1) follows.0 old.lines.items new.lines.items so_far.at next
         (ap (λ n. n + 1) so_far.counted) (shown below) in
-        subst (λ (g : List Step). AreLinesOf l p old.world.plan g new.lines.items) (sym (shown_more (record { task = t; action = follows.0 }) h few))
+        subst (λ (g : List Step). AreLinesOf words old.world.plan g new.lines.items) (sym (shown_more (record { task = t; action = follows.0 }) h few))
         (old.lines.items, line, before, is_line, is)
     | inr above ↦
         let many : most_shown ≤ length h = subst (λ n. most_shown ≤ n) so_far.counted above in
-        let same : AreLinesOf l p old.world.plan (first_steps most_shown h) new.lines.items =
-        subst (AreLinesOf l p old.world.plan (first_steps most_shown h)) (sym (rest above)) so_far.lines in
-        subst (λ (g : List Step). AreLinesOf l p old.world.plan g new.lines.items) (sym (shown_same (record { task = t; action = follows.0 }) h many)) same
+        let same : AreLinesOf words old.world.plan (first_steps most_shown h) new.lines.items =
+        subst (AreLinesOf words old.world.plan (first_steps most_shown h)) (sym (rest above)) so_far.lines in
+        subst (λ (g : List Step). AreLinesOf words old.world.plan g new.lines.items) (sym (shown_same (record { task = t; action = follows.0 }) h many)) same
   ]
 
-  pub one_more : (d : Step) × IsSoFar l p (d ∷ h) new
+  pub one_more : (d : Step) × IsSoFar words (d ∷ h) new
   one_more = (
     e,
     record {
       at = at;
       serial = subst (λ (q : Plan). IsSerialRun q (e ∷ h)) (sym makes.plan) serial;
       counted = counted ∙ ap (λ n. n + 1) so_far.counted ∙ one;
-      lines = subst (λ (q : Plan). AreLinesOf l p q (first_steps most_shown (e ∷ h)) new.lines.items) (sym makes.plan) lines;
+      lines = subst (λ (q : Plan). AreLinesOf words q (first_steps most_shown (e ∷ h)) new.lines.items) (sym makes.plan) lines;
     },
   )
     where
@@ -143,9 +142,9 @@ module _ (l : Layout) (p : Program) (old new : Stepping) (t : ℕ) (h : List Ste
 
 -- ---- the beginning, and the end
 
-pub none_yet : (l : Layout) (p : Program) (plan : Plan) (s : Stepping) → IsCheckedPlan plan → IsOpeningWorld plan s.world → s.steps ≡ 0 → s.lines.items ≡ []
-    → IsSoFar l p [] s
-none_yet l p plan s checked opens none empty = record { at = opening_is plan s.world checked opens; serial = tt; counted = none; lines = empty }
+pub none_yet : (words : LineWords) (plan : Plan) (s : Stepping) → IsCheckedPlan plan → IsOpeningWorld plan s.world → s.steps ≡ 0 → s.lines.items ≡ []
+    → IsSoFar words [] s
+none_yet words plan s checked opens none empty = record { at = opening_is plan s.world checked opens; serial = tt; counted = none; lines = empty }
 
 pub journal_length : (h : List Step) → length (journal_of h) ≡ length h
 journal_length [] = refl
@@ -155,8 +154,8 @@ journal_length (e ∷ h) =
     omega (arith, more, rest)
 
 -- a run has no more steps than its plan has actions
-pub few_steps : (l : Layout) (p : Program) (h : List Step) (s : Stepping) → IsSoFar l p h s → s.steps ≤ 2 * max_ops
-few_steps l p h s so_far =
+pub few_steps : (words : LineWords) (h : List Step) (s : Stepping) → IsSoFar words h s → s.steps ≤ 2 * max_ops
+few_steps words h s so_far =
     let fits = (journal_fits_plan s.world.plan (journal_of h) h so_far.at.checked (record { run = so_far.at.run; tasks = refl })).few in
     let same = journal_length h in
     omega (arith, fits, same, so_far.counted)
@@ -171,19 +170,14 @@ whole_there w h at quiet t forked = elim (ends_or_goes w.plan at.checked h at.ru
 ]
 
 -- a run that has come to its end
-module _ (facts : StepFacts) (known : AreKnownFacts facts) (plan : Plan) (run : Stepping) (h : List Step)
-    (so_far : IsSoFar (kept_layout facts) facts.program.now h run) (same : run.world.plan ≡ plan)
+module _ (words : LineWords) (plan : Plan) (run : Stepping) (h : List Step) (so_far : IsSoFar words h run) (same : run.world.plan ≡ plan)
     (quiet : (t : ℕ) → t < length run.world.plan.parents → IsEnabled run.world t → ⊥) (lines : List ℕ) (end : Final)
     (lines_are : lines ≡ run.lines.items ++ more_steps_line (run.steps - most_shown)) (end_is : end ≡ final_of run.world.plan (state_of run.world)) where
-  by_facts : IsSteppedRun facts.places.now facts.program.now run.world.plan (record { lines = lines; world = run.world; end = end })
-  by_facts = record {
+  by_world : IsRunBy words run.world.plan (record { lines = lines; world = run.world; end = end })
+  by_world = record {
     steps = h;
     whole = record { serial = so_far.serial; maximal = whole_there run.world h so_far.at quiet };
-    shown = record {
-      reads = known.reads;
-      layout = kept_layout facts;
-      of_text = refl;
-      is_layout = known.layout;
+    shows = record {
       shown = run.lines.items;
       each = so_far.lines;
       lines_are = lines_are ∙ ap (λ n. run.lines.items ++ more_steps_line (n - most_shown)) so_far.counted;
@@ -193,11 +187,21 @@ module _ (facts : StepFacts) (known : AreKnownFacts facts) (plan : Plan) (run : 
     end_is = end_is;
   }
 
-  pub stepped_run : (text : List ℕ) (p : Program) → facts.places.now ≡ text → facts.program.now ≡ p
-      → IsSteppedRun text p plan (record { lines = lines; world = run.world; end = end })
-  stepped_run text p text_is program_is =
-      let s : SteppedRun = record { lines = lines; world = run.world; end = end } in
-      let by_plan : IsSteppedRun facts.places.now facts.program.now plan s =
-      subst (λ (q : Plan). IsSteppedRun facts.places.now facts.program.now q s) same by_facts in
-      let by_text : IsSteppedRun text facts.program.now plan s = subst (λ (t : List ℕ). IsSteppedRun t facts.program.now plan s) text_is by_plan in
-      subst (λ (r : Program). IsSteppedRun text r plan s) program_is by_text
+  pub run_by : IsRunBy words plan (record { lines = lines; world = run.world; end = end })
+  run_by = let s : SteppedRun = record { lines = lines; world = run.world; end = end } in subst (λ (q : Plan). IsRunBy words q s) same by_world
+
+-- by what is known of a text it is a run of the text's plan
+pub stepped_run : (facts : StepFacts) → AreKnownFacts facts → (plan : Plan) (s : SteppedRun) (text : List ℕ) (p : Program) → facts.places.now ≡ text
+    → facts.program.now ≡ p → IsRunBy (λ q. shown_step_line (kept_layout facts) facts.program.now) plan s → IsSteppedRun text p plan s
+stepped_run facts known plan s text p text_is program_is run =
+    let by_facts : IsSteppedRun facts.places.now facts.program.now plan s =
+    record {
+      steps = run.steps;
+      whole = run.whole;
+      shown = record { reads = known.reads; layout = kept_layout facts; of_text = refl; is_layout = known.layout; shows = run.shows };
+      plan_is = run.plan_is;
+      there = run.there;
+      end_is = run.end_is;
+    } in
+    let by_text : IsSteppedRun text facts.program.now plan s = subst (λ (t : List ℕ). IsSteppedRun t facts.program.now plan s) text_is by_facts in
+    subst (λ (r : Program). IsSteppedRun text r plan s) program_is by_text

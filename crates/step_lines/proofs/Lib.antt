@@ -6,6 +6,7 @@ pub mod LineSaid
 pub mod GoingOn
 pub mod SerialIsPlain
 pub mod OneSerialRun
+pub mod Showing
 pub mod OneShowing
 pub mod ShowingExists
 pub mod SerialExists

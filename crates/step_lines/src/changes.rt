@@ -29,6 +29,20 @@ pub fn op_at(plan: &Plan, t: TaskId, i: u32) -> Option<Op>
     cursor.peek()
 }
 
+/// The op before which a task stands that goes on without a wait, at this index of its code: it is no await. The time is linear in the index.
+pub fn ready_op(world: &World<'_>, t: TaskId, i: u32) -> Op
+    requires task { t.0 < length world.now.plan.parents }
+    requires ready { IsBeforeOp world.now t.0 }
+    requires at { IsAtOp (code_of world.now.plan t.0) (places_of world.now t.0).done i }
+    ensures next { action_by_code world.now t.0 ≡ Some (action_of result) }
+    ensures kind { IsNoAwait result }
+{
+    match op_at(world.plan(), t, i) {
+        Some(op) => op,
+        None => unreachable!(),
+    }
+}
+
 /// Appends with which phase a task becomes a member: ` with phase 2`.
 pub fn put_with_phase(
     alloc: Global,
@@ -184,11 +198,8 @@ impl<'a> StepFacts<'a> {
         requires at { IsAtOp (code_of world.now.plan t.0) (places_of world.now t.0).done i }
         ensures { OnOk result (out.new.items ≡ out.old.items ++ said_of (change_words self.now.program.now (state_of world.now) t.0) (action_by_code world.now t.0)) }
     {
-        let plan = world.plan();
-        match op_at(plan, t, i) {
-            Some(op) => self.put_op(out, world, t, op),
-            None => unreachable!(),
-        }
+        let op = ready_op(world, t, i);
+        self.put_op(out, world, t, op)
     }
 
     // Appends what the next step of a task changes that may go on and stands at op i of its code.

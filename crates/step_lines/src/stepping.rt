@@ -6,11 +6,11 @@ ghost use Rattle.pl_plan.specs.Forks.{fork_statements};
 ghost use Rattle.pl_syntax.specs.Grammar.{IsText};
 ghost use Rattle.pl_syntax.specs.Tree.{count};
 ghost use Rattle.step_lines.specs.ShownSteps.{most_shown, more_steps_line};
-ghost use Rattle.step_lines.specs.calls.SteppedRuns.{IsSteppedRun};
-ghost use Rattle.step_lines.specs.calls.Known.{AreKnownFacts, kept_layout};
-ghost use Rattle.step_lines.specs.inside.SoFar.{HasNextLine, IsSoFar};
+ghost use Rattle.step_lines.specs.calls.SteppedRuns.{HasNextLine, IsRunBy, IsSteppedRun};
+ghost use Rattle.step_lines.specs.inside.SoFar.{IsSoFar};
 
 use crate::facts::StepFacts;
+use crate::telling::TellsSteps;
 use armus_base::{Final, List, NoMemory, Plan, TaskId};
 use pl_core::World;
 use pl_syntax::Program;
@@ -32,8 +32,8 @@ pub struct SteppedRun<'p> {
     pub end: Final,
 }
 
-/// The task with the least number that may go on: none where no task may.
-pub fn least_enabled(world: &World<'_>) -> Option<TaskId>
+// The task with the least number that may go on: none where no task may.
+fn least_enabled(world: &World<'_>) -> Option<TaskId>
     ensures { MatchOption result
         ((t : ℕ) → t < length world.now.plan.parents → IsEnabled world.now t → ⊥)
         (λ t. (t.0 < length world.now.plan.parents) × IsEnabled world.now t.0 × ((u : ℕ) → u < t.0 → IsEnabled world.now u → ⊥)) }
@@ -46,54 +46,29 @@ pub fn least_enabled(world: &World<'_>) -> Option<TaskId>
     None
 }
 
-// Appends the line of a task's next step, which has this number.
-fn put_line(
-    facts: &StepFacts<'_>,
-    out: &mut Vec<u8>,
-    world: &World<'_>,
-    t: TaskId,
-    number: u32,
-) -> Result<(), NoMemory>
-    requires known { AreKnownFacts facts.now }
-    requires task { t.0 < length world.now.plan.parents }
-    requires enabled { IsEnabled world.now t.0 }
-    ensures { OnOk result (HasNextLine (kept_layout facts.now) facts.now.program.now number world.now t.0 out.old.items out.new.items) }
-{
-    let i = world.op(t);
-    put_number(facts.alloc, out, number)?;
-    put_words(out, b": ")?;
-    facts.put_task(out, t)?;
-    put_words(out, b" at ")?;
-    facts.put_whence(out, t, i)?;
-    put_words(out, b": ")?;
-    facts.put_change(out, world, t, i)?;
-    put_words(out, b"\n")?;
-    Ok(())
-}
-
 // Appends the line of a task's next step, behind so many, if it is shown.
-fn show(
-    facts: &StepFacts<'_>,
+fn show<T: TellsSteps>(
+    text: &T,
     out: &mut Vec<u8>,
     world: &World<'_>,
     t: TaskId,
     steps: u32,
 ) -> Result<(), NoMemory>
-    requires known { AreKnownFacts facts.now }
+    requires known { T.known text.now }
     requires task { t.0 < length world.now.plan.parents }
     requires enabled { IsEnabled world.now t.0 }
-    ensures shown { OnOk result (steps < most_shown → HasNextLine (kept_layout facts.now) facts.now.program.now (steps + 1) world.now t.0 out.old.items out.new.items) }
+    ensures shown { OnOk result (steps < most_shown → HasNextLine (T.words text.now) (steps + 1) world.now t.0 out.old.items out.new.items) }
     ensures rest { OnOk result (most_shown ≤ steps → out.new.items ≡ out.old.items) }
 {
     if steps < MOST_SHOWN {
-        put_line(facts, out, world, t, steps + 1)
+        text.put_line(out, world, t, steps + 1)
     } else {
         Ok(())
     }
 }
 
-/// Appends the line that tells how many more steps there were; nothing where there were none.
-pub fn put_rest(alloc: Global, out: &mut Vec<u8>, rest: u32) -> Result<(), NoMemory>
+// Appends the line that tells how many more steps there were; nothing where there were none.
+fn put_rest(alloc: Global, out: &mut Vec<u8>, rest: u32) -> Result<(), NoMemory>
     ensures { OnOk result (out.new.items ≡ out.old.items ++ more_steps_line rest) }
 {
     if rest == 0 {
@@ -115,19 +90,19 @@ pub(crate) struct Stepping<'p> {
 
 impl<'p> Stepping<'p> {
     // Makes the next step, if a task may go on.
-    fn go_on(&mut self, facts: &StepFacts<'_>) -> Result<bool, NoMemory>
-        requires known { AreKnownFacts facts.now }
+    fn go_on<T: TellsSteps>(&mut self, text: &T) -> Result<bool, NoMemory>
+        requires known { T.known text.now }
         requires room { self.old.steps + 1 < 2 ^ 32 }
         ensures plan { IfOk result (λ moved. self.new.world.plan ≡ self.old.world.plan) }
-        ensures moved { IfOk result (λ moved. moved ≡ true → (h : Seq Step) → IsSoFar (kept_layout facts.now) facts.now.program.now h self.old →
-            (e : Step) × IsSoFar (kept_layout facts.now) facts.now.program.now (e ∷ h) self.new) }
+        ensures moved { IfOk result (λ moved. moved ≡ true → (h : Seq Step) → IsSoFar (T.words text.now) h self.old →
+            (e : Step) × IsSoFar (T.words text.now) (e ∷ h) self.new) }
         ensures counted { IfOk result (λ moved. moved ≡ true → self.new.steps ≡ self.old.steps + 1) }
         ensures still { IfOk result (λ moved. moved ≡ false → self.new ≡ self.old) }
         ensures quiet { IfOk result (λ moved. moved ≡ false → (t : ℕ) → t < length self.new.world.plan.parents → IsEnabled self.new.world t → ⊥) }
     {
         match least_enabled(&self.world) {
             Some(t) => {
-                show(facts, &mut self.lines, &self.world, t, self.steps)?;
+                show(text, &mut self.lines, &self.world, t, self.steps)?;
                 self.world.step(t);
                 self.steps += 1;
                 Ok(true)
@@ -138,14 +113,14 @@ impl<'p> Stepping<'p> {
 }
 
 // The run of a plan to its end, step by step, and how far it has come then.
-fn steps_of<'p>(
+fn steps_of<'p, T: TellsSteps>(
     alloc: Global,
-    facts: &StepFacts<'_>,
+    text: &T,
     plan: &'p Plan,
 ) -> Result<Stepping<'p>, NoMemory>
-    requires known { AreKnownFacts facts.now }
+    requires known { T.known text.now }
     ensures plan { IfOk result (λ run. run.world.plan ≡ plan.now) }
-    ensures run { IfOk result (λ run. (h : Seq Step) × IsSoFar (kept_layout facts.now) facts.now.program.now h run) }
+    ensures run { IfOk result (λ run. (h : Seq Step) × IsSoFar (T.words text.now) h run) }
     ensures quiet { IfOk result (λ run. (t : ℕ) → t < length run.world.plan.parents → IsEnabled run.world t → ⊥) }
 {
     let _tasks = plan.tasks();
@@ -155,14 +130,38 @@ fn steps_of<'p>(
         lines: Vec::new(alloc),
         steps: 0,
     };
-    while run.go_on(facts)? {}
+    while run.go_on(text)? {}
     Ok(run)
 }
 
-/// Runs the plan of the text of this program to its end, step by step: of the tasks that may go on, the one with the least number makes the next step. `places`
-/// are those of the text, and `forks` the statements that fork its tasks, as `unfold` of pl_plan answers them. It answers a line for each of the first
-/// `MOST_SHOWN` steps, and where there were more, a line that tells how many; the world in which the run ends; and the value of its state. The only error is
-/// want of memory. The time is the number of steps times that of the tasks, and for each step that is shown linear in the text.
+/// Runs a plan to its end, step by step, with the lines that this text has for its steps: of the tasks that may go on, the one with the least number makes the
+/// next step. It answers a line for each of the first `MOST_SHOWN` steps, and where there were more, a line that tells how many; the world in which the run ends;
+/// and the value of its state. The only error is want of memory. The time is the number of steps times that of the tasks, and that of the lines.
+pub fn step_to_end<'p, T: TellsSteps>(
+    alloc: Global,
+    text: &T,
+    plan: &'p Plan,
+) -> Result<SteppedRun<'p>, NoMemory>
+    requires known { T.known text.now }
+    ensures run { IfOk result (IsRunBy (T.words text.now) plan.now) }
+{
+    let Stepping {
+        world,
+        mut lines,
+        steps,
+    } = steps_of(alloc, text, plan)?;
+    put_rest(alloc, &mut lines, steps.saturating_sub(MOST_SHOWN))?;
+    let end = world.finish(alloc)?;
+    Ok(SteppedRun {
+        lines: List::from_vec(lines),
+        world,
+        end,
+    })
+}
+
+/// Runs the plan of the text of this program to its end, as `step_to_end` does. `places` are those of the text, and `forks` the statements that fork its tasks, as
+/// `unfold` of pl_plan answers them. The only error is want of memory. The time is the number of steps times that of the tasks, and for each step that is shown
+/// linear in the text.
 pub fn step_through<'p>(
     alloc: Global,
     places: &TextPlaces<'_>,
@@ -176,16 +175,6 @@ pub fn step_through<'p>(
     ensures run { IfOk result (IsSteppedRun places.now program.now plan.now) }
 {
     let facts = StepFacts::new(alloc, places, program, forks)?;
-    let Stepping {
-        world,
-        mut lines,
-        steps,
-    } = steps_of(alloc, &facts, plan)?;
-    put_rest(alloc, &mut lines, steps.saturating_sub(MOST_SHOWN))?;
-    let end = world.finish(alloc)?;
-    Ok(SteppedRun {
-        lines: List::from_vec(lines),
-        world,
-        end,
-    })
+    let run = step_to_end(alloc, &facts, plan)?;
+    Ok(run)
 }

@@ -1,8 +1,9 @@
 use Rattle.std.proofs.Common.{◌∙◌, subst, sym}
 use Rattle.clock_origins.specs.ClockOps.{all_op_origins}
+use Rattle.step_lines.specs.calls.SteppedRuns.{IsRunBy}
+use Rattle.clock_steps.specs.ClockStepWords.{clock_step_line}
 use Rattle.clock_steps.specs.OpFacts.{OpFacts, written_parts}
 use Rattle.clock_steps.specs.calls.Known.{known_ops}
-use Rattle.clock_steps.specs.inside.ClockSoFar.{IsClockRunBy}
 use Rattle.clock_steps.proofs.OneClockShowing.{same_op_facts}
 use Rattle.clock_steps.proofs.stepping.run_of_layout.Goals as goal
 
@@ -10,7 +11,7 @@ pub returns : goal.returns
 returns c = record {
   run = λ u t is so.
       let f = known_ops c.in_ok-facts.facts in
-      subst (λ (g : OpFacts). IsClockRunBy g c.args.plan.now c.in_ok-run.run')
+      subst (λ (g : OpFacts). IsRunBy (clock_step_line g) c.args.plan.now c.in_ok-run.run')
       (same_op_facts f.of_text t f.statements (written_parts c.args.program.now.body) f.origins (all_op_origins u)
       (c.in_ok-facts.ensures.text ∙ sym so) c.in_ok-facts.ensures.statements (c.in_ok-facts.ensures.origins u is)) c.in_ok-run.ensures.run;
 }

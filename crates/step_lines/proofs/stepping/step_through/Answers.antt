@@ -1,15 +1,8 @@
-use Rattle.std.proofs.Common.{◌∙◌, ◌++◌, ap}
-use Rattle.step_lines.specs.ShownSteps.{more_steps_line}
 use Rattle.step_lines.proofs.GoingOn.{stepped_run}
 use Rattle.step_lines.proofs.stepping.step_through.Goals as goal
 
 pub returns : goal.returns
-returns c =
-    let run = c.in_ok-world.field-0 in
-    let (h, so_far) = c.in_ok-world.ensures.run in
-    record {
-      run = stepped_run c.in_ok-facts.facts c.in_ok-facts.ensures.known c.args.plan.now run h so_far c.in_ok-world.ensures.plan c.in_ok-world.ensures.quiet
-          c.from_vec.result c.in_ok-end.end
-          (c.from_vec.ensures.items ∙ c.in_ok-put_rest.ensures ∙ ap (λ n. run.lines.items ++ more_steps_line n) c.saturating_sub.ensures) c.in_ok-end.ensures.end
-          c.args.places.now c.args.program.now c.in_ok-facts.ensures.text c.in_ok-facts.ensures.program;
-    }
+returns c = record {
+  run = stepped_run c.in_ok-facts.facts c.in_ok-facts.ensures.known c.args.plan.now c.in_ok-run.run' c.args.places.now c.args.program.now
+      c.in_ok-facts.ensures.text c.in_ok-facts.ensures.program c.in_ok-run.ensures.run;
+}

@@ -9,11 +9,11 @@ use Rattle.clock_sayings.specs.ClockWords.{activity_words}
 use Rattle.clock_steps.specs.OpFacts.{clock_op_origin}
 use Rattle.clock_steps.specs.ClockStepWords.{clock_change_words, clock_whence_words}
 use Rattle.clock_steps.specs.calls.Known.{known_ops}
-use Rattle.clock_steps.proofs.stepping.put_clock_line.Goals as goal
+use Rattle.clock_steps.proofs.stepping.ClockOpFactsTellsSteps.put_line.Goals as goal
 
 pub returns : goal.returns
 returns c =
-    let f = known_ops c.args.facts.now in
+    let f = known_ops c.args.self.now in
     let w = c.args.world.now in
     let t = c.args.t.0 in
     let i = c.op-i.result in

@@ -6,12 +6,12 @@ use Rattle.step_lines.specs.StepWords.{change_words, drawn_task_words, whence_wo
 use Rattle.step_lines.specs.calls.Known.{kept_layout}
 use Rattle.step_lines.proofs.LineSaid.{as_line}
 use Rattle.step_lines.proofs.Pieces.{eight_pieces}
-use Rattle.step_lines.proofs.stepping.put_line.Goals as goal
+use Rattle.step_lines.proofs.telling.StepFactsTellsSteps.put_line.Goals as goal
 
 pub returns : goal.returns
 returns c =
-    let p = c.args.facts.now.program.now in
-    let l = kept_layout c.args.facts.now in
+    let p = c.args.self.now.program.now in
+    let l = kept_layout c.args.self.now in
     let w = c.args.world.now in
     let t = c.args.t.0 in
     let i = c.op-i.result in
