@@ -12,7 +12,7 @@ use Rattle.armus_words.specs.Commands.{IsCommand}
 use Rattle.armus_words.specs.Words.{Text}
 use Rattle.armus_top.specs.declared.output.InputEnd.{InputEnd}
 use Rattle.armus_top.specs.declared.output.Output.{Output}
-use Rattle.armus_top.specs.declared.status.ExitStatus.{ExitStatus}
+use Rattle.armus_top.specs.declared.output.ExitStatus.{ExitStatus}
 use Rattle.armus_top.specs.Clocks.{IsClockPlanOf}
 use Rattle.armus_top.specs.Commands.{IsAnswered, limit_of, wanted_of, writes_live}
 use Rattle.armus_top.specs.Headline.{Answers, Ends, HasInput, IsCall, IsSound, Passage, reads_input}

@@ -11,9 +11,8 @@ ghost use Rattle.armus_top.specs.inside.Answers.{IsEndOf};
 ghost use Rattle.armus_top.specs.inside.Status.{number_of_status};
 ghost use Rattle.armus_words.specs.declared.command.Command.TheVariants.{Check};
 
-use crate::output::{InputEnd, Output};
+use crate::output::{ExitStatus, InputEnd, Output};
 use crate::programs::{Checked, MAX_TEXT_BYTES, checked_in};
-use crate::status::ExitStatus;
 use armus_base::{List, NoMemory, Plan};
 use pl_syntax::print;
 use std::alloc::Global;

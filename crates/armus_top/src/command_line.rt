@@ -5,13 +5,6 @@ use std::env;
 use std::io::ErrorKind;
 use std::rt::Env;
 
-// One word, the empty one.
-fn empty_word(alloc: Global) -> Result<Vec<String>, NoMemory> {
-    let mut words = Vec::new(alloc);
-    words.push(String::new(alloc))?;
-    Ok(words)
-}
-
 /// The words behind the program's name. Where one of them, or the name, is no text, there is one word, the empty one, with which no command begins. The
 /// only error is want of memory.
 pub fn command_words<R: Env + AllocGlobal>(rt: &R, alloc: Global) -> Result<Vec<String>, NoMemory> {
@@ -24,6 +17,9 @@ pub fn command_words<R: Env + AllocGlobal>(rt: &R, alloc: Global) -> Result<Vec<
             Ok(words)
         }
         Err(e) if e.kind() == ErrorKind::OutOfMemory => Err(NoMemory),
-        Err(_) => empty_word(alloc),
+        Err(_) => {
+            words.push(String::new(alloc))?;
+            Ok(words)
+        }
     }
 }

@@ -13,7 +13,7 @@ ghost use Rattle.armus_top.specs.inside.TwoLines.{HasTwoLines};
 
 use crate::output::Output;
 use crate::programs::checked_in;
-use crate::running::run;
+use crate::running::CallSetting;
 use adaptive::Wanted;
 use armus_base::{Gate, List, NoMemory};
 use armus_words::RunKind;
@@ -68,42 +68,34 @@ fn first_and_last(alloc: Global, report: &[u8]) -> Result<List<u8>, NoMemory>
     two_lines(alloc, first, last)
 }
 
-// The report of the run of the generated text. That text is read, checked and run as one that a user gives; it is never refused, by the law
-// `gen_is_accepted`, so the one end without an answer is want of memory.
-fn run_generated<R: Threads + Sync, G: Gate>(
-    rt: &R,
-    alloc: Global,
-    count: u16,
-    gate: &G,
-) -> Result<Output, NoMemory>
-    ensures run { IfOk result (λ o. (plan : Plan) × IsPlanOf (generated_text count) plan × IsRunOf plan Wanted.Auto (number_of_status o.status) o.text) }
-{
-    let text = gen_text(alloc, count)?;
-    let checked = match checked_in(alloc, text.as_slice()) {
-        Ok(checked) => checked,
-        Err(_) => return Err(NoMemory),
-    };
-    let options = RunOptions {
-        workers: GENERATED_WORKERS,
-        wanted: Wanted::Auto,
-        live: false,
-    };
-    run(rt, alloc, &checked.plan, &options, RunKind::Plain, gate)
-}
+impl<R: Threads + Sync, G: Gate> CallSetting<'_, R, G> {
+    // The report of the run of the generated text. That text is read, checked and run as one that a user gives; it is never refused, by the law
+    // `gen_is_accepted`, so the one end without an answer is want of memory.
+    fn run_generated(&self, count: u16) -> Result<Output, NoMemory>
+        ensures run { IfOk result (λ o. (plan : Plan) × IsPlanOf (generated_text count) plan × IsRunOf plan Wanted.Auto (number_of_status o.status) o.text) }
+    {
+        let text = gen_text(self.alloc, count)?;
+        let checked = match checked_in(self.alloc, text.as_slice()) {
+            Ok(checked) => checked,
+            Err(_) => return Err(NoMemory),
+        };
+        let options = RunOptions {
+            workers: GENERATED_WORKERS,
+            wanted: Wanted::Auto,
+            live: false,
+        };
+        self.run(&checked.plan, &options, RunKind::Plain)
+    }
 
-/// The first and the last line of the report of the run of a generated text.
-pub(crate) fn generate<R: Threads + Sync, G: Gate>(
-    rt: &R,
-    alloc: Global,
-    count: u16,
-    gate: &G,
-) -> Result<Output, NoMemory>
-    ensures run { IfOk result (λ o. IsGenOf count (number_of_status o.status) o.text) }
-{
-    let report = run_generated(rt, alloc, count, gate)?;
-    let text = first_and_last(alloc, report.text.as_slice())?;
-    Ok(Output {
-        text,
-        status: report.status,
-    })
+    /// The first and the last line of the report of the run of a generated text.
+    pub fn generate(&self, count: u16) -> Result<Output, NoMemory>
+        ensures run { IfOk result (λ o. IsGenOf count (number_of_status o.status) o.text) }
+    {
+        let report = self.run_generated(count)?;
+        let text = first_and_last(self.alloc, report.text.as_slice())?;
+        Ok(Output {
+            text,
+            status: report.status,
+        })
+    }
 }

@@ -4,16 +4,16 @@ ghost use Rattle.armus_top.specs.Commands.{limit_of};
 ghost use Rattle.armus_top.specs.Headline.{Ends, IsCall};
 ghost use Rattle.armus_top.specs.calls.Headline.{passage};
 ghost use Rattle.armus_words.specs.Commands.{Means};
-ghost use Rattle.armus_top.specs.inside.Reading.{IsReadFor};
+ghost use Rattle.armus_top.specs.inside.Reading.{EndsUnread, IsRead, IsReadFor};
 ghost use Rattle.armus_top.specs.inside.Status.{number_of_status};
 
-use crate::input::input_of;
+use crate::output::ExitStatus;
 use crate::programs::MAX_TEXT_BYTES;
 use crate::replaying::MAX_REPLAY_BYTES;
-use crate::status::ExitStatus;
-use crate::writing::finish;
-use armus_base::{List, Sink, Source};
+use crate::writing::{finish, refuse};
+use armus_base::{List, ReadEnd, Sink, Source, read_all};
 use armus_words::{Command, command_in};
+use report::Refusal;
 use std::alloc::Global;
 
 const USAGE: &str = "usage: armus check|run|avoid|record|replay|gen|clock|pool\n";
@@ -38,6 +38,27 @@ fn limit_of(command: &Command) -> Option<usize>
         | Command::Record { .. }
         | Command::Clock { .. }
         | Command::Pool { .. } => Some(MAX_TEXT_BYTES),
+    }
+}
+
+// The whole input, of at most `limit` bytes, or how a call ends that cannot have it. An input that is longer is told in a line.
+fn input_of<S: Source, K: Sink>(
+    alloc: Global,
+    limit: usize,
+    src: &mut S,
+    out: &mut K,
+) -> Result<List<u8>, ExitStatus>
+    ensures read { IfOk result (IsRead limit (passage S.left S.faults src.old src.new)) }
+    ensures unwritten { IfOk result (λ _. out.new ≡ out.old) }
+    ensures ends { IfErr result (λ status. EndsUnread limit (passage S.left S.faults src.old src.new) (passage K.taken K.faults out.old out.new) (number_of_status status)) }
+    ensures silent { IfErr result (λ status. number_of_status status ≡ 4 → out.new ≡ out.old) }
+    ensures short { IfErr result (λ status. number_of_status status ≡ 6 → out.new ≡ out.old) }
+{
+    match read_all(alloc, src, limit) {
+        Ok(input) => Ok(input),
+        Err(ReadEnd::Fault) => Err(ExitStatus::ReadFailed),
+        Err(ReadEnd::TooLong) => Err(refuse(alloc, &Refusal::Length, out)),
+        Err(ReadEnd::NoMemory) => Err(ExitStatus::OutOfMemory),
     }
 }
 

@@ -1,6 +1,6 @@
 // Serving a command on its input.
 ghost use Rattle.std.specs.Prelude.{◌≡◌, ◌≢◌, IfErr, IfOk, false, true};
-ghost use Rattle.armus_top.specs.Commands.{IsAnswered, limit_of, writes_live};
+ghost use Rattle.armus_top.specs.Commands.{IsAnswered, limit_of, wanted_of, writes_live};
 ghost use Rattle.armus_top.specs.calls.Headline.{passage};
 ghost use Rattle.armus_top.specs.calls.Inputs.{FitsLimit};
 ghost use Rattle.armus_top.specs.inside.Answers.{IsEndOf};
@@ -8,128 +8,135 @@ ghost use Rattle.armus_top.specs.inside.Serving.{WaitsForNoThread, WaitsForThrea
 ghost use Rattle.armus_top.specs.inside.Status.{number_of_status};
 ghost use Rattle.armus_top.specs.inside.Writing.{Answered};
 
-use crate::avoiding::avoid;
 use crate::checking::check;
-use crate::generating::generate;
-use crate::options::options_of;
-use crate::output::{InputEnd, Output};
-use crate::pooling::pool;
+use crate::output::{ExitStatus, InputEnd, Output};
 use crate::programs::{clock_plan_in, text_plan_in};
-use crate::recording::record;
 use crate::replaying::replay;
-use crate::running::{run, run_live};
-use crate::status::ExitStatus;
+use crate::running::CallSetting;
 use crate::writing::write_answer;
+use adaptive::Wanted;
 use armus_base::{Gate, Sink};
 use armus_words::{Command, Graph, RunKind};
-use std::alloc::Global;
 use std::sync::Wait;
 use std::thread::Threads;
+use task_runner::RunOptions;
 
-// What a command answers on its input that waits for no thread and writes no live lines.
-fn answer<R: Threads + Sync, G: Gate>(
-    rt: &R,
-    alloc: Global,
-    command: &Command,
-    input: &[u8],
-    gate: &G,
-) -> Result<Output, InputEnd>
-    requires plain { WaitsForNoThread command.now }
-    requires quiet { writes_live command.now ≡ false }
-    requires fits { FitsLimit (limit_of command.now) input.now }
-    ensures answer { IfOk result (λ o. IsAnswered command.now input.now (number_of_status o.status) o.text) }
-    ensures refused { IfErr result (IsEndOf command.now input.now) }
-{
-    match *command {
-        Command::Check { print } => check(alloc, print, input),
-        Command::Replay => replay(alloc, input),
-        Command::Gen { count } => Ok(generate(rt, alloc, count, gate)?),
-        Command::Run {
-            workers,
-            graph,
-            kind,
-        } => {
-            let plan = text_plan_in(alloc, input)?;
-            let options = options_of(workers, graph, false);
-            Ok(run(rt, alloc, &plan, &options, kind, gate)?)
+impl<R: Threads + Sync, G: Gate> CallSetting<'_, R, G> {
+    // What a command answers on its input that waits for no thread and writes no live lines.
+    fn answer(&self, command: &Command, input: &[u8]) -> Result<Output, InputEnd>
+        requires plain { WaitsForNoThread command.now }
+        requires quiet { writes_live command.now ≡ false }
+        requires fits { FitsLimit (limit_of command.now) input.now }
+        ensures answer { IfOk result (λ o. IsAnswered command.now input.now (number_of_status o.status) o.text) }
+        ensures refused { IfErr result (IsEndOf command.now input.now) }
+    {
+        match *command {
+            Command::Check { print } => check(self.alloc, print, input),
+            Command::Replay => replay(self.alloc, input),
+            Command::Gen { count } => Ok(self.generate(count)?),
+            Command::Run {
+                workers,
+                graph,
+                kind,
+            } => {
+                let plan = text_plan_in(self.alloc, input)?;
+                let options = options_of(workers, graph, false);
+                Ok(self.run(&plan, &options, kind)?)
+            }
+            Command::Clock { workers, graph, .. } => {
+                let plan = clock_plan_in(self.alloc, input)?;
+                let options = options_of(workers, graph, false);
+                Ok(self.run(&plan, &options, RunKind::Plain)?)
+            }
+            Command::Avoid {
+                workers,
+                graph,
+                kept,
+            } => {
+                let plan = text_plan_in(self.alloc, input)?;
+                let options = options_of(workers, graph, false);
+                Ok(self.avoid(&plan, &options, kept)?)
+            }
+            Command::Record { .. } | Command::Pool { .. } => unreachable!(),
         }
-        Command::Clock { workers, graph, .. } => {
-            let plan = clock_plan_in(alloc, input)?;
-            let options = options_of(workers, graph, false);
-            Ok(run(rt, alloc, &plan, &options, RunKind::Plain, gate)?)
+    }
+
+    // Serves a command that writes live lines, on its input.
+    fn serve_live<K: Sink>(&self, command: &Command, input: &[u8], out: &mut K) -> ExitStatus
+        requires plain { WaitsForNoThread command.now }
+        requires live { writes_live command.now ≡ true }
+        requires fits { FitsLimit (limit_of command.now) input.now }
+        ensures done { Answered command.now input.now (passage K.taken K.faults out.old out.new) (number_of_status result) }
+        ensures silent { number_of_status result ≢ 4 }
+    {
+        match *command {
+            Command::Run { workers, graph, .. } => match text_plan_in(self.alloc, input) {
+                Ok(plan) => {
+                    let options = options_of(workers, graph, true);
+                    self.run_live(&plan, &options, out)
+                }
+                Err(end) => write_answer(self.alloc, Err(end), out),
+            },
+            Command::Clock { workers, graph, .. } => match clock_plan_in(self.alloc, input) {
+                Ok(plan) => {
+                    let options = options_of(workers, graph, true);
+                    self.run_live(&plan, &options, out)
+                }
+                Err(end) => write_answer(self.alloc, Err(end), out),
+            },
+            _ => unreachable!(),
         }
-        Command::Avoid {
-            workers,
-            graph,
-            kept,
-        } => {
-            let plan = text_plan_in(alloc, input)?;
-            let options = options_of(workers, graph, false);
-            Ok(avoid(rt, alloc, &plan, &options, kept, gate)?)
+    }
+
+    /// Serves a command on its input that waits for no thread.
+    pub fn serve<K: Sink>(&self, command: &Command, input: &[u8], out: &mut K) -> ExitStatus
+        requires plain { WaitsForNoThread command.now }
+        requires fits { FitsLimit (limit_of command.now) input.now }
+        ensures done { Answered command.now input.now (passage K.taken K.faults out.old out.new) (number_of_status result) }
+        ensures silent { number_of_status result ≢ 4 }
+        ensures unwritten { writes_live command.now ≡ false → number_of_status result ≡ 6 → out.new ≡ out.old }
+    {
+        if writes_live(command) {
+            return self.serve_live(command, input, out);
         }
-        Command::Record { .. } | Command::Pool { .. } => unreachable!(),
+        let answer = self.answer(command, input);
+        write_answer(self.alloc, answer, out)
     }
 }
 
-// What a command answers on its input that waits for threads.
-fn answer_waiting<R: Threads + Wait + Sync, G: Gate>(
-    rt: &R,
-    alloc: Global,
-    command: &Command,
-    input: &[u8],
-    gate: &G,
-) -> Result<Output, InputEnd>
-    requires waiting { WaitsForThreads command.now }
-    requires fits { FitsLimit (limit_of command.now) input.now }
-    ensures answer { IfOk result (λ o. IsAnswered command.now input.now (number_of_status o.status) o.text) }
-    ensures refused { IfErr result (IsEndOf command.now input.now) }
-{
-    match *command {
-        Command::Record { workers } => {
-            let plan = text_plan_in(alloc, input)?;
-            let options = options_of(workers, Graph::Auto, false);
-            Ok(record(rt, alloc, &plan, &options, input, gate)?)
+impl<R: Threads + Wait + Sync, G: Gate> CallSetting<'_, R, G> {
+    // What a command answers on its input that waits for threads.
+    fn answer_waiting(&self, command: &Command, input: &[u8]) -> Result<Output, InputEnd>
+        requires waiting { WaitsForThreads command.now }
+        requires fits { FitsLimit (limit_of command.now) input.now }
+        ensures answer { IfOk result (λ o. IsAnswered command.now input.now (number_of_status o.status) o.text) }
+        ensures refused { IfErr result (IsEndOf command.now input.now) }
+    {
+        match *command {
+            Command::Record { workers } => {
+                let plan = text_plan_in(self.alloc, input)?;
+                let options = options_of(workers, Graph::Auto, false);
+                Ok(self.record(&plan, &options, input)?)
+            }
+            Command::Pool { workers, graph } => {
+                let plan = text_plan_in(self.alloc, input)?;
+                let options = options_of(workers, graph, false);
+                Ok(self.pool(&plan, &options)?)
+            }
+            _ => unreachable!(),
         }
-        Command::Pool { workers, graph } => {
-            let plan = text_plan_in(alloc, input)?;
-            let options = options_of(workers, graph, false);
-            Ok(pool(rt, alloc, &plan, &options, gate)?)
-        }
-        _ => unreachable!(),
     }
-}
 
-// Serves a command that writes live lines, on its input.
-fn serve_live<R: Threads + Sync, K: Sink, G: Gate>(
-    rt: &R,
-    alloc: Global,
-    command: &Command,
-    input: &[u8],
-    out: &mut K,
-    gate: &G,
-) -> ExitStatus
-    requires plain { WaitsForNoThread command.now }
-    requires live { writes_live command.now ≡ true }
-    requires fits { FitsLimit (limit_of command.now) input.now }
-    ensures done { Answered command.now input.now (passage K.taken K.faults out.old out.new) (number_of_status result) }
-    ensures silent { number_of_status result ≢ 4 }
-{
-    match *command {
-        Command::Run { workers, graph, .. } => match text_plan_in(alloc, input) {
-            Ok(plan) => {
-                let options = options_of(workers, graph, true);
-                run_live(rt, alloc, &plan, &options, out, gate)
-            }
-            Err(end) => write_answer(alloc, Err(end), out),
-        },
-        Command::Clock { workers, graph, .. } => match clock_plan_in(alloc, input) {
-            Ok(plan) => {
-                let options = options_of(workers, graph, true);
-                run_live(rt, alloc, &plan, &options, out, gate)
-            }
-            Err(end) => write_answer(alloc, Err(end), out),
-        },
-        _ => unreachable!(),
+    /// Serves a command on its input that waits for threads.
+    pub fn serve_waiting<K: Sink>(&self, command: &Command, input: &[u8], out: &mut K) -> ExitStatus
+        requires waiting { WaitsForThreads command.now }
+        requires fits { FitsLimit (limit_of command.now) input.now }
+        ensures done { Answered command.now input.now (passage K.taken K.faults out.old out.new) (number_of_status result) }
+        ensures silent { number_of_status result ≢ 4 }
+        ensures unwritten { number_of_status result ≡ 6 → out.new ≡ out.old }
+    {
+        let answer = self.answer_waiting(command, input);
+        write_answer(self.alloc, answer, out)
     }
 }
 
@@ -144,43 +151,27 @@ fn writes_live(command: &Command) -> bool
     }
 }
 
-/// Serves a command on its input that waits for no thread.
-pub(crate) fn serve<R: Threads + Sync, K: Sink, G: Gate>(
-    rt: &R,
-    alloc: Global,
-    command: &Command,
-    input: &[u8],
-    out: &mut K,
-    gate: &G,
-) -> ExitStatus
-    requires plain { WaitsForNoThread command.now }
-    requires fits { FitsLimit (limit_of command.now) input.now }
-    ensures done { Answered command.now input.now (passage K.taken K.faults out.old out.new) (number_of_status result) }
-    ensures silent { number_of_status result ≢ 4 }
-    ensures unwritten { writes_live command.now ≡ false → number_of_status result ≡ 6 → out.new ≡ out.old }
+// The graph that is wanted of a report.
+fn wanted_in(graph: Graph) -> Wanted
+    ensures { result ≡ wanted_of graph }
 {
-    if writes_live(command) {
-        return serve_live(rt, alloc, command, input, out, gate);
+    match graph {
+        Graph::Auto => Wanted::Auto,
+        Graph::Wfg => Wanted::Wfg,
+        Graph::Sg => Wanted::Sg,
+        Graph::Grg => Wanted::Grg,
     }
-    let answer = answer(rt, alloc, command, input, gate);
-    write_answer(alloc, answer, out)
 }
 
-/// Serves a command on its input that waits for threads.
-pub(crate) fn serve_waiting<R: Threads + Wait + Sync, K: Sink, G: Gate>(
-    rt: &R,
-    alloc: Global,
-    command: &Command,
-    input: &[u8],
-    out: &mut K,
-    gate: &G,
-) -> ExitStatus
-    requires waiting { WaitsForThreads command.now }
-    requires fits { FitsLimit (limit_of command.now) input.now }
-    ensures done { Answered command.now input.now (passage K.taken K.faults out.old out.new) (number_of_status result) }
-    ensures silent { number_of_status result ≢ 4 }
-    ensures unwritten { number_of_status result ≡ 6 → out.new ≡ out.old }
+// How a run by so many workers is made that is reported by this graph: live, with a line for each dead task while it goes on.
+fn options_of(workers: u8, graph: Graph, live: bool) -> RunOptions
+    ensures workers { result.workers ≡ workers }
+    ensures wanted { result.wanted ≡ wanted_of graph }
+    ensures live { result.live ≡ live }
 {
-    let answer = answer_waiting(rt, alloc, command, input, gate);
-    write_answer(alloc, answer, out)
+    RunOptions {
+        workers,
+        wanted: wanted_in(graph),
+        live,
+    }
 }

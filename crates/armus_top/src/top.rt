@@ -8,7 +8,7 @@ ghost use Rattle.armus_top.specs.Headline.{IsServed};
 ghost use Rattle.armus_top.specs.calls.Headline.{passage};
 
 use crate::requests::{Request, request_of};
-use crate::serving::{serve, serve_waiting};
+use crate::running::CallSetting;
 use armus_base::{Gate, Sink, Source};
 use armus_words::{POOL, RECORD};
 use std::alloc::Global;
@@ -35,7 +35,8 @@ pub fn armus_plain<R: Threads + Sync, S: Source, K: Sink, G: Gate>(
     match request_of(alloc, words, src, out) {
         Ok(request) => {
             let Request { command, input } = request;
-            serve(rt, alloc, &command, input.as_slice(), out, gate).code()
+            let setting = CallSetting { rt, alloc, gate };
+            setting.serve(&command, input.as_slice(), out).code()
         }
         Err(status) => status.code(),
     }
@@ -59,7 +60,10 @@ pub fn armus_journal<R: Threads + Wait + Sync, S: Source, K: Sink, G: Gate>(
     match request_of(alloc, words, src, out) {
         Ok(request) => {
             let Request { command, input } = request;
-            serve_waiting(rt, alloc, &command, input.as_slice(), out, gate).code()
+            let setting = CallSetting { rt, alloc, gate };
+            setting
+                .serve_waiting(&command, input.as_slice(), out)
+                .code()
         }
         Err(status) => status.code(),
     }

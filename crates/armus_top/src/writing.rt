@@ -7,8 +7,7 @@ ghost use Rattle.armus_top.specs.inside.Answers.{AnswersBy, IsEndOf};
 ghost use Rattle.armus_top.specs.inside.Status.{number_of_status};
 ghost use Rattle.armus_top.specs.inside.Writing.{Answered, Finished, Refuses, RefusesClocks};
 
-use crate::output::{InputEnd, Output};
-use crate::status::ExitStatus;
+use crate::output::{ExitStatus, InputEnd, Output};
 use armus_base::{Sink, write_text};
 use clock_pl::{ClockFault, clock_line};
 use report::{Refusal, refusal_line};

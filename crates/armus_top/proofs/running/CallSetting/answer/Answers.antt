@@ -1,5 +1,5 @@
 use Rattle.armus_top.proofs.Served.{answered_clock, answered_run}
-use Rattle.armus_top.proofs.serving.answer.Goals as goal
+use Rattle.armus_top.proofs.running.CallSetting.answer.Goals as goal
 
 pub returns-in_ok-run-in-Run-clause-answer : goal.returns-in_ok-run-in-Run-clause-answer
 returns-in_ok-run-in-Run-clause-answer g c =

@@ -1,5 +1,5 @@
 use Rattle.armus_top.specs.inside.Reading.{too_long}
-use Rattle.armus_top.proofs.input.input_of.Goals as goal
+use Rattle.armus_top.proofs.requests.input_of.Goals as goal
 
 pub returns-in-Err-TooLong-clause-ends : goal.returns-in-Err-TooLong-clause-ends
 returns-in-Err-TooLong-clause-ends g c =

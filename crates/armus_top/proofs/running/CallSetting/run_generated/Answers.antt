@@ -3,7 +3,7 @@ use Rattle.gen_text.specs.Generated.{generated_text}
 use Rattle.adaptive.specs.declared.analysis.Wanted.TheVariants as wanted
 use Rattle.armus_top.specs.Programs.{IsPlanOf}
 use Rattle.armus_top.proofs.GeneratedRuns.{with_plan}
-use Rattle.armus_top.proofs.generating.run_generated.Goals as goal
+use Rattle.armus_top.proofs.running.CallSetting.run_generated.Goals as goal
 
 pub returns : goal.returns
 returns g c =

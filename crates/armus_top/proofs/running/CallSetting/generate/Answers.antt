@@ -2,7 +2,7 @@ use Rattle.std.proofs.Common.{subst, sym}
 use Rattle.armus_top.specs.Generated.{IsFirstAndLast}
 use Rattle.armus_top.specs.inside.TwoLines.{HasTwoLines}
 use Rattle.armus_top.proofs.TwoLines.{report_has_two}
-use Rattle.armus_top.proofs.generating.generate.Goals as goal
+use Rattle.armus_top.proofs.running.CallSetting.generate.Goals as goal
 
 pub first_and_last-requires : goal.first_and_last-requires
 first_and_last-requires g c =

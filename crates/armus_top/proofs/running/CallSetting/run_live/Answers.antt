@@ -3,7 +3,7 @@ use Rattle.armus_top.specs.inside.Status.{number_of_status}
 use Rattle.armus_top.proofs.Ending.{finished_as}
 use Rattle.armus_top.proofs.LiveRuns.{between, reported, unreported, unwritten, wanted_memory}
 use Rattle.armus_top.proofs.Reporting.{plain_end_in_order}
-use Rattle.armus_top.proofs.running.run_live.Goals as goal
+use Rattle.armus_top.proofs.running.CallSetting.run_live.Goals as goal
 
 pub reported-requires : goal.reported-requires
 reported-requires g c = record { in_order = plain_end_in_order c.args.plan.now _ c.requires.checked c.in-Ok.ensures.ran.end }

@@ -3,7 +3,7 @@ use Rattle.armus_top.specs.Records.{IsRecordOf}
 use Rattle.armus_top.proofs.OnePlan.{checked_plan}
 use Rattle.armus_top.proofs.Reporting.{plain_end_in_order}
 use Rattle.armus_top.proofs.RecordedTexts.{record_of}
-use Rattle.armus_top.proofs.recording.record.Goals as goal
+use Rattle.armus_top.proofs.running.CallSetting.record.Goals as goal
 
 pub any_dead-requires : goal.any_dead-requires
 any_dead-requires g c = plain_end_in_order c.args.plan.now _ (checked_plan _ _ c.requires.plan) c.in_ok-end.ensures.recorded.end

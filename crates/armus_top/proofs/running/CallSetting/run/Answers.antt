@@ -1,5 +1,5 @@
 use Rattle.armus_top.proofs.Reporting.{plain_end_in_order, reports_run}
-use Rattle.armus_top.proofs.running.run.Goals as goal
+use Rattle.armus_top.proofs.running.CallSetting.run.Goals as goal
 
 pub reported-requires : goal.reported-requires
 reported-requires g c = record { in_order = plain_end_in_order c.args.plan.now _ c.requires.checked c.in_ok-end.ensures.end }

@@ -1,7 +1,7 @@
 use Rattle.std.proofs.Common.{subst, sym}
 use Rattle.armus_top.specs.Avoids.{IsAvoidOf}
 use Rattle.armus_top.proofs.AvoidedReports.{avoid_of, avoided_end_in_order}
-use Rattle.armus_top.proofs.avoiding.avoid.Goals as goal
+use Rattle.armus_top.proofs.running.CallSetting.avoid.Goals as goal
 
 pub report-requires : goal.report-requires
 report-requires g c = avoided_end_in_order c.args.plan.now _ c.requires.checked c.in_ok-end.ensures.end

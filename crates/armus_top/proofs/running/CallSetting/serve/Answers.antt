@@ -1,5 +1,5 @@
 use Rattle.armus_top.proofs.Served.{answers_by}
-use Rattle.armus_top.proofs.serving.serve.Goals as goal
+use Rattle.armus_top.proofs.running.CallSetting.serve.Goals as goal
 
 pub returns-clause-done : goal.returns-clause-done
 returns-clause-done g c =

@@ -4,7 +4,7 @@ use Rattle.armus_top.specs.Programs.{IsFaultOf}
 use Rattle.armus_top.specs.inside.Answers.{IsEndOf}
 use Rattle.armus_top.proofs.Answering.{end_of_clocks, end_of_text}
 use Rattle.armus_top.proofs.Served.{live_clock, live_run}
-use Rattle.armus_top.proofs.serving.serve_live.Goals as goal
+use Rattle.armus_top.proofs.running.CallSetting.serve_live.Goals as goal
 
 pub returns-in-Ok-clause-done : goal.returns-in-Ok-clause-done
 returns-in-Ok-clause-done g c =
