@@ -1,6 +1,6 @@
 -- A clock text has one output, and the output fixes its status.
-use Rattle.std.proofs.Common.{◌≡◌, ◌∙◌, ℕ, Bool, true, false, List, Option, ap, arith, inl, inr, refl, subst, sym}
-use Rattle.std.specs.Prelude.{◌↔◌, Err, Ok, if◌then◌else◌}
+use Rattle.std.proofs.Common.{◌≡◌, ◌∙◌, ℕ, Bool, List, Option, ap, inl, inr, refl, subst, sym}
+use Rattle.std.specs.Prelude.{Err, Ok, if◌then◌else◌}
 use mathlib.Core.Path.{fun_ext}
 use Rattle.armus_base.specs.Runs.{Place, places, state_after}
 use Rattle.armus_base.specs.States.{State, Step}
@@ -18,8 +18,9 @@ use Rattle.clock_sayings.specs.ClockRefusals.{clock_fault_lines, clock_syntax_li
 use Rattle.clock_sayings.proofs.OneExplanation.{clock_explanation_exists, one_clock_explanation}
 use Rattle.armus_words.specs.Words.{Text}
 use Rattle.explain.specs.ClockExplained.{AnswersClock, ClockEndsSo, HasSomeClockFault, IsClockExplanationOf, IsClockRefusedWith, IsMaximalClockRun, IsClockStatusOf}
-use Rattle.explain.specs.Explained.{WaitsIn}
+use Rattle.explain.specs.Explained.{SomeWaits}
 use Rattle.explain.specs.calls.Laws.{EachClockTextIsMet, OneClockOutput}
+use Rattle.explain.proofs.Statuses.{status_of_end, status_of_fault}
 use Rattle.explain.proofs.ClockEnds.{checked_moves, clock_run, clocks_tell_waiting, end_alike, run_or_fault}
 
 -- ---- refusals
@@ -106,57 +107,14 @@ one_state : (text : Text) (Holds : State → Type 0) (p : ClockTree) (u : ClockU
 one_state text Holds p u h run is =
     subst Holds (end_alike text is.program p is.unfolded u is.steps h is.ended run).ends.1 is.holds
 
-module _ (file : Option Text) (text : Text) (number : ℕ) (lines : Text) where
-  explained_status : (is : IsClockExplanationOf file text number lines) → (waits : Bool) → number ≡ (if waits then 1 else 0)
-      → ((waits ≡ true) ↔ ((t : ℕ) × WaitsIn (state_after is.steps) t)) → IsClockStatusOf text number
-  explained_status is true one tells = record {
-    refused = (λ three. absurd (omega (arith, one, three)), λ fault. absurd (run_or_fault text is.program is.unfolded is.steps is.ended fault));
-    somebody = (
-      λ _. record { program = is.program; unfolded = is.unfolded; steps = is.steps; ended = is.ended; holds = tells.0 refl },
-      λ _. one,
-    );
-    nobody = (
-      λ zero. absurd (omega (arith, one, zero)),
-      λ none.
-          absurd (let nobody = one_state text (λ state. (t : ℕ) → WaitsIn state t → ⊥) is.program is.unfolded is.steps is.ended none in
-          let (t, waits) = tells.0 refl in nobody t waits),
-    );
-  }
-  explained_status is false zero tells = record {
-    refused = (λ three. absurd (omega (arith, zero, three)), λ fault. absurd (run_or_fault text is.program is.unfolded is.steps is.ended fault));
-    somebody = (
-      λ one. absurd (omega (arith, one, zero)),
-      λ some.
-          absurd (let one = tells.1 (one_state text (λ state. (t : ℕ) × WaitsIn state t) is.program is.unfolded is.steps is.ended some) in cc),
-    );
-    nobody = (
-      λ _. record {
-        program = is.program;
-        unfolded = is.unfolded;
-        steps = is.steps;
-        ended = is.ended;
-        holds = λ t waits. absurd (let one = tells.1 (t, waits) in cc);
-      },
-      λ _. zero,
-    );
-  }
+ends_or_fault : (text : Text) (Holds : State → Type 0) → ClockEndsSo text Holds → HasSomeClockFault text → ⊥
+ends_or_fault text Holds is fault = run_or_fault text is.program is.unfolded is.steps is.ended fault
 
-  refused_status : number ≡ 3 → IsClockRefusedWith file text lines → IsClockStatusOf text number
-  refused_status three refused =
-      let fault = has_fault file text lines refused in
-      record {
-        refused = (λ _. fault, λ _. three);
-        somebody = (
-          λ one. absurd (omega (arith, one, three)),
-          λ some. absurd (run_or_fault text some.program some.unfolded some.steps some.ended fault),
-        );
-        nobody = (
-          λ zero. absurd (omega (arith, zero, three)),
-          λ none. absurd (run_or_fault text none.program none.unfolded none.steps none.ended fault),
-        );
-      }
-
-  pub status_of_clocks : AnswersClock file text number lines → IsClockStatusOf text number
-  status_of_clocks (inl is) =
-      explained_status is is.waits is.status_is (clocks_tell_waiting file text is.program is.unfolded is.steps lines is.waits is.ended is.explains)
-  status_of_clocks (inr (three, refused)) = refused_status three refused
+pub status_of_clocks : (file : Option Text) (text : Text) (number : ℕ) (lines : Text) → AnswersClock file text number lines → IsClockStatusOf text number
+status_of_clocks file text number lines (inl is) =
+    status_of_end (HasSomeClockFault text) (ClockEndsSo text) SomeWaits number (ends_or_fault text) (state_after is.steps)
+    (λ Holds holds. record { program = is.program; unfolded = is.unfolded; steps = is.steps; ended = is.ended; holds = holds })
+    (λ Holds ends. one_state text Holds is.program is.unfolded is.steps is.ended ends)
+    is.waits is.status_is (clocks_tell_waiting file text is.program is.unfolded is.steps lines is.waits is.ended is.explains)
+status_of_clocks file text number lines (inr (three, refused)) =
+    status_of_fault (HasSomeClockFault text) (ClockEndsSo text) SomeWaits number (ends_or_fault text) three (has_fault file text lines refused)

@@ -1,5 +1,5 @@
 -- A clock text has one output with the steps of its run, and the output fixes its status.
-use Rattle.std.proofs.Common.{◌≡◌, ◌∙◌, ◌++◌, ℕ, List, Option, ap, inl, inr, refl, subst, sym}
+use Rattle.std.proofs.Common.{◌≡◌, ◌∙◌, ◌++◌, ℕ, List, Option, ap, inl, inr, refl, subst, sym, true}
 use Rattle.std.specs.Prelude.{Err, Ok, if◌then◌else◌}
 use Rattle.armus_base.specs.Runs.{IsMaximal, places}
 use Rattle.armus_base.specs.States.{Step}
@@ -20,7 +20,8 @@ use Rattle.clock_steps.specs.ShownClockSteps.{AreClockShown}
 use Rattle.clock_steps.proofs.OneClockShowing.{clock_showing_exists, one_clock_showing}
 use Rattle.armus_words.specs.Words.{Text}
 use Rattle.explain.specs.ClockExplained.{IsClockExplanationOf, IsClockStatusOf}
-use Rattle.explain.specs.ClockStepped.{AnswersClockSteps, AreClockStepsOf}
+use Rattle.explain.specs.ClockStepped.{AreClockStepsOf}
+use Rattle.explain.specs.Outputs.{AnswersStepsIn}
 use Rattle.explain.proofs.ClockEnds.{checked_moves, clock_run, end_alike}
 use Rattle.explain.proofs.ClockOutputs.{one_clock_explained, one_clock_refused, clock_explained_or_refused, status_of_clocks}
 
@@ -65,8 +66,8 @@ one_clock_stepped file text status other lines others a b =
           ∙ sym b.lines_are,
     )
 
-pub one_clock_steps : (file : Option Text) (text : Text) (status other : ℕ) (lines others : Text) → AnswersClockSteps file text status lines
-    → AnswersClockSteps file text other others → (status ≡ other) × (lines ≡ others)
+pub one_clock_steps : (file : Option Text) (text : Text) (status other : ℕ) (lines others : Text) → AnswersStepsIn true file text status lines
+    → AnswersStepsIn true file text other others → (status ≡ other) × (lines ≡ others)
 one_clock_steps file text status other lines others (inl a) (inl b) = one_clock_stepped file text status other lines others a b
 one_clock_steps file text status other lines others (inl a) (inr (three, b)) =
     absurd (clock_explained_or_refused file text status a.explanation others (clock_steps_end file text status lines a) b)
@@ -78,7 +79,7 @@ one_clock_steps file text status other lines others (inr (three, a)) (inr (too, 
 
 module _ (file : Option Text) (text : Text) where
   stepped_by : (p : ClockTree) → IsClockText text p → (r : Outcome ClockUnfolding) → clock_unfolded p ≡ r
-      → (status : ℕ) × (lines : Text) × AnswersClockSteps file text status lines
+      → (status : ℕ) × (lines : Text) × AnswersStepsIn true file text status lines
   stepped_by p reads (Err fault) fails =
       (3, clock_fault_lines file text (clock_offsets text p) fault, inr (refl, inr (p, fault, reads, fails, refl)))
   stepped_by p reads (Ok u) is =
@@ -104,7 +105,7 @@ module _ (file : Option Text) (text : Text) where
         }),
       )
 
-  pub each_clock_text_has_steps : (status : ℕ) × (lines : Text) × AnswersClockSteps file text status lines
+  pub each_clock_text_has_steps : (status : ℕ) × (lines : Text) × AnswersStepsIn true file text status lines
   each_clock_text_has_steps =
       elim (clock_tree_or_fault text) [
         | inl one ↦ let (p, reads) = one in stepped_by p reads (clock_unfolded p) refl
@@ -113,6 +114,6 @@ module _ (file : Option Text) (text : Text) where
 
   -- ---- the status
 
-  pub status_of_clock_steps : (number : ℕ) (lines : Text) → AnswersClockSteps file text number lines → IsClockStatusOf text number
+  pub status_of_clock_steps : (number : ℕ) (lines : Text) → AnswersStepsIn true file text number lines → IsClockStatusOf text number
   status_of_clock_steps number lines (inl is) = status_of_clocks file text number is.explanation (inl (clock_steps_end file text number lines is))
   status_of_clock_steps number lines (inr refused) = status_of_clocks file text number lines (inr refused)

@@ -12,11 +12,11 @@ use Rattle.armus_top.proofs.OnePlan.{checked_plan}
 use Rattle.armus_top.proofs.WholeOutputs.{plan_or_refused}
 use Rattle.explain.specs.calls.Laws.{EachTextHasSteps}
 use Rattle.explain.specs.Languages.{is_of_clocks}
-use Rattle.explain.specs.Outputs.{AnswersSteps, AnswersStepsIn}
+use Rattle.explain.specs.Outputs.{AnswersStepsIn}
 use Rattle.explain.proofs.ClockSteps.{each_clock_text_has_steps}
 use Rattle.explain.proofs.EachText.{refused}
 
-stepped : (file : Option Text) (text : Text) (plan : Plan) → IsPlanOf text plan → (status : ℕ) × (lines : Text) × AnswersSteps file text status lines
+stepped : (file : Option Text) (text : Text) (plan : Plan) → IsPlanOf text plan → (status : ℕ) × (lines : Text) × AnswersStepsIn false file text status lines
 stepped file text plan (program, checked) =
     let (steps, whole) = serial_run_exists plan (checked_plan text plan (program, checked)) in
     let run = serial_is_plain plan steps whole.serial in
@@ -40,7 +40,7 @@ stepped file text plan (program, checked) =
       }),
     )
 
-each_pl_text : (file : Option Text) (text : Text) → (status : ℕ) × (lines : Text) × AnswersSteps file text status lines
+each_pl_text : (file : Option Text) (text : Text) → (status : ℕ) × (lines : Text) × AnswersStepsIn false file text status lines
 each_pl_text file text =
     elim (plan_or_refused text) [
       | inl one ↦ let (plan, is) = one in stepped file text plan is

@@ -1,7 +1,6 @@
 -- What is asked for and what the source gives fix the status.
-use Rattle.std.proofs.Common.{◌≡◌, ℕ, Bool, true, false, List, Option, arith, inl, inr, refl, subst, sym}
-use Rattle.std.specs.Prelude.{◌↔◌, Some, if◌then◌else◌}
-use Rattle.std.proofs.lemmas.Bool.{false≢true}
+use Rattle.std.proofs.Common.{◌≡◌, ℕ, Bool, true, false, List, Option, inl, inr, subst, sym}
+use Rattle.std.specs.Prelude.{Some}
 use Rattle.armus_base.specs.Plans.{Plan}
 use Rattle.armus_base.specs.Runs.{IsMaximal, IsPlainRun, state_after}
 use Rattle.armus_base.specs.Serial.{IsSerialAvoidedEnd}
@@ -16,17 +15,18 @@ use Rattle.armus_top.specs.Headline.{EndsWith, IsCalm, Passage, no_memory, read_
 use Rattle.armus_top.specs.declared.programs.TheConstants.{MAX_TEXT_BYTES}
 use Rattle.armus_top.proofs.Ending.{not_long, not_more, rose_from, same_input}
 use Rattle.armus_top.proofs.OnePlan.{checked_plan, one_plan, plan_or_fault}
-use Rattle.explain.specs.Explained.{EndsSo, IsExplanationOf, IsEndedRunOf, WaitsIn}
-use Rattle.explain.specs.Outputs.{AnswersAvoided, AnswersSteps, AnswersStepsIn, AnswersStepsOf, AnswersText, FixesStatus, FixesTextStatus, IsAvoidedStatusOf, IsStatusIn, IsStatusOf, MayAnswer, MayWrite, text_limit}
+use Rattle.explain.specs.Explained.{EndsSo, IsExplanationOf, IsEndedRunOf, SomeWaits}
+use Rattle.explain.specs.Outputs.{AnswersAvoided, AnswersStepsIn, AnswersStepsOf, AnswersText, FixesStatus, FixesTextStatus, IsAvoidedStatusOf, IsStatusIn, IsStatusOf, MayAnswer, MayWrite, text_limit}
 use Rattle.explain.specs.ClockExplained.{AnswersClock, IsClockStatusOf}
 use Rattle.explain.specs.Stepped.{AreStepsOf}
-use Rattle.explain.specs.Avoided.{AvoidsSo, IsAvoidedOf, SomeStays}
+use Rattle.explain.specs.Avoided.{AvoidsSo, SomeStays}
 use Rattle.explain.specs.Refused.{HasSomeFault, IsRefusedWith}
 use Rattle.explain.specs.Requests.{Asked, avoided, clocks, explanation, help, nothing, steps, version}
 use Rattle.explain.proofs.Staying.{tells_staying}
 use Rattle.explain.specs.Languages.{is_of_clocks}
 use Rattle.explain.proofs.ClockOutputs.{status_of_clocks}
 use Rattle.explain.proofs.ClockSteps.{status_of_clock_steps}
+use Rattle.explain.proofs.Statuses.{status_of_end, status_of_fault}
 use Rattle.explain.proofs.Waiting.{tells_waiting}
 
 -- a text that is refused with some lines has a fault
@@ -51,51 +51,14 @@ one_state text Holds plan h one is =
     let ends = one_end plan is.steps h (checked_plan text plan one.plan_is) run one.run maximal one.maximal in
     subst Holds ends.1 is.holds
 
-module _ (file : Option Text) (text : Text) (number : ℕ) (lines : Text) where
-  -- the status of a text that is explained
-  explained_status : (is : IsExplanationOf file text number lines) → (waits : Bool) → number ≡ (if waits then 1 else 0)
-      → ((waits ≡ true) ↔ ((t : ℕ) × WaitsIn (state_after is.steps) t)) → IsStatusOf text number
-  explained_status is true one tells = record {
-    refused = (λ three. absurd (omega (arith, one, three)), λ fault. absurd (explained_or_fault file text number lines is fault));
-    somebody = (λ _. record { plan = is.plan; steps = is.steps; ended = is.ended; holds = tells.0 refl }, λ _. one);
-    nobody = (
-      λ zero. absurd (omega (arith, one, zero)),
-      λ none.
-          absurd (let nobody = one_state text (λ state. (t : ℕ) → WaitsIn state t → ⊥) is.plan is.steps is.ended none in
-          let (t, waits) = tells.0 refl in nobody t waits),
-    );
-  }
-  explained_status is false zero tells = record {
-    refused = (λ three. absurd (omega (arith, zero, three)), λ fault. absurd (explained_or_fault file text number lines is fault));
-    somebody = (
-      λ one. absurd (omega (arith, one, zero)),
-      λ some.
-          absurd (let one = tells.1 (one_state text (λ state. (t : ℕ) × WaitsIn state t) is.plan is.steps is.ended some) in cc),
-    );
-    nobody = (
-      λ _. record {
-        plan = is.plan;
-        steps = is.steps;
-        ended = is.ended;
-        holds = λ t waits. absurd (let one = tells.1 (t, waits) in cc);
-      },
-      λ _. zero,
-    );
-  }
-
-  -- the status of a text that is refused
-  refused_status : number ≡ 3 → IsRefusedWith file text lines → IsStatusOf text number
-  refused_status three refused =
-      let fault = refused_has file text lines refused in
-      record {
-        refused = (λ _. fault, λ _. three);
-        somebody = (λ one. absurd (omega (arith, one, three)), λ some. absurd (ends_or_fault text _ some fault));
-        nobody = (λ zero. absurd (omega (arith, zero, three)), λ none. absurd (ends_or_fault text _ none fault));
-      }
-
-  pub status_of_text : AnswersText file text number lines → IsStatusOf text number
-  status_of_text (inl is) = explained_status is is.waits is.status_is (tells_waiting file text is.plan is.steps lines is.waits is.ended is.explains)
-  status_of_text (inr (three, refused)) = refused_status three refused
+pub status_of_text : (file : Option Text) (text : Text) (number : ℕ) (lines : Text) → AnswersText file text number lines → IsStatusOf text number
+status_of_text file text number lines (inl is) =
+    status_of_end (HasSomeFault text) (EndsSo text) SomeWaits number (ends_or_fault text) (state_after is.steps)
+    (λ Holds holds. record { plan = is.plan; steps = is.steps; ended = is.ended; holds = holds })
+    (λ Holds ends. one_state text Holds is.plan is.steps is.ended ends)
+    is.waits is.status_is (tells_waiting file text is.plan is.steps lines is.waits is.ended is.explains)
+status_of_text file text number lines (inr (three, refused)) =
+    status_of_fault (HasSomeFault text) (EndsSo text) SomeWaits number (ends_or_fault text) three (refused_has file text lines refused)
 
 -- ---- the run that avoids deadlock
 
@@ -112,46 +75,14 @@ one_avoided_state text Holds plan h plan_is ended is =
     let same = one_serial_end plan is.steps h (checked_plan text plan plan_is) own ended in
     subst (λ (g : List Step). Holds (state_after g)) same is.holds
 
-module _ (file : Option Text) (text : Text) (number : ℕ) (lines : Text) where
-  abbrev here : (is : IsAvoidedOf file text number lines) → (Holds : State → Type 0) → Holds (state_after is.steps) → AvoidsSo text Holds
-  here is Holds holds = record { plan = is.plan; plan_is = is.plan_is; steps = is.steps; ended = is.explains.ended; holds = holds }
-
-  avoided_status : (is : IsAvoidedOf file text number lines) → (stays : Bool) → number ≡ (if stays then 1 else 0)
-      → ((stays ≡ true) ↔ SomeStays (state_after is.steps)) → IsAvoidedStatusOf text number
-  avoided_status is true one tells = record {
-    refused = (
-      λ three. absurd (omega (arith, one, three)),
-      λ fault. absurd (avoided_or_fault text SomeStays (here is SomeStays (tells.0 refl)) fault),
-    );
-    somebody = (λ _. here is SomeStays (tells.0 refl), λ _. one);
-    nobody = (
-      λ zero. absurd (omega (arith, one, zero)),
-      λ none. absurd (one_avoided_state text (λ state. SomeStays state → ⊥) is.plan is.steps is.plan_is is.explains.ended none (tells.0 refl)),
-    );
-  }
-  avoided_status is false zero tells =
-      let nobody : SomeStays (state_after is.steps) → ⊥ = λ some. false≢true (tells.1 some) in
-      record {
-        refused = (
-          λ three. absurd (omega (arith, zero, three)),
-          λ fault. absurd (avoided_or_fault text (λ state. SomeStays state → ⊥) (here is (λ state. SomeStays state → ⊥) nobody) fault),
-        );
-        somebody = (
-          λ one. absurd (omega (arith, one, zero)),
-          λ some. absurd (nobody (one_avoided_state text SomeStays is.plan is.steps is.plan_is is.explains.ended some)),
-        );
-        nobody = (λ _. here is (λ state. SomeStays state → ⊥) nobody, λ _. zero);
-      }
-
-  status_of_avoided : AnswersAvoided file text number lines → IsAvoidedStatusOf text number
-  status_of_avoided (inl is) = avoided_status is is.stays is.status_is (tells_staying file text is.plan is.steps lines is.stays is.plan_is is.explains.ended is.explains)
-  status_of_avoided (inr (three, refused)) =
-      let fault = refused_has file text lines refused in
-      record {
-        refused = (λ _. fault, λ _. three);
-        somebody = (λ one. absurd (omega (arith, one, three)), λ some. absurd (avoided_or_fault text _ some fault));
-        nobody = (λ zero. absurd (omega (arith, zero, three)), λ none. absurd (avoided_or_fault text _ none fault));
-      }
+status_of_avoided : (file : Option Text) (text : Text) (number : ℕ) (lines : Text) → AnswersAvoided file text number lines → IsAvoidedStatusOf text number
+status_of_avoided file text number lines (inl is) =
+    status_of_end (HasSomeFault text) (AvoidsSo text) SomeStays number (avoided_or_fault text) (state_after is.steps)
+    (λ Holds holds. record { plan = is.plan; plan_is = is.plan_is; steps = is.steps; ended = is.explains.ended; holds = holds })
+    (λ Holds ends. one_avoided_state text Holds is.plan is.steps is.plan_is is.explains.ended ends)
+    is.stays is.status_is (tells_staying file text is.plan is.steps lines is.stays is.plan_is is.explains.ended is.explains)
+status_of_avoided file text number lines (inr (three, refused)) =
+    status_of_fault (HasSomeFault text) (AvoidsSo text) SomeStays number (avoided_or_fault text) three (refused_has file text lines refused)
 
 -- ---- steps
 
@@ -168,7 +99,7 @@ steps_explained file text status lines is = record {
 }
 
 -- so their status is that of the explanation
-status_of_steps : (file : Option Text) (text : Text) (number : ℕ) (lines : Text) → AnswersSteps file text number lines → IsStatusOf text number
+status_of_steps : (file : Option Text) (text : Text) (number : ℕ) (lines : Text) → AnswersStepsIn false file text number lines → IsStatusOf text number
 status_of_steps file text number lines (inl is) = status_of_text file text number is.explanation (inl (steps_explained file text number lines is))
 status_of_steps file text number lines (inr refused) = status_of_text file text number lines (inr refused)
 

@@ -2,6 +2,7 @@ pub mod EndExplained
 pub mod EndStepped
 pub mod Waiting
 pub mod ClockEnds
+pub mod Statuses
 pub mod ClockOutputs
 pub mod EndClockStepped
 pub mod ClockSteps

@@ -12,7 +12,7 @@ use Rattle.armus_words.specs.Words.{Text}
 use Rattle.armus_top.proofs.OnePlan.{checked_plan, one_plan}
 use Rattle.explain.specs.calls.Laws.{OneStepsOutput}
 use Rattle.explain.specs.Languages.{is_of_clocks}
-use Rattle.explain.specs.Outputs.{AnswersSteps, AnswersStepsIn}
+use Rattle.explain.specs.Outputs.{AnswersStepsIn}
 use Rattle.explain.specs.Stepped.{AreStepsOf}
 use Rattle.explain.proofs.ClockSteps.{one_clock_steps}
 use Rattle.explain.proofs.Fixing.{explained_or_fault, refused_has, steps_explained}
@@ -39,7 +39,7 @@ one_stepped file text status other lines others a b =
           ∙ sym b.lines_are,
     )
 
-one_pl_steps : (file : Option Text) (text : Text) (status other : ℕ) (lines others : Text) → AnswersSteps file text status lines → AnswersSteps file text other others
+one_pl_steps : (file : Option Text) (text : Text) (status other : ℕ) (lines others : Text) → AnswersStepsIn false file text status lines → AnswersStepsIn false file text other others
     → (status ≡ other) × (lines ≡ others)
 one_pl_steps file text status other lines others (inl a) (inl b) = one_stepped file text status other lines others a b
 one_pl_steps file text status other lines others (inl a) (inr (three, b)) =

@@ -35,11 +35,3 @@ pub record AvoidsSo (text : Text) (Holds : State → Type 0) : Type 0 where
   pub steps : List Step
   pub ended : IsSerialAvoidedEnd plan steps
   pub holds : Holds (state_after steps)
-
--- a task of this state was refused or waits
-abbrev pub SomebodyStays : Text → Type 0
-SomebodyStays text = AvoidsSo text SomeStays
-
--- no task of this state was refused or waits
-abbrev pub NobodyStays : Text → Type 0
-NobodyStays text = AvoidsSo text (λ state. SomeStays state → ⊥)

@@ -1,5 +1,5 @@
 -- What is written where a clock text is explained or refused.
-use Rattle.std.specs.Prelude.{◌≡◌, ◌⊎◌, ◌↔◌, ℕ, Bool, if◌then◌else◌, List, Option, Ok, Err}
+use Rattle.std.specs.Prelude.{◌≡◌, ◌⊎◌, ℕ, Bool, if◌then◌else◌, List, Option, Ok, Err}
 use Rattle.armus_base.specs.Runs.{IsMaximal, IsPlainRun, places, state_after}
 use Rattle.armus_base.specs.States.{State, Step}
 use Rattle.pl_syntax.specs.declared.fault.SyntaxFault.{SyntaxFault}
@@ -12,7 +12,7 @@ use Rattle.clock_origins.specs.ClockOffsets.{clock_offsets}
 use Rattle.clock_sayings.specs.ClockExplanations.{ExplainsActivities}
 use Rattle.clock_sayings.specs.ClockRefusals.{clock_fault_lines, clock_syntax_lines}
 use Rattle.armus_words.specs.Words.{Text}
-use Rattle.explain.specs.Explained.{WaitsIn}
+use Rattle.explain.specs.Explained.{IsStatusBy, SomeWaits}
 
 -- The text is this clock program, which has this unfolding, and these steps are a run of the unfolding's plan up to its end. Where it ends, each task has
 -- ended as its activity stands at the ends of the machine on the text.
@@ -34,15 +34,11 @@ pub record IsClockExplanationOf (file : Option Text) (text : Text) (status : ℕ
   pub explains : ExplainsActivities file text program unfolded (plan_of_moves unfolded) (places steps) lines waits
   pub status_is : status ≡ (if waits then 1 else 0)
 
--- the unfolding of this program has this first fault
-abbrev pub HasFirstFault : ClockTree → CheckFault → Type 0
-HasFirstFault program fault = clock_unfolded program ≡ Err fault
-
 -- the lines of a clock text that is refused: for its first syntax fault, or else for the first fault of its unfolding
 abbrev pub IsClockRefusedWith : Option Text → Text → Text → Type 0
 IsClockRefusedWith file text lines =
     ((fault : SyntaxFault) × HasClockFault text fault × (lines ≡ clock_syntax_lines file text fault))
-    ⊎ ((program : ClockTree) × (fault : CheckFault) × IsClockText text program × HasFirstFault program fault
+    ⊎ ((program : ClockTree) × (fault : CheckFault) × IsClockText text program × (clock_unfolded program ≡ Err fault)
     × (lines ≡ clock_fault_lines file text (clock_offsets text program) fault))
 
 -- a whole output for this clock text, of the file with this name or of none, with its status: 0 or 1 with its explanation, or 3 with the lines of a refusal
@@ -54,7 +50,7 @@ AnswersClock file text status lines = IsClockExplanationOf file text status line
 -- the clock text has a fault
 abbrev pub HasSomeClockFault : Text → Type 0
 HasSomeClockFault text =
-    ((fault : SyntaxFault) × HasClockFault text fault) ⊎ ((program : ClockTree) × (fault : CheckFault) × IsClockText text program × HasFirstFault program fault)
+    ((fault : SyntaxFault) × HasClockFault text fault) ⊎ ((program : ClockTree) × (fault : CheckFault) × IsClockText text program × (clock_unfolded program ≡ Err fault))
 
 -- the clock text is not refused, and this holds of its final state, in which a run of it ends
 pub record ClockEndsSo (text : Text) (Holds : State → Type 0) : Type 0 where
@@ -64,17 +60,6 @@ pub record ClockEndsSo (text : Text) (Holds : State → Type 0) : Type 0 where
   pub ended : IsMaximalClockRun text program unfolded steps
   pub holds : Holds (state_after steps)
 
--- an activity of its final state waits
-abbrev pub SomeActivityWaits : Text → Type 0
-SomeActivityWaits text = ClockEndsSo text (λ state. (t : ℕ) × WaitsIn state t)
-
--- no activity of its final state waits
-abbrev pub NoActivityWaits : Text → Type 0
-NoActivityWaits text = ClockEndsSo text (λ state. (t : ℕ) → WaitsIn state t → ⊥)
-
--- the status of a clock text that is not too long: 3 exactly where it is refused, 1 exactly where an activity of its final state waits, and 0 exactly where
--- none does
-pub record IsClockStatusOf (text : Text) (number : ℕ) : Type 0 where
-  pub refused : (number ≡ 3) ↔ HasSomeClockFault text
-  pub somebody : (number ≡ 1) ↔ SomeActivityWaits text
-  pub nobody : (number ≡ 0) ↔ NoActivityWaits text
+-- the status of a clock text that is not too long: 1 exactly where an activity of its final state waits
+abbrev pub IsClockStatusOf : Text → ℕ → Type 0
+IsClockStatusOf text = IsStatusBy (HasSomeClockFault text) (ClockEndsSo text) SomeWaits

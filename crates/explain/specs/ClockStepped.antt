@@ -1,5 +1,5 @@
 -- What is written where the steps of a clock text's run are shown.
-use Rattle.std.specs.Prelude.{◌≡◌, ◌⊎◌, ◌++◌, ℕ, Bool, if◌then◌else◌, List, Option}
+use Rattle.std.specs.Prelude.{◌≡◌, ◌++◌, ℕ, Bool, if◌then◌else◌, List, Option}
 use Rattle.armus_base.specs.Runs.{places}
 use Rattle.armus_base.specs.States.{Step}
 use Rattle.clock_syntax.specs.Trees.{ClockTree}
@@ -8,7 +8,7 @@ use Rattle.clock_sayings.specs.ClockExplanations.{ExplainsActivities}
 use Rattle.step_lines.specs.SerialRuns.{IsSerialRun}
 use Rattle.clock_steps.specs.ShownClockSteps.{AreClockShown}
 use Rattle.armus_words.specs.Words.{Text}
-use Rattle.explain.specs.ClockExplained.{IsClockRefusedWith, IsMaximalClockRun}
+use Rattle.explain.specs.ClockExplained.{IsMaximalClockRun}
 
 -- The lines show the steps of the serial plain run of a clock text, of the file with this name or of none, and then explain how its activities stand where this
 -- run has ended; and the status is 1 where one of them waits, else 0.
@@ -25,8 +25,3 @@ pub record AreClockStepsOf (file : Option Text) (text : Text) (status : ℕ) (li
   pub explains : ExplainsActivities file text program unfolded (plan_of_moves unfolded) (places steps) explanation waits
   pub status_is : status ≡ (if waits then 1 else 0)
   pub lines_are : lines ≡ shown ++ explanation
-
--- a whole output with the steps of this clock text, of the file with this name or of none: 0 or 1 with them and with its explanation, or 3 with the lines of a
--- refusal
-abbrev pub AnswersClockSteps : Option Text → Text → ℕ → Text → Type 0
-AnswersClockSteps file text status lines = AreClockStepsOf file text status lines ⊎ ((status ≡ 3) × IsClockRefusedWith file text lines)

@@ -1,5 +1,5 @@
 -- What is written where a text is explained.
-use Rattle.std.specs.Prelude.{◌≡◌, ℕ, Bool, if◌then◌else◌, List, Option, Some}
+use Rattle.std.specs.Prelude.{◌≡◌, ◌↔◌, ℕ, Bool, if◌then◌else◌, List, Option, Some}
 use Rattle.armus_base.specs.declared.event.Event.{Event}
 use Rattle.armus_base.specs.Plans.{Plan}
 use Rattle.armus_base.specs.Runs.{IsMaximal, IsPlainRun, places, state_after}
@@ -35,10 +35,12 @@ pub record EndsSo (text : Text) (Holds : State → Type 0) : Type 0 where
   pub ended : IsEndedRunOf text plan steps
   pub holds : Holds (state_after steps)
 
--- a task of its final state waits
-abbrev pub SomebodyWaits : Text → Type 0
-SomebodyWaits text = EndsSo text (λ state. (t : ℕ) × WaitsIn state t)
+-- a task waits in the state
+abbrev pub SomeWaits : State → Type 0
+SomeWaits state = (t : ℕ) × WaitsIn state t
 
--- no task of its final state waits
-abbrev pub NobodyWaits : Text → Type 0
-NobodyWaits text = EndsSo text (λ state. (t : ℕ) → WaitsIn state t → ⊥)
+-- the status of a text: 3 exactly where it has a fault, 1 exactly where in its final state somebody stays so, and 0 exactly where nobody does
+pub record IsStatusBy (has_fault : Type 0) (Ends : (State → Type 0) → Type 0) (SomeStays : State → Type 0) (number : ℕ) : Type 0 where
+  pub refused : (number ≡ 3) ↔ has_fault
+  pub somebody : (number ≡ 1) ↔ Ends SomeStays
+  pub nobody : (number ≡ 0) ↔ Ends (λ state. SomeStays state → ⊥)

@@ -1,16 +1,16 @@
 -- What a call of the program that explains texts leaves.
-use Rattle.std.specs.Prelude.{◌≡◌, ◌⊎◌, ◌↔◌, ℕ, Bool, true, false, Some, Option, None}
+use Rattle.std.specs.Prelude.{◌≡◌, ◌⊎◌, ℕ, Bool, true, false, Some, Option, None}
 use Rattle.std.specs.Io.KnownBytes.{Keeps}
 use Rattle.refusals.specs.LengthRefusals.{length_refusal}
 use Rattle.armus_words.specs.Words.{Text}
 use Rattle.armus_top.specs.Headline.{EndsWith, GaveTooMuch, HasInput, IsCalm, Offers, OffersTooMuch, Passage}
 use Rattle.armus_top.specs.declared.programs.TheConstants.{MAX_TEXT_BYTES}
-use Rattle.explain.specs.ClockExplained.{AnswersClock, IsClockStatusOf}
-use Rattle.explain.specs.ClockStepped.{AnswersClockSteps}
+use Rattle.explain.specs.ClockExplained.{AnswersClock, IsClockRefusedWith, IsClockStatusOf}
+use Rattle.explain.specs.ClockStepped.{AreClockStepsOf}
 use Rattle.explain.specs.Languages.{is_of_clocks}
-use Rattle.explain.specs.Explained.{IsExplanationOf, NobodyWaits, SomebodyWaits}
+use Rattle.explain.specs.Explained.{EndsSo, IsExplanationOf, IsStatusBy, SomeWaits}
 use Rattle.explain.specs.Stepped.{AreStepsOf}
-use Rattle.explain.specs.Avoided.{IsAvoidedOf, NobodyStays, SomebodyStays}
+use Rattle.explain.specs.Avoided.{AvoidsSo, IsAvoidedOf, SomeStays}
 use Rattle.explain.specs.Refused.{HasSomeFault, IsRefusedWith}
 use Rattle.explain.specs.Requests.{Asked, avoided, clocks, explain_usage_line, explanation, help, help_lines, nothing, steps, version, version_line}
 
@@ -18,14 +18,11 @@ use Rattle.explain.specs.Requests.{Asked, avoided, clocks, explain_usage_line, e
 abbrev pub AnswersText : Option Text → Text → ℕ → Text → Type 0
 AnswersText file text status lines = IsExplanationOf file text status lines ⊎ ((status ≡ 3) × IsRefusedWith file text lines)
 
--- the same where the steps of the text's run are wanted: 0 or 1 with them and with its explanation, or 3 with the lines of a refusal
-abbrev pub AnswersSteps : Option Text → Text → ℕ → Text → Type 0
-AnswersSteps file text status lines = AreStepsOf file text status lines ⊎ ((status ≡ 3) × IsRefusedWith file text lines)
-
--- the same for a text that is one of clocks, or is not
+-- the same where the steps of its run are wanted, of a text that is one of clocks, or is not: 0 or 1 with them and with its explanation, or 3 with the lines of a
+-- refusal
 abbrev pub AnswersStepsIn : (of_clocks : Bool) → Option Text → Text → ℕ → Text → Type 0
-AnswersStepsIn true file text status lines = AnswersClockSteps file text status lines
-AnswersStepsIn false file text status lines = AnswersSteps file text status lines
+AnswersStepsIn true file text status lines = AreClockStepsOf file text status lines ⊎ ((status ≡ 3) × IsClockRefusedWith file text lines)
+AnswersStepsIn false file text status lines = AreStepsOf file text status lines ⊎ ((status ≡ 3) × IsRefusedWith file text lines)
 
 -- the same for a text of either language
 abbrev pub AnswersStepsOf : Option Text → Text → ℕ → Text → Type 0
@@ -61,18 +58,13 @@ text_limit (avoided file) = Some MAX_TEXT_BYTES
 text_limit (clocks file) = Some MAX_TEXT_BYTES
 text_limit asked = None
 
--- the status of a text that is not too long: 3 exactly where it is refused, 1 exactly where a task of its final state waits, and 0 exactly where none does
-pub record IsStatusOf (text : Text) (number : ℕ) : Type 0 where
-  pub refused : (number ≡ 3) ↔ HasSomeFault text
-  pub somebody : (number ≡ 1) ↔ SomebodyWaits text
-  pub nobody : (number ≡ 0) ↔ NobodyWaits text
+-- the status of a text that is not too long: 1 exactly where a task of its final state waits
+abbrev pub IsStatusOf : Text → ℕ → Type 0
+IsStatusOf text = IsStatusBy (HasSomeFault text) (EndsSo text) SomeWaits
 
--- the status where its run that avoids deadlock is explained: 3 exactly where it is refused, 1 exactly where in the state in which this run ends a task was refused
--- or waits, and 0 exactly where none was or does
-pub record IsAvoidedStatusOf (text : Text) (number : ℕ) : Type 0 where
-  pub refused : (number ≡ 3) ↔ HasSomeFault text
-  pub somebody : (number ≡ 1) ↔ SomebodyStays text
-  pub nobody : (number ≡ 0) ↔ NobodyStays text
+-- the status where its run that avoids deadlock is explained: 1 exactly where in the state in which this run ends a task was refused or waits
+abbrev pub IsAvoidedStatusOf : Text → ℕ → Type 0
+IsAvoidedStatusOf text = IsStatusBy (HasSomeFault text) (AvoidsSo text) SomeStays
 
 -- the status where its steps are shown, of a text that is one of clocks, or is not
 abbrev pub IsStatusIn : (of_clocks : Bool) → Text → ℕ → Type 0

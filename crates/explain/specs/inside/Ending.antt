@@ -1,5 +1,5 @@
 -- What the program has before it writes.
-use Rattle.std.specs.Prelude.{◌≡◌, Option, Some}
+use Rattle.std.specs.Prelude.{◌≡◌, true, false, Option, Some}
 use Rattle.armus_words.specs.Words.{Text}
 use Rattle.armus_top.specs.Headline.{HasCountedFault, IsSound, Passage, ReadNoMore}
 use Rattle.armus_top.specs.declared.programs.TheConstants.{MAX_TEXT_BYTES}
@@ -13,11 +13,10 @@ use Rattle.explain.specs.declared.answer.ClockWanted as clocks_wanted
 use Rattle.explain.specs.declared.answer.ClockWanted.TheVariants as c
 use Rattle.explain.specs.declared.answer.PlWanted as pl
 use Rattle.explain.specs.declared.answer.PlWanted.TheVariants as p
-use Rattle.explain.specs.Outputs.{AnswersAvoided, AnswersSteps, AnswersStepsOf, AnswersText, MayWrite}
+use Rattle.explain.specs.Outputs.{AnswersAvoided, AnswersStepsIn, AnswersStepsOf, AnswersText, MayWrite}
 use Rattle.explain.specs.Refused.{IsRefusedWith}
 use Rattle.explain.specs.Requests.{Asked, avoided, clocks, explanation, steps}
 use Rattle.explain.specs.ClockExplained.{AnswersClock, IsClockRefusedWith}
-use Rattle.explain.specs.ClockStepped.{AnswersClockSteps}
 
 -- it is a refusal of this text
 abbrev pub IsRefusalOf : Option Text → Text → Answer → Type 0
@@ -26,7 +25,7 @@ IsRefusalOf file text answer = (number_of_status answer.status ≡ 3) × IsRefus
 -- it is a whole output for this text of PL, of which this is wanted
 abbrev pub IsPlAnswerTo : pl.PlWanted → Option Text → Text → Answer → Type 0
 IsPlAnswerTo p.Explanation file text answer = AnswersText file text (number_of_status answer.status) answer.lines
-IsPlAnswerTo p.Steps file text answer = AnswersSteps file text (number_of_status answer.status) answer.lines
+IsPlAnswerTo p.Steps file text answer = AnswersStepsIn false file text (number_of_status answer.status) answer.lines
 IsPlAnswerTo p.Avoided file text answer = AnswersAvoided file text (number_of_status answer.status) answer.lines
 
 -- it is a refusal of this clock text
@@ -36,7 +35,7 @@ IsClockRefusalOf file text answer = (number_of_status answer.status ≡ 3) × Is
 -- it is a whole output for this clock text, of which this is wanted
 abbrev pub IsClockAnswerTo : clocks_wanted.ClockWanted → Option Text → Text → Answer → Type 0
 IsClockAnswerTo c.Explanation file text answer = AnswersClock file text (number_of_status answer.status) answer.lines
-IsClockAnswerTo c.Steps file text answer = AnswersClockSteps file text (number_of_status answer.status) answer.lines
+IsClockAnswerTo c.Steps file text answer = AnswersStepsIn true file text (number_of_status answer.status) answer.lines
 
 -- it is a whole output for this text, of which this is wanted
 abbrev pub IsAnswerTo : Wanted → Option Text → Text → Answer → Type 0
