@@ -221,8 +221,8 @@ impl Walk {
     }
 }
 
-/// What walks tell of task `t`, were it published on the event, in a world where nobody is dead: the cycle of the statuses where it is dead by them, and no cycle where it
-/// is not. None where the walks are longer than what is looked at; it takes at most twelve looks at all tasks.
+/// What walks tell of task `t`, were it published on the event, in a world where nobody is dead: the cycle of the statuses where it is dead by them, and no
+/// cycle where it is not. None where the walks are longer than what is looked at: the impeders of at most twelve tasks are looked for.
 pub(crate) fn told_by_walks(
     alloc: Global,
     world: &World,
