@@ -74,7 +74,8 @@ fn run_of_layout<'p>(
 
 /// Runs the plan of the clock text of this program to its end, as `step_to_end` does. `places` are those of the text, and `plan` is the plan to which the
 /// program unfolds. It answers a line for each of the first `MOST_SHOWN` steps, and where there were more, a line that tells how many; the world in which the
-/// run ends; and the value of its state. The only error is want of memory. The time is the number of steps times that of the activities, and for each step that is shown linear in the ops of its activity's code.
+/// run ends; and the value of its state. The only error is want of memory. The time is the number of steps times that of the
+/// activities, and for each step that is shown linear in the ops of its activity's code.
 pub fn clock_steps_through<'p>(
     alloc: Global,
     places: &TextPlaces<'_>,
