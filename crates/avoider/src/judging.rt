@@ -6,6 +6,7 @@ ghost use Rattle.pl_core.specs.calls.Worlds.{state_of};
 ghost use Rattle.avoider.specs.calls.Decisions.{IsBeforeStep, IsDecision};
 ghost use Rattle.avoider.specs.calls.OnBoard.{HasSameRoom, IsBeforeDecision, IsDecidedOnBoard, IsUndecided};
 
+use crate::step::publish_on_no_cycle;
 use crate::{Decision, avoid_step, avoid_step_kept, decide, decide_kept, release};
 use adaptive::Wanted;
 use armus_base::{NoMemory, Offset, PhaserId, TaskId};
@@ -73,7 +74,7 @@ impl Judge {
         }
     }
 
-    /// Decides as `avoid_step` does, or as `avoid_step_kept` by its order.
+    /// Decides as `avoid_step` does, or by its order as `avoid_step_kept` does, where no look at the phasers shows that the await closes no cycle.
     pub fn step(
         &mut self,
         alloc: Global,
@@ -87,6 +88,9 @@ impl Judge {
     {
         if let Judging::Graph(wanted) = self.judging {
             return avoid_step(alloc, world, t, wanted);
+        }
+        if let Some(event) = publish_on_no_cycle(world, t) {
+            return Ok(Decision::Published(event));
         }
         let mut order = self.take_order(alloc, world.plan().tasks())?;
         let decided = avoid_step_kept(alloc, world, t, &mut order);

@@ -7,7 +7,7 @@ ghost use Rattle.armus_base.specs.calls.Statuses.{IsInOrder};
 ghost use Rattle.armus_base.specs.declared.event.Event.{Event};
 ghost use Rattle.pl_core.specs.calls.Stands.{IsAtAwaitOf};
 ghost use Rattle.pl_core.specs.calls.Worlds.{places_of, state_of};
-ghost use Rattle.avoider.specs.calls.Decisions.{IsBeforeStep, IsDecision, IsOutcome, supposed_statuses};
+ghost use Rattle.avoider.specs.calls.Decisions.{IsBeforeStep, IsDecision, IsOutcome, IsPublished, supposed_statuses};
 ghost use Rattle.avoider.specs.declared.decision.Decision.TheVariants.{Published, Refused};
 
 use crate::Decision;
@@ -36,13 +36,27 @@ pub fn avoid_step(
     ensures nobody { NobodyDead (state_of world.new) }
     ensures same { OnErr result (world.new ≡ world.old) }
 {
+    if let Some(event) = publish_on_no_cycle(world, t) {
+        return Ok(Decision::Published(event));
+    }
+    let event = event_before(world, t);
+    let found = death_if(alloc, world, t, event, wanted)?;
+    Ok(carry_out(world, t, event, found))
+}
+
+/// Publishes the await at which task `t` stands, in a world where nobody is dead, where a look at the phasers shows that the task would lie on no cycle, and
+/// answers its event; else the world stays as it is.
+pub(crate) fn publish_on_no_cycle(world: &mut World, t: TaskId) -> Option<Event>
+    requires before { IsBeforeStep world.old t.0 }
+    ensures published { MatchOption result (world.new ≡ world.old) (IsPublished world.old world.new t.0) }
+    ensures nobody { NobodyDead (state_of world.new) }
+{
     let event = event_before(world, t);
     if is_on_no_cycle(world, t, event) {
         world.step(t);
-        return Ok(Decision::Published(event));
+        return Some(event);
     }
-    let found = death_if(alloc, world, t, event, wanted)?;
-    Ok(carry_out(world, t, event, found))
+    None
 }
 
 // The cycle of the supposed statuses where the task is dead by them: as walks tell it, and else by the statuses themselves.

@@ -1,6 +1,6 @@
 use Rattle.avoider.proofs.NobodyDies.{block_kills_nobody}
 use Rattle.avoider.proofs.Supposing.{phaser_of_await}
-use Rattle.avoider.proofs.step.avoid_step.Goals as goal
+use Rattle.avoider.proofs.step.publish_on_no_cycle.Goals as goal
 
 pub is_on_no_cycle-requires-clause-phaser : goal.is_on_no_cycle-requires-clause-phaser
 is_on_no_cycle-requires-clause-phaser c =
