@@ -24,6 +24,7 @@ pool small | 1 2 | met\n\
 
 const LARGE: &str = "\
 run large | 1 4095 | in vain\n\
+avoid decisions | 1 4006 | in vain\n\
 pool large | 1 2 | in vain\n\
 ";
 
