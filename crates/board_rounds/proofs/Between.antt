@@ -2,7 +2,7 @@
 use Rattle.std.proofs.Common.{◌≡◌, ℕ, zero, suc, List, [], ◌∷◌, ◌++◌, Some, length, map, take, get_or, sym, refl, ap, ◌∙◌, subst, arith, inl, inr, ◌⊎◌, eqb-true}
 use Rattle.std.specs.List.{flat_map}
 use Rattle.std.specs.Prelude.{All, Contains}
-use Rattle.std.proofs.lemmas.List.Elements.{Contains-append_cases, Contains-append_left, Contains-append_right}
+use Rattle.std.proofs.lemmas.List.Elements.{Contains-append_cases, Contains-append_left, Contains-append_right, Contains-get_or}
 use Rattle.armus_base.proofs.Elements.{Contains-cons_cases, Contains-head, Contains-tail, from_map, in_map, nothing_in_nil}
 use Rattle.armus_base.specs.Plans.{Action}
 use Rattle.board.specs.calls.Views.{own_place}
@@ -12,7 +12,6 @@ use Rattle.board.specs.calls.Seats.{Frame, IsNewSeat, Known, nothing_seen}
 use Rattle.board.proofs.Walking.{new_first}
 use Rattle.board_rounds.specs.calls.Turns.{EachActs, MayTakeTurn, Working}
 use Rattle.board_rounds.proofs.TaskSeatsKept.{task_seats_after, starts}
-use Rattle.board_rounds.proofs.Emptying.{contains_at}
 use Rattle.board_rounds.specs.calls.TaskSeats.{AreTaskSeats, IsTaskSeat, IsSeatIn}
 use Rattle.board_rounds.specs.calls.Rounds.{emptied, fresh, fresh_of}
 use Rattle.board_rounds.specs.inside.Rounds.{IsAtStart, IsChildIn}
@@ -64,8 +63,8 @@ none_left ws w i = elim (Contains-append_cases (map emptied ws) (flat_map fresh_
   | inr new ↦ (let r = from_fresh ws w new in ap (λ (x : Working). x.children) (sym r.4))
 ]
 
-pub all_from : (P : Working → Type 0) (ws : List Working) → ((w : Working) → Contains ws w → P w) → All P ws
-all_from P ws each k d l = each (get_or ws k d) (contains_at ws k d l)
+pub all_from : {X : Type 0} (P : X → Type 0) (xs : List X) → ((x : X) → Contains xs x → P x) → All P xs
+all_from P xs each k d l = each (get_or xs k d) (Contains-get_or xs k d l)
 
 pub to_each : (P : Working → Type 0) (ws : List Working) → All P ws → (w : Working) → Contains ws w → P w
 to_each P ws all w i = subst P i.2 (all i.0 w i.1)

@@ -1,7 +1,5 @@
 -- The children's seats are taken, task by task.
 use Rattle.std.proofs.Common.{◌≡◌, ℕ, zero, suc, ◌<◌, List, [], ◌∷◌, length, map, set, get_or, sym, refl, ap, subst, arith}
-use Rattle.std.specs.Prelude.{Contains}
-use Rattle.armus_base.proofs.Elements.{Contains-head, Contains-tail}
 use Rattle.board_rounds.specs.calls.Turns.{Working}
 use Rattle.board_rounds.specs.calls.Rounds.{emptied}
 
@@ -28,12 +26,3 @@ all_none (w ∷ rest) e = absurd (omega arith)
 pub whole : {n : ℕ} {olds news : List Working} → IsEmptiedUpTo n olds news → n ≡ length news → news ≡ map emptied olds
 whole none_yet e = all_none _ e
 whole (one_more {w = w} p) e = ap (λ ws. emptied w ∷ ws) (whole p (omega arith))
-
-pub same_length : {n : ℕ} {olds news : List Working} → IsEmptiedUpTo n olds news → length news ≡ length olds
-same_length none_yet = refl
-same_length (one_more p) = ap suc (same_length p)
-
-pub contains_at : {X : Type 0} (xs : List X) (n : ℕ) (d : X) → n < length xs → Contains xs (get_or xs n d)
-contains_at [] n d l = absurd (omega arith)
-contains_at (x ∷ xs) zero d l = Contains-head x xs
-contains_at (x ∷ xs) (suc n) d l = Contains-tail x xs (get_or xs n d) (contains_at xs n d (omega arith))

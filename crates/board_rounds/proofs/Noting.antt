@@ -2,7 +2,7 @@
 use Rattle.std.proofs.Common.{◌≡◌, ◌≢◌, ℕ, zero, suc, ◌<◌, List, [], ◌∷◌, ◌++◌, Some, false, length, map, set, sym, refl, ap, ◌∙◌, subst, arith, inl, inr, ◌⊎◌}
 use Rattle.std.specs.Prelude.{Contains, slice_get, replicate}
 use Rattle.std.proofs.lemmas.Bool.{cases_eq}
-use Rattle.std.proofs.lemmas.List.{length-set}
+use Rattle.std.proofs.lemmas.List.{length-replicate, length-set}
 use Rattle.std.proofs.lemmas.List.Elements.{Contains-append_cases, Contains-append_left, Contains-append_right}
 use Rattle.armus_base.specs.Plans.{Plan}
 use Rattle.armus_base.proofs.Elements.{Contains-cons_cases, Contains-head, from_map, in_map, nothing_in_nil}
@@ -11,13 +11,10 @@ use Rattle.pl_core.specs.declared.place.Place.{Place as KeptPlace}
 use Rattle.board.specs.calls.Seats.{Frame, Known, TakesIn}
 use Rattle.board.specs.calls.Views.{seen, task_of}
 use Rattle.board_rounds.specs.calls.Turns.{Working, standing_of}
-use Rattle.board_rounds.specs.calls.TaskSeats.{ArePlacesOf, AreTaskSeatsOf, KnowsTasks, number}
-use Rattle.board_rounds.specs.inside.Endings.{NotesPlaces, TakesAll}
+use Rattle.board_rounds.specs.calls.TaskSeats.{ArePlacesOf, AreTaskSeats, IsSeatIn, KnowsTasks, number}
+use Rattle.board_rounds.specs.calls.Endings.{NotesPlaces, TakesAll}
 use Rattle.board_rounds.proofs.Between.{seats_of_tasks}
 use Rattle.board_rounds.proofs.Settling.{closed, taken_here, takes_more, whose}
-
-pub none_noted : (places : List KeptPlace) → NotesPlaces [] places places
-none_noted places = record { count = refl; each = λ t l. inr ((λ w i. absurd (nothing_in_nil w i)), refl) }
 
 pub one_noted :
     (tasks : List Working) (w : Working) (before now : List KeptPlace) (p : KeptPlace) → NotesPlaces tasks before now → number w < length before → p ≡ standing_of w.seat →
@@ -52,30 +49,21 @@ one_noted tasks w before now p noted within is = record { count = length-set now
       ]
     ]
 
--- one list after another
-pub both_noted :
-    (plan : Plan) (xs ys : List Working) (first second third : List KeptPlace) → length first ≡ length plan.parents →
-    ((t : ℕ) → t < length first → slice_get first t ≡ Some (record { events = 0; refused = false })) → NotesPlaces xs first second → NotesPlaces ys second third →
-    ArePlacesOf plan (xs ++ ys) third
-both_noted plan xs ys first second third count opening p q = record { one_each = q.count ∙ p.count ∙ count; each = each }
+-- those of one list after another's
+pub noted_more :
+    (plan : Plan) (xs ys : List Working) (before now : List KeptPlace) → ArePlacesOf plan xs before → NotesPlaces ys before now → ArePlacesOf plan (xs ++ ys) now
+noted_more plan xs ys before now are noted = record { one_each = noted.count ∙ are.one_each; each = each }
   where
     each : (t : ℕ) → t < length plan.parents →
-        ((v : Working) × Contains (xs ++ ys) v × number v ≡ t × slice_get third t ≡ Some (standing_of v.seat))
-        ⊎ (((v : Working) → Contains (xs ++ ys) v → number v ≢ t) × slice_get third t ≡ Some (record { events = 0; refused = false }))
-    each t l =
-        let k : t < length first = (let c = count in omega arith) in
-        let m : t < length second = (let c = count in let d = p.count in omega arith) in
-        elim (q.each t m) [
-          | inl r ↦ inl (r.0, Contains-append_right xs ys r.0 r.1, r.2, r.3)
-          | inr r ↦ elim (p.each t k) [
-            | inl s ↦ inl (s.0, Contains-append_left xs ys s.0 s.1, s.2, r.1 ∙ s.3)
-            | inr s ↦
-                inr (
-                  (λ v i. elim (Contains-append_cases xs ys v i) [ inl here ↦ s.0 v here | inr there ↦ r.0 v there ]),
-                  r.1 ∙ s.1 ∙ opening t k,
-                )
-          ]
-        ]
+        ((v : Working) × Contains (xs ++ ys) v × number v ≡ t × slice_get now t ≡ Some (standing_of v.seat))
+        ⊎ (((v : Working) → Contains (xs ++ ys) v → number v ≢ t) × slice_get now t ≡ Some (record { events = 0; refused = false }))
+    each t l = elim (noted.each t (let c = are.one_each in omega arith)) [
+      | inl r ↦ inl (r.0, Contains-append_right xs ys r.0 r.1, r.2, r.3)
+      | inr r ↦ elim (are.each t l) [
+        | inl s ↦ inl (s.0, Contains-append_left xs ys s.0 s.1, s.2, r.1 ∙ s.3)
+        | inr s ↦ inr ((λ v i. elim (Contains-append_cases xs ys v i) [ inl here ↦ s.0 v here | inr there ↦ r.0 v there ]), r.1 ∙ s.1)
+      ]
+    ]
 
 abbrev seat_of : Working → Known
 seat_of w = w.seat
@@ -95,17 +83,27 @@ pub tasks_taken : (xs ys : List Working) (a b c : Known) → TakesAll (map seat_
 tasks_taken xs ys a b c p q = subst (λ ks. TakesAll ks a c) (sym (seats_more xs ys)) (takes_on (map seat_of xs) (map seat_of ys) a b c p q)
 
 -- a viewer that has taken them all in knows them
-pub knows : (f : Frame) (tasks : List Working) (a b : Known) → AreTaskSeatsOf f tasks → TakesAll (map seat_of tasks) a b → ((u : ℕ) → (seen a.view).exact u ≡ false) → KnowsTasks f tasks b
-knows f tasks a b whole takes unknown =
+pub knows :
+    (f : Frame) (tasks : List Working) (a b : Known) → AreTaskSeats f (IsSeatIn tasks) → TakesAll (map seat_of tasks) a b → ((u : ℕ) → (seen a.view).exact u ≡ false) →
+    KnowsTasks f tasks b
+knows f tasks a b board_tasks takes unknown =
     let seats = map seat_of tasks in
-    let board_tasks = seats_of_tasks f tasks seats refl whole.board_tasks in
+    let all = seats_of_tasks f tasks seats refl board_tasks in
     record {
-      closed = closed f seats a b board_tasks takes unknown;
+      closed = closed f seats a b all takes unknown;
       here = λ w i. taken_here seats a b w.seat takes (in_map seat_of tasks w i);
-      only = λ u is. let k = whose f seats a b board_tasks takes unknown u is in let w = from_map seat_of tasks k.0 k.1 in (w.0, w.1, ap (λ (m : Known). task_of m.view) w.2 ∙ k.2);
+      only = λ u is. let k = whose f seats a b all takes unknown u is in let w = from_map seat_of tasks k.0 k.1 in (w.0, w.1, ap (λ (m : Known). task_of m.view) w.2 ∙ k.2);
     }
 
-pub all_opening : (n : ℕ) (p : KeptPlace) (t : ℕ) → t < n → slice_get (replicate n p) t ≡ Some p
-all_opening zero p t l = absurd (omega arith)
-all_opening (suc n) p zero l = refl
-all_opening (suc n) p (suc t) l = all_opening n p t (omega arith)
+all_first : (n : ℕ) (p : KeptPlace) (t : ℕ) → t < n → slice_get (replicate n p) t ≡ Some p
+all_first zero p t l = absurd (omega arith)
+all_first (suc n) p zero l = refl
+all_first (suc n) p (suc t) l = all_first n p t (omega arith)
+
+-- where no task is, each place is the first
+pub none_noted : (plan : Plan) (n : ℕ) → n ≡ length plan.parents → ArePlacesOf plan [] (replicate n (record { events = 0; refused = false }))
+none_noted plan n count =
+    record {
+      one_each = length-replicate n (record { events = 0; refused = false }) ∙ count;
+      each = λ t l. inr ((λ w i. absurd (nothing_in_nil w i)), all_first n (record { events = 0; refused = false }) t (omega arith));
+    }

@@ -23,9 +23,6 @@ use Rattle.board_rounds.proofs.Goings.{none_in, task_is}
 use Rattle.board_rounds.proofs.Rounding.{each_on, each_turned, loads_in, rest_each}
 use Rattle.board_rounds.proofs.Shuffling.{differ_once, once_differ, shuffled}
 
-pub all_push : (P : Working → Type 0) (ws : List Working) (w : Working) → All P ws → P w → All P (ws ++ w ∷ [])
-all_push P ws w all p = All-append P ws (w ∷ []) all (λ k d l. subst (λ n. P (get_or (w ∷ []) n d)) (let z : 0 ≡ k = omega arith in z) p)
-
 -- one more of them lives, or has ended
 pub one_lives : (E Y L D : List Working) (x : Working) → IsPermutation (E ++ Y) (L ++ D) → IsPermutation (E ++ (Y ++ x ∷ [])) ((L ++ x ∷ []) ++ D)
 one_lives E Y L D x p =

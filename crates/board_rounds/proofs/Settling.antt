@@ -8,7 +8,7 @@ use Rattle.armus_base.proofs.Elements.{Contains-cons_cases, Contains-head, Conta
 use Rattle.board.specs.calls.Views.{own_place, seen, task_of}
 use Rattle.board.specs.calls.Seats.{Frame, IsSeat, Known, TakesIn}
 use Rattle.board_rounds.specs.calls.TaskSeats.{HasSeatOf, IsClosed, AreTaskSeats}
-use Rattle.board_rounds.specs.inside.Endings.{TakesAll}
+use Rattle.board_rounds.specs.calls.Endings.{TakesAll}
 
 -- one more
 pub takes_more : (seats : List Known) (seat a b c : Known) → TakesAll seats a b → TakesIn seat b c → TakesAll (seats ++ seat ∷ []) a c

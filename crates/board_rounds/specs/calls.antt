@@ -1,3 +1,4 @@
 pub mod Turns
 pub mod TaskSeats
+pub mod Endings
 pub mod Rounds

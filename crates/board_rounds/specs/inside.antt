@@ -1,6 +1,5 @@
 pub mod Tasks
 pub mod Attempts
 pub mod Rounds
-pub mod Endings
 pub mod TasksOf
 pub mod Workers

@@ -6,12 +6,12 @@ ghost use Rattle.armus_base.specs.calls.Seats.{seen_by_child};
 ghost use Rattle.board.specs.calls.Seats.{IsNewSeat, IsOf, IsSeat, Known, nothing_seen};
 ghost use Rattle.board.specs.calls.Steps.{IsSameSeat};
 ghost use Rattle.board.specs.calls.Views.{own_place, seen};
-ghost use Rattle.board_rounds.specs.calls.Turns.{ActsNoMore, MayTakeTurn, Working};
-ghost use Rattle.board_rounds.specs.calls.TaskSeats.{ArePlacesOf, AreTasksOf, KnowsTasks, all_of, left_to, number};
+ghost use Rattle.board_rounds.specs.calls.Turns.{ActsNoMore, MayTakeTurn};
+ghost use Rattle.board_rounds.specs.calls.TaskSeats.{ArePlacesOf, AreTasksOf, KnowsTasks, all_of, left_to};
 ghost use Rattle.board_rounds.specs.calls.Rounds.{HasRound, HaveEnded, MakesRound, emptied, fresh, fresh_of};
-ghost use Rattle.board_rounds.specs.inside.Endings.{NotesPlaces, TakesAll};
 ghost use Rattle.board_rounds.specs.inside.Rounds.{IsAtStart, IsChildIn};
 
+use crate::endings::{first_places, note_places, take_in_all};
 use crate::rounds::take_turns;
 use crate::worker_cells::{WorkerCells, provide};
 use crate::{Task, TurnSetting};
@@ -125,11 +125,7 @@ impl<'p> BoardTasks<'p> {
         ensures places { IfOk result (ArePlacesOf plan.now (all_of self.now)) }
     {
         let _ = board;
-        let opening = Place {
-            events: 0,
-            refused: false,
-        };
-        let mut places = vec![in alloc; opening; plan.tasks() as usize]?;
+        let mut places = first_places(alloc, plan)?;
         note_places(self.live.as_slice(), &mut places);
         note_places(self.ended.as_slice(), &mut places);
         Ok(List::from_vec(places))
@@ -272,28 +268,4 @@ fn some_ended(tasks: &[Task<'_>]) -> bool
         }
     }
     false
-}
-
-// Notes the place of each of these tasks under its number.
-fn note_places(tasks: &[Task<'_>], places: &mut Vec<Place>)
-    requires { All (λ task. number task < length places.old.items) tasks.now }
-    ensures { NotesPlaces tasks.now places.old.items places.new.items }
-{
-    for task in tasks {
-        places[task.id().0 as usize] = task.place();
-    }
-}
-
-// Takes the seats of these tasks in, one after the other.
-fn take_in_all(board: &Board, view: &mut ViewSeat, tasks: Vec<Task<'_>>)
-    requires made { IsOf view.old board.now }
-    requires seats { All (λ task. IsOf task.seat board.now) tasks.items }
-    requires no_child { All (λ task. task.children ≡ []) tasks.items }
-    ensures made { IsOf view.new board.now }
-    ensures same { IsSameSeat view.old.view view.new.view }
-    ensures taken { TakesAll (map (λ (task : Working). task.seat) tasks.entry.items) view.old view.new }
-{
-    for task in tasks {
-        view.take_in(board, task.into_seat());
-    }
 }

@@ -3,11 +3,13 @@
 
 mod beginning;
 mod board_tasks;
+mod endings;
 mod rounds;
 mod task;
 mod worker_cells;
 
 pub use board_tasks::{BoardTasks, Rounded};
+pub use endings::{first_places, note_places, take_in_all};
 pub use rounds::{Calls, TurnSetting, round};
 pub use task::{Acted, Pause, Task};
 pub use worker_cells::WorkerCells;

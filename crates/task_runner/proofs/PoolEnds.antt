@@ -14,10 +14,11 @@ use Rattle.board.specs.calls.Views.{seen}
 use Rattle.phase_scan.specs.calls.Looks.{LoadsAlone}
 use Rattle.board_rounds.specs.calls.Turns.{Working}
 use Rattle.board_rounds.specs.calls.TaskSeats.{ArePlacesOf, AreTaskSeats, IsTaskSeat, IsSeatIn, KnowsTasks}
-use Rattle.board_rounds.specs.inside.Endings.{TakesAll}
+use Rattle.board_rounds.specs.calls.Endings.{TakesAll}
+use Rattle.board_rounds.proofs.Noting.{knows}
 use Rattle.task_runner.specs.inside.Pooled.{AreClosedUnderForks}
 use Rattle.task_runner.proofs.BoardEnds.{plain, reachable}
-use Rattle.task_runner.proofs.PooledTasks.{knows, whole_task_seats}
+use Rattle.task_runner.proofs.PooledTasks.{whole_task_seats}
 
 module _ (f : Frame) (plan : Plan) (same : f.plan ≡ plan) (detects : f.mode ≡ Detect) (tasks : List Working) (each : All (λ (w : Working). IsTaskSeat f w.seat) tasks)
     (whole : AreClosedUnderForks plan tasks) (places : List KeptPlace) (are : ArePlacesOf plan tasks places) (first taken now : Known) (new : IsNewSeat f None nothing_seen first)

@@ -1,25 +1,18 @@
--- The tasks of a run without rounds: what a stretch of a turn makes of one, and what a viewer knows that has taken their seats in.
-use Rattle.std.proofs.Common.{◌≡◌, ℕ, ◌<◌, false, List, [], ◌∷◌, ◌++◌, Some, length, map, get_or, sym, refl, ap, ◌∙◌, subst, arith}
+-- The tasks of a run without rounds: what a stretch of a turn makes of one, and what is known of each.
+use Rattle.std.proofs.Common.{◌≡◌, ℕ, ◌<◌, List, [], ◌∷◌, ◌++◌, Some, length, get_or, sym, refl, ap, ◌∙◌, subst, arith}
 use Rattle.std.specs.Prelude.{All, Contains}
-use Rattle.std.proofs.lemmas.List.Elements.{Contains-append_right}
 use Rattle.armus_base.specs.Plans.{Action, Forks, Plan, action_at}
 use Rattle.armus_base.specs.Runs.{Place}
 use Rattle.armus_base.specs.calls.Seats.{seen_by_child}
-use Rattle.armus_base.proofs.Elements.{Contains-head, from_map, in_map}
-use Rattle.board.specs.calls.Views.{own_place, seen, task_of}
-use Rattle.board.specs.calls.Seats.{Frame, IsNewSeat, Known, nothing_seen}
+use Rattle.armus_base.proofs.Elements.{Contains-head}
+use Rattle.board.specs.calls.Views.{own_place, task_of}
+use Rattle.board.specs.calls.Seats.{Frame, IsNewSeat, IsOf, Known, nothing_seen}
 use Rattle.board_rounds.specs.calls.Turns.{Acts, AreChildSeats, IsChildSeat, Working, tasks_forked}
-use Rattle.board_rounds.specs.calls.TaskSeats.{HasSeatOf, AreTaskSeats, IsTaskSeat, IsSeatIn, KnowsTasks}
-use Rattle.board_rounds.specs.inside.Endings.{TakesAll}
-use Rattle.board_rounds.proofs.Between.{first_task_seats, seats_of_tasks, to_each}
+use Rattle.board_rounds.specs.calls.TaskSeats.{HasSeatOf, AreTaskSeats, IsTaskSeat, IsSeatIn, number}
+use Rattle.board_rounds.proofs.Between.{all_from, first_task_seats, to_each}
 use Rattle.board_rounds.proofs.TaskSeatsKept.{child_is, goes_with_seats}
-use Rattle.board_rounds.proofs.Emptying.{contains_at}
 use Rattle.board_rounds.proofs.Goings.{task_is}
-use Rattle.board_rounds.proofs.Settling.{closed, taken_here, whose}
 use Rattle.task_runner.specs.inside.Pooled.{AreClosedUnderForks, IsForked, ContainsTask, IsPooled}
-
-pub all_from : {X : Type 0} (P : X → Type 0) (xs : List X) → ((x : X) → Contains xs x → P x) → All P xs
-all_from P xs each k d l = each (get_or xs k d) (contains_at xs k d l)
 
 pub acted : (f : Frame) (own : List Action) (a b : Working) → IsPooled f a → Acts f own a b → IsTaskSeat f b.seat
 acted f own a b pooled acts = goes_with_seats f own a.seat b.seat pooled.seat acts.goes
@@ -78,25 +71,16 @@ whole_task_seats f tasks all whole =
         let s = seat_of worker_value.0 worker_value.1 in
         (worker_value.0.seat, (worker_value.0, worker_value.1, refl), s.own ∙ ap Some (sym (task_is worker_value.0.seat s.task s.own) ∙ worker_value.2))
 
-abbrev seat_in : Working → Known
-seat_in w = w.seat
+-- what is known of each of these tasks
+module _ (f : Frame) (tasks : List Working) (pooled : All (IsPooled f) tasks) where
+  pub pooled_seats : All (λ (w : Working). IsTaskSeat f w.seat) tasks
+  pooled_seats = λ k d l. (pooled k d l).seat
 
--- a viewer that has taken all seats of a board_tasks in knows its tasks
-pub knows :
-    (f : Frame) (tasks : List Working) (a b : Known) → AreTaskSeats f (IsSeatIn tasks) → TakesAll (map seat_in tasks) a b → ((u : ℕ) → (seen a.view).exact u ≡ false) →
-    KnowsTasks f tasks b
-knows f tasks a b board_tasks takes unknown =
-    let seats = map seat_in tasks in
-    let all = seats_of_tasks f tasks seats refl board_tasks in
-    record {
-      closed = closed f seats a b all takes unknown;
-      here = λ w i. taken_here seats a b w.seat takes (in_map seat_in tasks w i);
-      only = λ u is. let k = whose f seats a b all takes unknown u is in let w = from_map seat_in tasks k.0 k.1 in (w.0, w.1, ap (λ (m : Known). task_of m.view) w.2 ∙ k.2);
-    }
+  pub pooled_of : All (λ (w : Working). IsOf w.seat f) tasks
+  pooled_of = λ k d l. (pooled k d l).seat.of_board
 
--- the last of a list that was taken off
-pub last_one : {X : Type 0} (P : X → Type 0) (xs ys : List X) (x : X) → xs ≡ ys ++ x ∷ [] → All P xs → P x
-last_one P xs ys x is all =
-    let i : Contains (ys ++ x ∷ []) x = Contains-append_right ys (x ∷ []) x (Contains-head x []) in
-    let every : All P (ys ++ x ∷ []) = subst (All P) is all in
-    subst P i.2 (every i.0 x i.1)
+  pub pooled_none : All (λ (w : Working). w.children ≡ []) tasks
+  pooled_none = λ k d l. (pooled k d l).no_child
+
+  pub pooled_within : (n : ℕ) → length f.plan.parents ≡ n → All (λ (w : Working). number w < n) tasks
+  pooled_within n e = λ k d l. subst (λ m. number (get_or tasks k d) < m) e (small f f.plan (get_or tasks k d).seat refl (pooled k d l).seat)

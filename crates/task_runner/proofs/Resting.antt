@@ -1,6 +1,6 @@
 -- The dead tasks of a list of statuses that were not told, status by status.
 use Rattle.std.proofs.Common.{◌≡◌, ◌≢◌, ℕ, ◌<◌, ◌+◌, List, [], ◌∷◌, ◌++◌, length, get_or, sym, refl, ap, ◌∙◌, subst, arith, inl, inr, ◌⊎◌, append_assoc}
-use Rattle.std.specs.Prelude.{AllPairs, Contains}
+use Rattle.std.specs.Prelude.{AllPairs, Any, Contains}
 use Rattle.std.proofs.lemmas.Bool.{cases_eq}
 use Rattle.std.proofs.lemmas.List.{get_or_default}
 use Rattle.std.proofs.lemmas.List.Elements.{Contains-append_cases, Contains-append_left, Contains-append_right}
@@ -18,6 +18,19 @@ use Rattle.task_runner.proofs.TellingMore.{pairs_on}
 pub record IsRestUpTo (blocked : List Status) (told rest : List Dead) (i : ℕ) : Type 0 where
   pub some : AreSomeDead blocked (told ++ rest)
   pub all : (k : ℕ) (d : Status) → k < i → IsDeadBy blocked (get_or blocked k d).t.0 → IsNamedIn (told ++ rest) (get_or blocked k d).t
+
+-- what a test of each of them says
+pub any_named : (xs : List Dead) (t : TaskId) → Any (λ d. d.t ≡ t) xs → IsNamedIn xs t
+any_named xs t a = (a.1, (a.0, a.2, a.3), a.4)
+
+pub named_any : (xs : List Dead) (t : TaskId) → IsNamedIn xs t → Any (λ d. d.t ≡ t) xs
+named_any xs t n = (n.1.0, n.0, n.1.1, n.1.2, n.2)
+
+pub any_among : (ts : List TaskId) (t : TaskId) → Any (λ u. u ≡ t) ts → Contains ts t
+any_among ts t a = subst (Contains ts) a.4 (a.0, a.2, a.3)
+
+pub among_any : (ts : List TaskId) (t : TaskId) → Contains ts t → Any (λ u. u ≡ t) ts
+among_any ts t i = (i.0, t, i.1, i.2, refl)
 
 pub named_left : (xs ys : List Dead) (t : TaskId) → IsNamedIn xs t → IsNamedIn (xs ++ ys) t
 named_left xs ys t is = (is.0, Contains-append_left xs ys is.0 is.1, is.2)

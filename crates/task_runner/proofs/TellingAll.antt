@@ -1,11 +1,12 @@
 -- What a run tells, from its rounds to its end.
-use Rattle.std.proofs.Common.{◌≡◌, List, [], ◌++◌, sym, ap, ◌∙◌, subst, append_assoc, append-nil, Result, Ok, Err}
+use Rattle.std.proofs.Common.{◌≡◌, List, [], ◌++◌, arith, refl, sym, ap, ◌∙◌, subst, append_assoc, append-nil, Result, Ok, Err}
 use Rattle.armus_base.specs.declared.ending.Final.{Final}
 use Rattle.armus_base.specs.declared.status.Dead.{Dead}
 use Rattle.armus_base.specs.CheckedPlans.{IsCheckedPlan}
 use Rattle.armus_base.specs.Finals.{final_of, is_awaited}
 use Rattle.armus_base.specs.Plans.{Plan}
 use Rattle.armus_base.specs.calls.Statuses.{IsInOrder}
+use Rattle.armus_base.proofs.Elements.{nothing_in_nil}
 use Rattle.armus_base.proofs.StatusesAre.{statuses_are}
 use Rattle.report.specs.NamedDead.{AreSomeDead, AreTheDead}
 use Rattle.world_runs.specs.calls.PlainRuns.{IsPlainEnd}
@@ -34,6 +35,15 @@ dead_at_each plan x p named some y q = subst (λ (f : Final). AreSomeDead f.bloc
 -- nothing more was told
 pub none_on : (plan : Plan) (dead : List Dead) (a n : SinkValue) (r : Result Ran RunEnd) → r ≡ Err NoMemory → n ≡ a → AreDeadAtTheEnd plan dead → TellsOn plan dead a n r
 none_on plan dead a n r is same at_end = subst (TellsOn plan dead a n) (sym is) ([], subst (AreDeadAtTheEnd plan) (sym (append-nil dead)) at_end, none_written a n same)
+
+-- nothing was told at all
+pub none_told : (plan : Plan) (a : SinkValue) (r : Result Ran RunEnd) → r ≡ Err NoMemory → TellsRun plan a a r
+none_told plan a r is =
+    subst (TellsRun plan a a) (sym is) (
+      [],
+      (λ end p. record { once = λ m n d l few. absurd (omega arith); dead = λ d i. absurd (nothing_in_nil d i) }),
+      none_written a a refl,
+    )
 
 -- an error of a pass ends the run
 pub pass_err :

@@ -27,7 +27,7 @@ use Rattle.board.specs.calls.Steps.{IsSameSeat}
 use Rattle.board.proofs.Closing.{some_task}
 use Rattle.phase_scan.specs.calls.Collects.{IsCollect}
 use Rattle.phase_scan.specs.calls.Looks.{LoadsAlone}
-use Rattle.board_rounds.proofs.Emptying.{contains_at}
+use Rattle.board_rounds.proofs.Between.{all_from}
 use Rattle.collector.specs.calls.Passes.{Watch}
 use Rattle.task_runner.specs.inside.LiveReporters.{TellsMore, Telling, Watches}
 use Rattle.task_runner.specs.declared.ran.RunEnd.{RunEnd}
@@ -44,9 +44,6 @@ use Rattle.task_runner.proofs.Possible.{Possible, collect_possible}
 -- lists
 each_of : {X : Type 0} (P : X → Type 0) (xs : List X) → All P xs → (x : X) → Contains xs x → P x
 each_of P xs all x i = subst P i.2 (all i.0 x i.1)
-
-pub all_of : {X : Type 0} (P : X → Type 0) (xs : List X) → ((x : X) → Contains xs x → P x) → All P xs
-all_of P xs each k d l = each (get_or xs k d) (contains_at xs k d l)
 
 map_more : {X Y : Type 0} (g : X → Y) (xs ys : List X) → map g (xs ++ ys) ≡ map g xs ++ map g ys
 map_more g [] ys = refl
@@ -88,7 +85,7 @@ pub pairs_on : {X : Type 0} (R : X → X → Type 0) (xs ys : List X) → AllPai
 pairs_on R [] ys p q between = q
 pairs_on R (x ∷ xs) ys p q between =
     AllPairs-cons R x (xs ++ ys)
-    (all_of (R x) (xs ++ ys) (λ y i. elim (Contains-append_cases xs ys y i) [
+    (all_from (R x) (xs ++ ys) (λ y i. elim (Contains-append_cases xs ys y i) [
       | inl here ↦ each_of (R x) xs (pairs_first R x xs p) y here
       | inr there ↦ between x y (Contains-head x xs) there
     ]))
@@ -101,7 +98,7 @@ tasks_apart : (ds : List Dead) → AllPairs (λ (t u : TaskId). t.0 < u.0) (map 
 tasks_apart [] p = none_paired (λ (a b : Dead). a.t ≢ b.t)
 tasks_apart (d ∷ ds) p =
     AllPairs-cons (λ (a b : Dead). a.t ≢ b.t) d ds
-    (all_of (λ (b : Dead). d.t ≢ b.t) ds
+    (all_from (λ (b : Dead). d.t ≢ b.t) ds
     (λ b i e.
     let l = each_of (λ (u : TaskId). d.t.0 < u.0) (map task ds) (pairs_first (λ (t u : TaskId). t.0 < u.0) d.t (map task ds) p) b.t (in_map task ds b i) in
     let same : d.t.0 ≡ b.t.0 = ap (λ (t : TaskId). t.0) e in

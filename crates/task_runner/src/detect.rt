@@ -14,7 +14,7 @@ use crate::board_run::BoardRun;
 use crate::live_reporter::LiveReporter;
 use crate::rest::tell_rest;
 use crate::{Ran, RunEnd, RunOptions};
-use armus_base::{Gate, NoMemory, Plan, Sink};
+use armus_base::{Gate, Plan, Sink};
 use avoider::Judging;
 use board::{Board, Mode};
 use std::alloc::Global;
@@ -39,16 +39,10 @@ pub fn run_detect<R: Threads + Sync, G: Gate, K: Sink>(
     ensures told { options.now.live ≡ true → TellsRun plan.now (told K.taken K.faults out.old) (told K.taken K.faults out.new) result }
     ensures silent { options.now.live ≡ false → (out.new ≡ out.old) × IsNoWrite result }
 {
-    let Ok((board, seat, view)) = Board::start(alloc, plan, Mode::Detect) else {
-        return Err(RunEnd::NoMemory);
-    };
+    let (board, seat, view) = Board::start(alloc, plan, Mode::Detect)?;
     let judging = Judging::Graph(options.wanted);
-    let Ok(mut run) = BoardRun::start(alloc, &board, seat, plan, options, judging) else {
-        return Err(RunEnd::NoMemory);
-    };
-    let Ok(mut live_reporter) = LiveReporter::start(alloc, &board, view, options.wanted) else {
-        return Err(RunEnd::NoMemory);
-    };
+    let mut run = BoardRun::start(alloc, &board, seat, plan, options, judging)?;
+    let mut live_reporter = LiveReporter::start(alloc, &board, view, options.wanted)?;
     go_by_rounds(&mut run, rt, &board, gate, &mut live_reporter, out)?;
     end_run(run, board, live_reporter, gate, out)
 }
@@ -73,10 +67,8 @@ fn go_by_rounds<R: Threads + Sync, G: Gate, K: Sink>(
     if run.options.live {
         return run.go(rt, board, gate, live_reporter, out);
     }
-    match run.go(rt, board, gate, &mut Nothing {}, out) {
-        Ok(()) => Ok(()),
-        Err(NoMemory) => Err(RunEnd::NoMemory),
-    }
+    run.go(rt, board, gate, &mut Nothing {}, out)?;
+    Ok(())
 }
 
 // Ends the run of these tasks, which have all come to the end of their turns.
@@ -101,15 +93,11 @@ fn end_run<G: Gate, K: Sink>(
         board_tasks,
         ..
     } = run;
-    let Ok(places) = board_tasks.places(alloc, &board, plan) else {
-        return Err(RunEnd::NoMemory);
-    };
+    let places = board_tasks.places(alloc, &board, plan)?;
     live_reporter.take_in(&board, board_tasks);
     last_pass(alloc, &board, &options, gate, &mut live_reporter, out)?;
     let (words, told, dead) = live_reporter.close(board);
-    let Ok(ended) = world_end_from(alloc, plan, places.as_slice(), gate) else {
-        return Err(RunEnd::NoMemory);
-    };
+    let ended = world_end_from(alloc, plan, places.as_slice(), gate)?;
     tell_rest(
         alloc,
         ended.end.blocked.as_slice(),
@@ -145,8 +133,6 @@ fn last_pass<G: Gate, K: Sink>(
     if options.live {
         return live_reporter.tell(alloc, board, gate, out);
     }
-    match live_reporter.name(alloc, board) {
-        Ok(_) => Ok(()),
-        Err(NoMemory) => Err(RunEnd::NoMemory),
-    }
+    let _ = live_reporter.name(alloc, board)?;
+    Ok(())
 }

@@ -82,12 +82,8 @@ impl LiveReporter {
         ensures passed { OnOk result (HasPassed self.old.view self.new) }
         ensures told { TellsMore board.now.plan self.old.dead self.new.dead (told K.bytes K.failures out.old) (told K.bytes K.failures out.new) result }
     {
-        let Ok(lines) = self.name(alloc, board) else {
-            return Err(RunEnd::NoMemory);
-        };
-        let Ok(()) = out.write_all(lines.as_slice()) else {
-            return Err(RunEnd::Write);
-        };
+        let lines = self.name(alloc, board)?;
+        out.write_all(lines.as_slice())?;
         let count = u32::try_from(self.dead.len()).unwrap_or(u32::MAX);
         gate.call(Point::Named { count });
         Ok(())
@@ -173,7 +169,6 @@ impl<K: Writes> Beside<K> for LiveReporter {
     }
 
     fn early(error: NoMemory) -> RunEnd {
-        let _ = error;
-        RunEnd::NoMemory
+        RunEnd::from(error)
     }
 }

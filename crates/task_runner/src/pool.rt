@@ -1,12 +1,11 @@
 // A run without rounds: workers claim the tasks from a pool.
-ghost use Rattle.std.specs.Prelude.{◌≡◌, ◌≤◌, [], Some, None, false, length, map, IfOk};
+ghost use Rattle.std.specs.Prelude.{◌≡◌, ◌≤◌, Some, None, false, length, map, All, IfOk};
 ghost use Rattle.armus_base.specs.calls.Seats.{seen_by_child};
 ghost use Rattle.armus_base.specs.calls.Limits.{max_workers};
 ghost use Rattle.board.specs.declared.mode.Mode.TheVariants.{Detect};
 ghost use Rattle.board.specs.calls.Seats.{IsNewSeat, nothing_seen};
-ghost use Rattle.slot_pool.specs.calls.PoolValues.{IsOfPool, IsSameWorker};
 ghost use Rattle.world_runs.specs.calls.PlainRuns.{IsPlainEnd};
-ghost use Rattle.task_runner.specs.inside.Pooled.{AreAllWorkers};
+ghost use Rattle.task_runner.specs.inside.Pooled.{AreAllWorkers, GoesOn, IsPooled, MayWork};
 
 use crate::RunOptions;
 use crate::leaving::MANY_LOADS;
@@ -16,7 +15,7 @@ use crate::pooled_task::{BoardName, PooledTask};
 use armus_base::{Final, Gate, List, NoMemory, Plan};
 use avoider::Judging;
 use board::{Board, Mode, TaskSeat, ViewSeat};
-use board_rounds::{Calls, TurnSetting};
+use board_rounds::{Calls, Task, TurnSetting};
 use slot_pool::{Named, Pool, Worker};
 use std::alloc::Global;
 use std::marker::Brand;
@@ -94,7 +93,7 @@ fn run_on<N: BoardName + Send, R: Threads + Wait + Sync, G: Gate>(
     let workers = dismiss(alloc, workers, &mut tasks)?;
     let entries = pool.close(workers).into_vec();
     take_out(entries, &mut tasks)?;
-    end_run(run, gate, tasks)
+    end_run(run, gate, tasks_of(alloc, tasks)?)
 }
 
 // Workers that have made no turn yet.
@@ -128,8 +127,8 @@ fn work_all<
     ensures workers { IfOk result (λ v. AreAllWorkers pool.now (map J.worker_value v.items)) }
 {
     let work = |worker: J| -> J
-        requires { (setting.now.board.now ≡ J.frame) × (pool.now.tasks ≡ length J.frame.plan.parents) × IsOfPool (J.worker_value worker) pool.now × (J.worker_value worker).view.has ≡ [] }
-        ensures { IsSameWorker (J.worker_value worker) (J.worker_value result) × ((J.worker_value result).view.has ≡ []) }
+        requires { (setting.now.board.now ≡ J.frame) × MayWork J.frame pool.now (J.worker_value worker) }
+        ensures { GoesOn (J.worker_value worker) (J.worker_value result) }
     {
         let mut worker = worker;
         worker.work(setting, pool);
@@ -167,4 +166,18 @@ fn take_out<'p, N: BoardName>(
         }
     }
     Ok(())
+}
+
+// These tasks, without the name of their board.
+fn tasks_of<'p, N: BoardName>(
+    alloc: Global,
+    pooled: Vec<PooledTask<'p, N>>,
+) -> Result<Vec<Task<'p>>, NoMemory>
+    ensures { IfOk result (λ tasks. All (IsPooled N.board) tasks.items) }
+{
+    let mut tasks = Vec::new(alloc);
+    for task in pooled {
+        tasks.push(task.into_task())?;
+    }
+    Ok(tasks)
 }

@@ -1,35 +1,31 @@
 // The end of a run without rounds.
-ghost use Rattle.std.specs.Prelude.{◌≡◌, ◌⊎◌, ℕ, [], ◌∷◌, All, None, Some, true, length, map, slice_get, IfOk};
+ghost use Rattle.std.specs.Prelude.{◌≡◌, ◌<◌, ◌⊎◌, ℕ, [], ◌∷◌, All, None, Some, true, length, slice_get, IfOk};
 ghost use Rattle.armus_base.specs.declared.op.Op.TheVariants.{Fork};
 ghost use Rattle.armus_base.specs.declared.ids.TaskId.{TaskId};
 ghost use Rattle.armus_base.specs.Plans.{actions_of, code_of};
 ghost use Rattle.board.specs.declared.mode.Mode.TheVariants.{Detect};
-ghost use Rattle.board.specs.calls.Seats.{IsNewSeat, IsOf, nothing_seen};
-ghost use Rattle.board.specs.calls.Steps.{IsSameSeat};
-ghost use Rattle.board_rounds.specs.calls.Turns.{Working};
-ghost use Rattle.board_rounds.specs.calls.TaskSeats.{ArePlacesOf, IsTaskSeat, done_of, number};
-ghost use Rattle.board_rounds.specs.inside.Endings.{NotesPlaces, TakesAll};
+ghost use Rattle.board.specs.calls.Seats.{IsNewSeat, nothing_seen};
+ghost use Rattle.board_rounds.specs.calls.TaskSeats.{done_of, number};
 ghost use Rattle.world_runs.specs.calls.PlainRuns.{IsPlainEnd};
-ghost use Rattle.task_runner.specs.inside.Pooled.{AreForksMarked, AreClosedUnderForks, ContainsTask};
+ghost use Rattle.task_runner.specs.inside.Pooled.{AreForksMarked, AreClosedUnderForks, ContainsTask, IsPooled};
 
 use crate::pool::PoolRun;
-use crate::pooled_task::{BoardName, PooledTask};
-use armus_base::{Cursor, Final, Gate, List, NoMemory, Op, Plan};
-use board::{Board, ViewSeat};
+use armus_base::{Cursor, Final, Gate, NoMemory, Op, Plan};
+use board_rounds::{Task, first_places, note_places, take_in_all};
 use collector::Collector;
-use pl_core::Place;
 use std::alloc::Global;
 use world_runs::{run_plain, world_end_from};
 
 /// Ends the run of these tasks: a viewer takes their seats in, a detector makes one pass, and the board is closed; the run goes on in one thread from the
 /// places at which the tasks stood, or from the opening where one that was forked is not among them.
-pub(crate) fn end_run<N: BoardName, G: Gate>(
+pub(crate) fn end_run<G: Gate>(
     run: PoolRun<'_>,
     gate: &G,
-    tasks: Vec<PooledTask<'_, N>>,
+    tasks: Vec<Task<'_>>,
 ) -> Result<Final, NoMemory>
-    requires board { (run.board ≡ N.board) × (N.board.plan ≡ run.plan.now) × (N.board.mode ≡ Detect) }
-    requires viewer { IsNewSeat N.board None nothing_seen run.view }
+    requires board { (run.board.plan ≡ run.plan.now) × (run.board.mode ≡ Detect) }
+    requires viewer { IsNewSeat run.board None nothing_seen run.view }
+    requires tasks { All (IsPooled run.board) tasks.items }
     ensures end { IfOk result (λ end. IsPlainEnd run.entry.plan.now end) }
 {
     let PoolRun {
@@ -39,7 +35,8 @@ pub(crate) fn end_run<N: BoardName, G: Gate>(
         board,
         mut view,
     } = run;
-    let places = places_of(alloc, plan, tasks.as_slice())?;
+    let mut places = first_places(alloc, plan)?;
+    note_places(tasks.as_slice(), &mut places);
     let whole = are_whole(alloc, plan, tasks.as_slice())?;
     take_in_all(&board, &mut view, tasks);
     let mut collector = Collector::start(alloc, &board)?;
@@ -52,41 +49,9 @@ pub(crate) fn end_run<N: BoardName, G: Gate>(
     run_plain(alloc, plan, gate)
 }
 
-// The place of each task of the plan.
-fn places_of<N: BoardName>(
-    alloc: Global,
-    plan: &Plan,
-    tasks: &[PooledTask<'_, N>],
-) -> Result<List<Place>, NoMemory>
-    requires plan { N.board.plan ≡ plan.now }
-    ensures places { IfOk result (ArePlacesOf plan.now tasks.now) }
-{
-    let opening = Place {
-        events: 0,
-        refused: false,
-    };
-    let mut places = vec![in alloc; opening; plan.tasks() as usize]?;
-    note_places(tasks, &mut places);
-    Ok(List::from_vec(places))
-}
-
-// Notes the place of each of these tasks under its number.
-fn note_places<N: BoardName>(tasks: &[PooledTask<'_, N>], places: &mut Vec<Place>)
-    requires { length places.old.items ≡ length N.board.plan.parents }
-    ensures { NotesPlaces tasks.now places.old.items places.new.items }
-{
-    for task in tasks {
-        places[task.number().0 as usize] = task.place();
-    }
-}
-
 // Whether task 0 is one of these tasks, and each task that one of them has forked.
-fn are_whole<N: BoardName>(
-    alloc: Global,
-    plan: &Plan,
-    tasks: &[PooledTask<'_, N>],
-) -> Result<bool, NoMemory>
-    requires plan { N.board.plan ≡ plan.now }
+fn are_whole(alloc: Global, plan: &Plan, tasks: &[Task<'_>]) -> Result<bool, NoMemory>
+    requires within { All (λ task. number task < length plan.now.parents) tasks.now }
     ensures whole { IfOk result (λ whole. whole ≡ true → AreClosedUnderForks plan.now tasks.now) }
 {
     let mut marks = vec![in alloc; false; plan.tasks() as usize]?;
@@ -98,12 +63,12 @@ fn are_whole<N: BoardName>(
 }
 
 // Marks the number of each of these tasks.
-fn mark<N: BoardName>(tasks: &[PooledTask<'_, N>], marks: &mut Vec<bool>)
-    requires { length marks.old.items ≡ length N.board.plan.parents }
+fn mark(tasks: &[Task<'_>], marks: &mut Vec<bool>)
+    requires { All (λ task. number task < length marks.old.items) tasks.now }
     ensures { (t : ℕ) → slice_get marks.new.items t ≡ Some true → ContainsTask tasks.now t ⊎ (slice_get marks.old.items t ≡ Some true) }
 {
     for task in tasks {
-        marks[task.number().0 as usize] = true;
+        marks[task.id().0 as usize] = true;
     }
 }
 
@@ -118,16 +83,12 @@ fn is_marked(marks: &[bool], t: u32) -> bool
 }
 
 // Whether each task that one of these has forked is marked.
-fn have_forked_marked<N: BoardName>(
-    plan: &Plan,
-    tasks: &[PooledTask<'_, N>],
-    marks: &[bool],
-) -> bool
-    requires plan { N.board.plan ≡ plan.now }
+fn have_forked_marked(plan: &Plan, tasks: &[Task<'_>], marks: &[bool]) -> bool
+    requires within { All (λ task. number task < length plan.now.parents) tasks.now }
     ensures { result ≡ true → All (λ task. AreForksMarked (code_of plan.now (number task)) (done_of task) marks.now) tasks.now }
 {
     for task in tasks {
-        let cursor = plan.cursor(task.number());
+        let cursor = plan.cursor(task.id());
         if !are_forks_marked(cursor, task.place().events, marks) {
             return false;
         }
@@ -169,19 +130,5 @@ fn actions_in(op: Op) -> u32
     match op {
         Op::Await { p: _, off: _ } => 2,
         _ => 1,
-    }
-}
-
-// Takes the seats of these tasks in, one after the other.
-fn take_in_all<N: BoardName>(board: &Board, view: &mut ViewSeat, tasks: Vec<PooledTask<'_, N>>)
-    requires board { board.now ≡ N.board }
-    requires made { IsOf view.old board.now }
-    ensures made { IsOf view.new board.now }
-    ensures same { IsSameSeat view.old.view view.new.view }
-    ensures taken { TakesAll (map (λ (task : Working). task.seat) tasks.entry.items) view.old view.new }
-    ensures board_tasks { All (λ (task : Working). IsTaskSeat N.board task.seat) tasks.entry.items }
-{
-    for task in tasks {
-        view.take_in(board, task.into_seat());
     }
 }

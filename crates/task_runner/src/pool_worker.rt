@@ -1,7 +1,8 @@
 // A worker of a run without rounds.
-ghost use Rattle.std.specs.Prelude.{◌≡◌, ◌<◌, [], IfOk, IfSome, length};
+ghost use Rattle.std.specs.Prelude.{◌≡◌, ◌<◌, IfOk, IfSome, length};
 ghost use Rattle.board_rounds.specs.calls.TaskSeats.{number};
-ghost use Rattle.slot_pool.specs.calls.PoolValues.{IsOfPool, IsSameWorker};
+ghost use Rattle.slot_pool.specs.calls.PoolValues.{IsOfPool};
+ghost use Rattle.task_runner.specs.inside.Pooled.{GoesOn, MayWork};
 
 use crate::leaving::are_many;
 use crate::pooled_task::{BoardName, PooledTask};
@@ -30,15 +31,12 @@ pub(crate) trait WorksOnPool<Q: Named> {
     /// meets want of memory. The gate is called before each op.
     fn work<R: Wait, C: Calls>(&mut self, setting: &TurnSetting<'_, R, C>, pool: &Pool<Q>)
         requires board { setting.now.board.now ≡ frame }
-        requires tasks { pool.now.tasks ≡ length frame.plan.parents }
-        requires made { IsOfPool (worker_value self.old) pool.now }
-        requires idle { (worker_value self.old).view.has ≡ [] }
-        ensures same { IsSameWorker (worker_value self.old) (worker_value self.new) }
-        ensures idle { (worker_value self.new).view.has ≡ [] };
+        requires ready { MayWork frame pool.now (worker_value self.old) }
+        ensures { GoesOn (worker_value self.old) (worker_value self.new) };
 }
 
-/// What a worker found at one or several tasks.
-#[derive(Clone, Copy)]
+/// What a worker found at one or several tasks; the greatest of what it found at each is what it found at all.
+#[derive(Clone, Copy, PartialEq, Eq, PartialOrd, Ord)]
 enum Sweep {
     /// No event happened, and no other worker had a task.
     Quiet,
@@ -46,29 +44,6 @@ enum Sweep {
     Held,
     /// An event happened.
     Moved,
-}
-
-impl Sweep {
-    /// What it found at a task by which so many events happened.
-    fn after(events: u32) -> Sweep {
-        if events > 0 {
-            Sweep::Moved
-        } else {
-            Sweep::Quiet
-        }
-    }
-
-    /// What it found at both.
-    fn and(self, other: Sweep) -> Sweep {
-        match self {
-            Sweep::Quiet => other,
-            Sweep::Moved => Sweep::Moved,
-            Sweep::Held => match other {
-                Sweep::Moved => Sweep::Moved,
-                _ => Sweep::Held,
-            },
-        }
-    }
 }
 
 /// A worker of a pool of tasks. Contracts see it as the pool's worker.
@@ -144,11 +119,8 @@ impl<'p, N: BoardName> PoolWorker<'p, N> {
         pool: &Pool<PooledTask<'p, N>>,
     ) -> bool
         requires board { setting.now.board.now ≡ N.board }
-        requires tasks { pool.now.tasks ≡ length N.board.plan.parents }
-        requires made { IsOfPool self.old pool.now }
-        requires idle { self.old.view.has ≡ [] }
-        ensures same { IsSameWorker self.old self.new }
-        ensures idle { self.new.view.has ≡ [] }
+        requires ready { MayWork N.board pool.now self.old }
+        ensures { GoesOn self.old self.new }
     {
         match self.sweep(setting, pool) {
             Ok(Sweep::Moved) => !self.costs_too_much(),
@@ -176,16 +148,13 @@ impl<'p, N: BoardName> PoolWorker<'p, N> {
         pool: &Pool<PooledTask<'p, N>>,
     ) -> Result<Sweep, NoMemory>
         requires board { setting.now.board.now ≡ N.board }
-        requires tasks { pool.now.tasks ≡ length N.board.plan.parents }
-        requires made { IsOfPool self.old pool.now }
-        requires idle { self.old.view.has ≡ [] }
-        ensures same { IsSameWorker self.old self.new }
-        ensures idle { self.new.view.has ≡ [] }
+        requires ready { MayWork N.board pool.now self.old }
+        ensures { GoesOn self.old self.new }
     {
         let mut found = Sweep::Quiet;
         for t in 0..setting.board.tasks() {
             let here = self.visit(setting, pool, TaskId(t))?;
-            found = found.and(here);
+            found = found.max(here);
         }
         Ok(found)
     }
@@ -198,12 +167,9 @@ impl<'p, N: BoardName> PoolWorker<'p, N> {
         t: TaskId,
     ) -> Result<Sweep, NoMemory>
         requires board { setting.now.board.now ≡ N.board }
-        requires tasks { pool.now.tasks ≡ length N.board.plan.parents }
         requires task { t.0 < length N.board.plan.parents }
-        requires made { IsOfPool self.old pool.now }
-        requires idle { self.old.view.has ≡ [] }
-        ensures same { IsSameWorker self.old self.new }
-        ensures idle { self.new.view.has ≡ [] }
+        requires ready { MayWork N.board pool.now self.old }
+        ensures { GoesOn self.old self.new }
     {
         match self.worker.claim(pool, t) {
             Claim::Empty => Ok(Sweep::Quiet),
@@ -226,14 +192,15 @@ impl<'p, N: BoardName> PoolWorker<'p, N> {
         requires board { setting.now.board.now ≡ N.board }
         requires tasks { pool.now.tasks ≡ length N.board.plan.parents }
         requires made { IsOfPool self.old pool.now }
-        ensures same { IsSameWorker self.old self.new }
-        ensures has { self.new.view.has ≡ self.old.view.has }
+        ensures goes_on { GoesOn self.old self.new }
         ensures task { number task.new ≡ number task.old }
     {
         let mut found = Sweep::Quiet;
         for _ in 0..u64::MAX {
             let (acted, child) = task.act(setting, self.plan, &mut self.cells)?;
-            found = found.and(Sweep::after(acted.events));
+            if acted.events > 0 {
+                found = Sweep::Moved;
+            }
             self.place(pool, child)?;
             match acted.pause {
                 Pause::Forked => {}
@@ -251,8 +218,7 @@ impl<'p, N: BoardName> PoolWorker<'p, N> {
     ) -> Result<(), NoMemory>
         requires made { IsOfPool self.old pool.now }
         requires within { IfSome child (λ child. number child < pool.now.tasks) }
-        ensures same { IsSameWorker self.old self.new }
-        ensures has { self.new.view.has ≡ self.old.view.has }
+        ensures { GoesOn self.old self.new }
     {
         let Some(child) = child else {
             return Ok(());

@@ -3,13 +3,11 @@ ghost use Rattle.std.specs.Prelude.{◌≡◌, ◌<◌, All, IfOk, IfSome, lengt
 ghost use Rattle.armus_base.specs.Runs.{first_place};
 ghost use Rattle.board.specs.calls.Views.{own_place, task_of};
 ghost use Rattle.board_rounds.specs.calls.TaskSeats.{IsTaskSeat, number};
-ghost use Rattle.board_rounds.specs.calls.Turns.{standing_of};
-ghost use Rattle.task_runner.specs.inside.Pooled.{IsForked};
+ghost use Rattle.task_runner.specs.inside.Pooled.{IsForked, IsPooled};
 
 use armus_base::{NoMemory, Plan, TaskId};
 use board::TaskSeat;
 use board_rounds::{Acted, Calls, Task, TurnSetting, WorkerCells};
-use pl_core::Place;
 use slot_pool::Named;
 use std::alloc::Global;
 use std::marker::{Brand, Model, PhantomData};
@@ -91,27 +89,12 @@ impl<'p, N: BoardName> PooledTask<'p, N> {
         Ok((acted, last_of(setting.alloc, seats, plan)))
     }
 
-    /// Its number.
-    pub(crate) fn number(&self) -> TaskId
-        ensures number { result.0 ≡ number self.now }
-        ensures seat { IsTaskSeat N.board self.now.seat }
+    /// The task, without the name of its board.
+    pub(crate) fn into_task(self) -> Task<'p>
+        ensures task { result ≡ self.entry }
+        ensures pooled { IsPooled N.board result }
     {
-        self.task.id()
-    }
-
-    /// Its place.
-    pub(crate) fn place(&self) -> Place
-        ensures { result ≡ standing_of self.now.seat }
-    {
-        self.task.place()
-    }
-
-    /// Its seat.
-    pub(crate) fn into_seat(self) -> TaskSeat
-        ensures seat { result ≡ self.entry.seat }
-        ensures board_tasks { IsTaskSeat N.board result }
-    {
-        self.task.into_seat()
+        self.task
     }
 }
 

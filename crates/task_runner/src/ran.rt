@@ -1,5 +1,7 @@
 // What a run on a board answers.
-use armus_base::{Final, List, TaskId};
+ghost use Rattle.std.specs.Prelude.{◌≡◌};
+
+use armus_base::{Final, List, NoMemory, TaskId, WriteFault};
 use board::Words;
 use pl_core::Place;
 
@@ -23,4 +25,24 @@ pub enum RunEnd {
     Write,
     /// Memory was wanting.
     NoMemory,
+}
+
+impl From<NoMemory> for RunEnd {
+    ghost use Rattle.task_runner.specs.declared.ran.RunEnd.TheVariants as ends;
+
+    ghost from_gives = { λ _ e. e ≡ ends.NoMemory };
+
+    fn from(_: NoMemory) -> RunEnd {
+        RunEnd::NoMemory
+    }
+}
+
+impl From<WriteFault> for RunEnd {
+    ghost use Rattle.task_runner.specs.declared.ran.RunEnd.TheVariants as ends;
+
+    ghost from_gives = { λ _ e. e ≡ ends.Write };
+
+    fn from(_: WriteFault) -> RunEnd {
+        RunEnd::Write
+    }
 }

@@ -1,5 +1,5 @@
 // The dead tasks of a final state that no pass has named.
-ghost use Rattle.std.specs.Prelude.{◌≡◌, ◌++◌, ◌⊎◌, true, false, Contains, IfOk};
+ghost use Rattle.std.specs.Prelude.{◌≡◌, ◌↔◌, ◌++◌, ◌⊎◌, true, false, Any, Contains, IfOk, IsTrue};
 ghost use Rattle.armus_base.specs.calls.Statuses.{IsInOrder};
 ghost use Rattle.report.specs.NamedDead.{AreSomeDead, AreTheDead};
 ghost use Rattle.task_runner.specs.calls.DetectRuns.{told, IsNoWrite};
@@ -27,15 +27,9 @@ pub(crate) fn tell_rest<K: Sink>(
     if !options.live {
         return Ok(());
     }
-    let Ok(rest) = rest_of(alloc, blocked, dead, options.wanted) else {
-        return Err(RunEnd::NoMemory);
-    };
-    let Ok(lines) = live_lines(alloc, rest.as_slice()) else {
-        return Err(RunEnd::NoMemory);
-    };
-    let Ok(()) = write_text(out, lines.as_slice()) else {
-        return Err(RunEnd::Write);
-    };
+    let rest = rest_of(alloc, blocked, dead, options.wanted)?;
+    let lines = live_lines(alloc, rest.as_slice())?;
+    write_text(out, lines.as_slice())?;
     Ok(())
 }
 
@@ -79,26 +73,14 @@ fn is_new(dead: &[TaskId], told: &[Dead], rest: &[Dead], t: TaskId) -> bool
 
 // Whether the list has this task.
 fn is_among(dead: &[TaskId], t: TaskId) -> bool
-    ensures yes_so { result ≡ true → Contains dead.now t }
-    ensures no_so { result ≡ false → Contains dead.now t → ⊥ }
+    ensures { IsTrue result ↔ Any (λ u. u ≡ t) dead.now }
 {
-    for u in dead {
-        if *u == t {
-            return true;
-        }
-    }
-    false
+    dead.iter().any(|u| *u == t)
 }
 
 // Whether one of these is this task.
 fn is_named(dead: &[Dead], t: TaskId) -> bool
-    ensures yes_so { result ≡ true → IsNamedIn dead.now t }
-    ensures no_so { result ≡ false → IsNamedIn dead.now t → ⊥ }
+    ensures { IsTrue result ↔ Any (λ d. d.t ≡ t) dead.now }
 {
-    for d in dead {
-        if d.t == t {
-            return true;
-        }
-    }
-    false
+    dead.iter().any(|d| d.t == t)
 }

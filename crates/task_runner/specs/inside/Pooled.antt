@@ -1,5 +1,5 @@
 -- The tasks of a run without rounds, and the workers that take them from a pool.
-use Rattle.std.specs.Prelude.{◌≡◌, ℕ, ◌<◌, Bool, true, List, [], Some, All, Contains, slice_get}
+use Rattle.std.specs.Prelude.{◌≡◌, ℕ, ◌<◌, Bool, true, List, [], Some, All, Contains, length, slice_get}
 use Rattle.armus_base.specs.calls.CheckedPlans.{first_plan}
 use Rattle.armus_base.specs.declared.op.Op.{Op}
 use Rattle.armus_base.specs.Plans.{Plan, Forks, action_at, actions_of}
@@ -7,7 +7,7 @@ use Rattle.board.specs.declared.mode.Mode.TheVariants.{Detect}
 use Rattle.board.specs.calls.Seats.{Frame, Known}
 use Rattle.board_rounds.specs.calls.Turns.{IsChildSeat, Working}
 use Rattle.board_rounds.specs.calls.TaskSeats.{IsTaskSeat, done_of, number}
-use Rattle.slot_pool.specs.calls.PoolValues.{WorkerValue, IsNumberOf, IsOfPool, PoolValue}
+use Rattle.slot_pool.specs.calls.PoolValues.{WorkerValue, IsNumberOf, IsOfPool, IsSameWorker, PoolValue}
 
 -- a board of the first plan
 abbrev pub first_board : Frame
@@ -26,6 +26,17 @@ pub record IsPooled (board : Frame) (task : Working) : Type 0 where
 -- the seat of a task that was just forked on this board
 abbrev pub IsForked : Frame → Known → Type 0
 IsForked board seat = (c : ℕ) × IsChildSeat board c seat
+
+-- the worker is one of this pool of all tasks of the plan of this board, and has no task
+pub record MayWork (board : Frame) (pool : PoolValue) (worker : WorkerValue) : Type 0 where
+  pub tasks : pool.tasks ≡ length board.plan.parents
+  pub made : IsOfPool worker pool
+  pub idle : worker.view.has ≡ []
+
+-- it is the same worker, and has what it had
+pub record GoesOn (before now : WorkerValue) : Type 0 where
+  pub same : IsSameWorker before now
+  pub has : now.view.has ≡ before.view.has
 
 -- these are all workers of the pool, and none of them has a task
 pub record AreAllWorkers (pool : PoolValue) (workers : List WorkerValue) : Type 0 where

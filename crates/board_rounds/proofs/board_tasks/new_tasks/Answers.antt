@@ -1,11 +1,12 @@
 use Rattle.std.proofs.Common.{◌++◌, ◌<◌, [], add-one, length, set, get_or, take, sym, ap, ◌∙◌, subst, arith}
 use Rattle.std.proofs.lemmas.List.{flat_map_more, take_more}
+use Rattle.std.proofs.lemmas.List.Elements.{Contains-get_or}
 use Rattle.std.specs.List.{flat_map}
 use Rattle.std.specs.Prelude.{All, Contains}
 use Rattle.board_rounds.specs.calls.Turns.{Working}
 use Rattle.board_rounds.specs.calls.Rounds.{fresh_of}
 use Rattle.board_rounds.specs.inside.Rounds.{IsAtStart}
-use Rattle.board_rounds.proofs.Emptying.{IsEmptiedUpTo, contains_at, grows, none_yet, there, whole}
+use Rattle.board_rounds.proofs.Emptying.{IsEmptiedUpTo, grows, none_yet, there, whole}
 use Rattle.board_rounds.proofs.board_tasks.new_tasks.Goals as goal
 
 pub loop-task-init : goal.loop-task-init
@@ -19,8 +20,8 @@ add_children-requires c =
     let l : n < length c.args.tasks.now = (let t = c.loop-task-test.true in let s = c.loop-task.auto.tasks in omega arith) in
     let start : All (IsAtStart c.args.plan.now) (get_or c.loop-task.tasks n d).children = λ k e less. c.requires.start (get_or (get_or c.loop-task.tasks n d).children k e) (
       get_or c.args.tasks.now n d,
-      contains_at c.args.tasks.now n d l,
-      subst (λ (w : Working). Contains w.children (get_or (get_or c.loop-task.tasks n d).children k e)) (there d i.0) (contains_at (get_or c.loop-task.tasks n d).children k e less),
+      Contains-get_or c.args.tasks.now n d l,
+      subst (λ (w : Working). Contains w.children (get_or (get_or c.loop-task.tasks n d).children k e)) (there d i.0) (Contains-get_or (get_or c.loop-task.tasks n d).children k e less),
     ) in record {
       first = λ k e less. (start k e less).0;
       plan = λ k e less. (start k e less).1;

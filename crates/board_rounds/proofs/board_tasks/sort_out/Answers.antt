@@ -1,8 +1,9 @@
 use Rattle.std.proofs.Common.{[], ◌∷◌, ◌++◌, ◌∙◌, All, List, sym, subst}
 use Rattle.std.proofs.lemmas.Bool.{false≢true}
+use Rattle.std.proofs.lemmas.List.Elements.{All-push}
 use Rattle.std.specs.List.Sorted.{IsPermutation}
 use Rattle.board_rounds.specs.calls.Turns.{ActsNoMore, Working}
-use Rattle.board_rounds.proofs.Rejoining.{all_push, one_ends, one_lives}
+use Rattle.board_rounds.proofs.Rejoining.{one_ends, one_lives}
 use Rattle.board_rounds.proofs.board_tasks.sort_out.Goals as goal
 
 pub loop-task-preserved-in-Continue-1 : goal.loop-task-preserved-in-Continue-1
@@ -14,7 +15,7 @@ loop-task-preserved-in-Continue-1 c =
       same = subst (λ (ws : List Working). IsPermutation (E ++ Y) (c.loop-task.live.items ++ ws)) (sym c.in_ok-push.ensures.items) (one_ends E c.loop-task.yielded c.loop-task.live.items c.loop-task.ended.items c.in-Some.task i.same);
       ended =
           subst (λ (ws : List Working). All (λ (w : Working). ActsNoMore w.seat) ws) (sym c.in_ok-push.ensures.items)
-          (all_push (λ (w : Working). ActsNoMore w.seat) c.loop-task.ended.items c.in-Some.task i.ended (c.has_ended.ensures.0 c.if-has_ended.true));
+          (All-push (λ (w : Working). ActsNoMore w.seat) c.loop-task.ended.items c.in-Some.task i.ended (c.has_ended.ensures.0 c.if-has_ended.true));
       live = i.live;
     }
 
@@ -28,6 +29,6 @@ loop-task-preserved c =
       ended = i.ended;
       live =
           subst (λ (ws : List Working). All (λ (w : Working). ActsNoMore w.seat → ⊥) ws) (sym c.in_ok-push-2.ensures.items)
-          (all_push (λ (w : Working). ActsNoMore w.seat → ⊥) c.loop-task.live.items c.in-Some.task i.live
+          (All-push (λ (w : Working). ActsNoMore w.seat → ⊥) c.loop-task.live.items c.in-Some.task i.live
           (λ ended. false≢true (sym c.if-has_ended.false ∙ c.has_ended.ensures.1 ended)));
     }

@@ -25,7 +25,7 @@ use Rattle.board_rounds.specs.calls.Turns.{Working, loads_between}
 use Rattle.board_rounds.specs.calls.TaskSeats.{ArePlacesOf, AreTaskSeats, IsSeatIn, all_of}
 use Rattle.task_runner.specs.calls.DetectRuns.{AreDeadAtTheEnd, AreSettledPlaces, told}
 use Rattle.task_runner.specs.inside.Rests.{TellsRest}
-use Rattle.task_runner.specs.inside.LiveReporters.{TellsMore}
+use Rattle.task_runner.specs.inside.LiveReporters.{TellsMore, TellsOn}
 use Rattle.task_runner.specs.declared.ran.RunEnd.TheVariants.{NoMemory}
 use Rattle.task_runner.specs.inside.BoardRuns.{bound_on}
 use Rattle.task_runner.proofs.EndedTurns.{turns_ended}
@@ -56,7 +56,7 @@ module _ (g : _) (c : After-close-words g) where
   words = c.close-words.result.0.words
 
   abbrev places : List KeptPlace
-  places = c.in-Ok.places
+  places = c.in_ok-places.places
 
   board_tasks : AreTaskSeats f (IsSeatIn tasks)
   board_tasks = c.requires.under_way.on_board.board_tasks.all.board_tasks
@@ -74,7 +74,7 @@ module _ (g : _) (c : After-close-words g) where
   last = subst (λ (m : Mode). AreLastOf f.plan m (seen now.view) words) c.requires.under_way.detects c.close-words.ensures.words
 
   are : ArePlacesOf f.plan tasks places
-  are = subst (λ (q : Plan). ArePlacesOf q tasks places) (sym plan_is) c.in-Ok.ensures.places
+  are = subst (λ (q : Plan). ArePlacesOf q tasks places) (sym plan_is) c.in_ok-places.ensures.places
 
   stands_reachable : IsReachable c.args.run.plan.now (places_at c.args.run.plan.now places)
   stands_reachable =
@@ -94,25 +94,30 @@ world_end_from-requires-clause-plain g c κs within = λ t place is.
     stands_plain g (goal.at.world_end_from-requires-clause-plain g c).After-close-words t place
     (ap (λ (xs : List KeptPlace). slice_get xs t) (sym c.as_slice.ensures.items) ∙ is)
 
-pub returns-in_default-clause-told : goal.returns-in_default-clause-told
-returns-in_default-clause-told g c = λ live.
-    none_on c.args.run.plan.now c.args.live_reporter.dead (told g.K.Sink.taken g.K.Sink.faults c.args.out.now) (told g.K.Sink.taken g.K.Sink.faults c.args.out.now) (Err NoMemory) refl refl
+pub returns-in_err-places-clause-told : goal.returns-in_err-places-clause-told
+returns-in_err-places-clause-told g c = λ live.
+    let is : c.from_residual.result ≡ Err NoMemory = search rules in
+    none_on c.args.run.plan.now c.args.live_reporter.dead (told g.K.Sink.taken g.K.Sink.faults c.args.out.now) (told g.K.Sink.taken g.K.Sink.faults c.args.out.now) c.from_residual.result is refl
     (subst (λ (q : Plan). AreDeadAtTheEnd q c.args.live_reporter.dead) c.requires.under_way.on_board.of_plan c.requires.under_way.watches.dead)
 
 pub returns-in_err-last_pass-clause-told : goal.returns-in_err-last_pass-clause-told
 returns-in_err-last_pass-clause-told g c = λ live.
     let a = told g.K.Sink.taken g.K.Sink.faults c.args.out.now in
     let m = told g.K.Sink.taken g.K.Sink.faults c.last_pass.new.out in
-    let is : c.from_residual.result ≡ Err c.in_err-last_pass.field-0.0 = search rules in
-    pass_err (Unit {0}) c.args.run.plan.now c.args.live_reporter.dead c.last_pass.new.live_reporter.dead a m c.in_err-last_pass.field-0.0 c.from_residual.result is
+    let is : c.from_residual-in_err-last_pass.result ≡ Err c.in_err-last_pass.field-0.0 = search rules in
+    pass_err (Unit {0}) c.args.run.plan.now c.args.live_reporter.dead c.last_pass.new.live_reporter.dead a m c.in_err-last_pass.field-0.0 c.from_residual-in_err-last_pass.result is
     (subst (λ (q : Plan). TellsMore {A = Unit {0}} q c.args.live_reporter.dead c.last_pass.new.live_reporter.dead a m (Err c.in_err-last_pass.field-0.0)) c.requires.under_way.on_board.of_plan
     (subst (λ (ds : List Dead). TellsMore {A = Unit {0}} c.args.board.plan ds c.last_pass.new.live_reporter.dead a m (Err c.in_err-last_pass.field-0.0))
     c.take_in.ensures.same (c.in_err-last_pass.ensures.told live)))
 
-pub returns-in_default-world_end_from-clause-told : goal.returns-in_default-world_end_from-clause-told
-returns-in_default-world_end_from-clause-told g c = λ live.
+pub returns-in_err-ended-clause-told : goal.returns-in_err-ended-clause-told
+returns-in_err-ended-clause-told g c = λ live.
     let t = c.in_ok-last_pass.ensures.told live in
-    let grown = t.1 ∙ ap (λ (ds : List Dead). ds ++ t.0) c.take_in.ensures.same in (
+    let a = told g.K.Sink.taken g.K.Sink.faults c.args.out.now in
+    let m = told g.K.Sink.taken g.K.Sink.faults c.last_pass.new.out in
+    let is : c.from_residual-in_err-ended.result ≡ Err NoMemory = search rules in
+    let grown = t.1 ∙ ap (λ (ds : List Dead). ds ++ t.0) c.take_in.ensures.same in
+    subst (TellsOn c.args.run.plan.now c.args.live_reporter.dead a m) (sym is) (
       t.0,
       subst (AreDeadAtTheEnd c.args.run.plan.now) grown (subst (λ (q : Plan). AreDeadAtTheEnd q c.last_pass.new.live_reporter.dead) c.requires.under_way.on_board.of_plan
           c.in_ok-last_pass.ensures.watches.dead),
@@ -123,7 +128,7 @@ pub tell_rest-requires-clause-in_order : goal.tell_rest-requires-clause-in_order
 tell_rest-requires-clause-in_order g c κs within =
     let watches = c.take_in.ensures.watches in
     let checked = subst IsCheckedPlan (watches.made.plan ∙ c.requires.under_way.on_board.of_plan) watches.kept.checked in
-    subst IsInOrder (sym c.as_slice-2.ensures.items) (blocked_in_order c.args.run.plan.now c.in-Ok-world_end_from.ended.end checked c.in-Ok-world_end_from.ensures.end.plain)
+    subst IsInOrder (sym c.as_slice-2.ensures.items) (blocked_in_order c.args.run.plan.now c.in_ok-ended.ended.end checked c.in_ok-ended.ensures.end.plain)
 
 pub tell_rest-requires-clause-some : goal.tell_rest-requires-clause-some
 tell_rest-requires-clause-some g c κs within =
@@ -132,7 +137,7 @@ tell_rest-requires-clause-some g c κs within =
     let dead : c.as_slice-3.result.now ≡ c.last_pass.new.live_reporter.dead = search rules in
     subst (AreSomeDead c.as_slice-2.result.now) (sym dead)
     (subst (λ (list : List Status). AreSomeDead list c.last_pass.new.live_reporter.dead) (sym c.as_slice-2.ensures.items)
-    (named c.in-Ok-world_end_from.ended.end c.in-Ok-world_end_from.ensures.end.plain))
+    (named c.in_ok-ended.ended.end c.in_ok-ended.ensures.end.plain))
 
 pub returns-in_err-tell_rest-clause-told : goal.returns-in_err-tell_rest-clause-told
 returns-in_err-tell_rest-clause-told g c = λ live.
@@ -143,10 +148,10 @@ returns-in_err-tell_rest-clause-told g c = λ live.
     let grown = t.1 ∙ ap (λ (ds : List Dead). ds ++ t.0) c.take_in.ensures.same in
     let is : c.from_residual-in_err-tell_rest.result ≡ Err c.in_err-tell_rest.field-0.0 = search rules in
     let dead : c.as_slice-3.result.now ≡ c.last_pass.new.live_reporter.dead = search rules in
-    rest_err c.args.run.plan.now c.in-Ok-world_end_from.ended.end c.in-Ok-world_end_from.ensures.end.plain c.args.live_reporter.dead c.last_pass.new.live_reporter.dead t.0 grown a m n t.2
+    rest_err c.args.run.plan.now c.in_ok-ended.ended.end c.in_ok-ended.ensures.end.plain c.args.live_reporter.dead c.last_pass.new.live_reporter.dead t.0 grown a m n t.2
     (subst (λ (q : Plan). AreDeadAtTheEnd q c.last_pass.new.live_reporter.dead) c.requires.under_way.on_board.of_plan c.in_ok-last_pass.ensures.watches.dead)
     c.in_err-tell_rest.field-0.0 c.from_residual-in_err-tell_rest.result is
-    (subst (λ (ds : List Dead). TellsRest c.in-Ok-world_end_from.ended.end.blocked ds m n (Err c.in_err-tell_rest.field-0.0)) dead
+    (subst (λ (ds : List Dead). TellsRest c.in_ok-ended.ended.end.blocked ds m n (Err c.in_err-tell_rest.field-0.0)) dead
     (subst (λ (list : List Status). TellsRest list c.as_slice-3.result.now m n (Err c.in_err-tell_rest.field-0.0)) c.as_slice-2.ensures.items
     (c.in_err-tell_rest.ensures.told live)))
 
@@ -161,13 +166,13 @@ returns-clause-ran g c =
     let before = c.take_in.new.self.view in
     let now = c.last_pass.new.live_reporter.view in
     let words = c.close-words.result.0.words in
-    let places : List KeptPlace = c.in-Ok.places in
+    let places : List KeptPlace = c.in_ok-places.places in
     let dead = c.close-words.result.2 in
     let is : dead ≡ c.last_pass.new.live_reporter.last = c.close-words.ensures.last in
     let passed = c.in_ok-last_pass.ensures.passed in
     record {
-      end = c.in-Ok-world_end_from.ensures.end.plain;
-      one_each = c.in-Ok.ensures.places.one_each;
+      end = c.in_ok-ended.ensures.end.plain;
+      one_each = c.in_ok-places.ensures.places.one_each;
       lawful = subst (λ (q : Plan). IsLawful false q (places_at q places) None) plan_is
           (lawful c.args.board detects tasks seats places (are g at) before now c.take_in.ensures.known (goes g at) (of g at) words (last g at));
       settled = subst (λ (q : Plan). AreSettledPlaces q (places_at q places)) plan_is
@@ -192,7 +197,7 @@ returns-clause-told g c = λ live.
     let t = c.in_ok-last_pass.ensures.told live in
     let grown = t.1 ∙ ap (λ (ds : List Dead). ds ++ t.0) c.take_in.ensures.same in
     let dead : c.as_slice-3.result.now ≡ c.last_pass.new.live_reporter.dead = search rules in
-    rest_ok c.args.run.plan.now c.in-Ok-world_end_from.ended.end c.in-Ok-world_end_from.ensures.end.plain c.args.live_reporter.dead c.last_pass.new.live_reporter.dead t.0 grown a m n t.2
-    (record { end = c.in-Ok-world_end_from.ended.end; places = c.in-Ok.places; words = c.close-words.result.0; dead = c.close-words.result.2 }) refl
-    (subst (λ (ds : List Dead). TellsRest c.in-Ok-world_end_from.ended.end.blocked ds m n (Ok tt)) dead
+    rest_ok c.args.run.plan.now c.in_ok-ended.ended.end c.in_ok-ended.ensures.end.plain c.args.live_reporter.dead c.last_pass.new.live_reporter.dead t.0 grown a m n t.2
+    (record { end = c.in_ok-ended.ended.end; places = c.in_ok-places.places; words = c.close-words.result.0; dead = c.close-words.result.2 }) refl
+    (subst (λ (ds : List Dead). TellsRest c.in_ok-ended.ended.end.blocked ds m n (Ok tt)) dead
     (subst (λ (list : List Status). TellsRest list c.as_slice-3.result.now m n (Ok tt)) c.as_slice-2.ensures.items (c.in_ok-tell_rest.ensures.told live)))

@@ -12,7 +12,7 @@ map_vec-requires-sync-F g c κs within =
 
 pub map_vec-requires-after_bounds : goal.map_vec-requires-after_bounds
 map_vec-requires-after_bounds g c κs within = λ i x l is.
-    let fit = ready g.J.WorksOnPool.worker_value c.args.pool.now c.args.workers.items c.requires.workers i x l is in (c.requires.board, c.requires.tasks, fit.0, fit.1)
+    (c.requires.board, ready g.J.WorksOnPool.worker_value g.J.WorksOnPool.frame c.args.pool.now c.args.workers.items c.requires.tasks c.requires.workers i x l is)
 
 pub returns : goal.returns
 returns g c =
@@ -23,5 +23,5 @@ returns g c =
     record {
       workers =
           all_after worker_value c.args.pool.now olds done.items c.requires.workers count
-          (λ i d l. let job = (c.in_ok-done.ensures.each i d l).1 in (job.job, job.job_is, job.call.met.0, job.call.met.1));
+          (λ i d l. let job = (c.in_ok-done.ensures.each i d l).1 in (job.job, job.job_is, job.call.met));
     }

@@ -1,7 +1,7 @@
-use Rattle.std.proofs.Common.{◌≡◌, ◌∙◌, ℕ, List, Bool, Some, false, true, length, ap, sym, subst, inl, inr}
+use Rattle.std.proofs.Common.{◌≡◌, ◌∙◌, ◌<◌, ℕ, List, Bool, Some, false, true, length, ap, sym, subst, inl, inr}
 use Rattle.std.specs.Prelude.{All, replicate, slice_get}
 use Rattle.std.proofs.lemmas.List.{length-replicate}
-use Rattle.armus_base.specs.Plans.{Plan, code_of}
+use Rattle.armus_base.specs.Plans.{code_of}
 use Rattle.board_rounds.specs.calls.Turns.{Working}
 use Rattle.board_rounds.specs.calls.TaskSeats.{done_of, number}
 use Rattle.task_runner.specs.inside.Pooled.{AreForksMarked, AreClosedUnderForks, ContainsTask}
@@ -9,12 +9,13 @@ use Rattle.task_runner.proofs.ForksInHand.{unmarked, whole_marked}
 use Rattle.task_runner.proofs.pool_end.are_whole.Goals as goal
 
 pub mark-requires : goal.mark-requires
-mark-requires g c =
+mark-requires c =
     let first : c.in_ok-marks.marks.items ≡ replicate c.tasks.result false = c.in_ok-marks.ensures.items_if_clones_equal (λ y e. e) in
-    ap length first ∙ length-replicate c.tasks.result false ∙ c.tasks.ensures.counted ∙ sym (ap (λ (q : Plan). length q.parents) c.requires.plan)
+    let count : length c.args.plan.now.parents ≡ length c.in_ok-marks.marks.items = sym (ap length first ∙ length-replicate c.tasks.result false ∙ c.tasks.ensures.counted) in
+    subst (λ n. All (λ (w : Working). number w < n) c.args.tasks.now) count c.requires.within
 
 pub returns : goal.returns
-returns g c = record { whole = all }
+returns c = record { whole = all }
   where
     first : c.in_ok-marks.marks.items ≡ replicate c.tasks.result false
     first = c.in_ok-marks.ensures.items_if_clones_equal (λ y e. e)

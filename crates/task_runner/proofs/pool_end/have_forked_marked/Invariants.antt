@@ -6,4 +6,4 @@ use Rattle.task_runner.specs.inside.Pooled.{AreForksMarked}
 use Rattle.task_runner.proofs.pool_end.have_forked_marked.Given as goal
 
 abbrev pub invariant-loop-task : goal.invariant-loop-task
-invariant-loop-task g l = All (λ task. AreForksMarked (code_of l.plan (number task)) (done_of task) l.marks) (take l.task-index l.tasks)
+invariant-loop-task l = All (λ task. AreForksMarked (code_of l.plan (number task)) (done_of task) l.marks) (take l.task-index l.tasks)

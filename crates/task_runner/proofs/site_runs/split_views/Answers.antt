@@ -1,12 +1,8 @@
-use Rattle.std.proofs.Common.{◌∙◌, zero, suc, [], ◌∷◌, All, None, arith, length, length-append, subst, sym, ap}
-use Rattle.std.proofs.lemmas.List.Elements.{All-append}
+use Rattle.std.proofs.Common.{◌∙◌, [], ◌∷◌, All, None, arith, length, length-append, subst, sym, ap}
+use Rattle.std.proofs.lemmas.List.Elements.{All-push}
 use Rattle.board.specs.calls.Seats.{IsNewSeat, Known}
 use Rattle.board.specs.calls.Views.{seen}
 use Rattle.task_runner.proofs.site_runs.split_views.Goals as goal
-
-all_one : (P : Known → Type 0) (k : Known) → P k → All P (k ∷ [])
-all_one P k h zero d l = h
-all_one P k h (suc i) d l = absurd (omega arith)
 
 pub loop-preserved : goal.loop-preserved
 loop-preserved c =
@@ -19,8 +15,8 @@ loop-preserved c =
           (let grown = ap length c.in_ok-push.ensures.items in let one = length-append c.loop.views.items (other ∷ []) in let before = i.count in omega arith);
       new =
           subst (All New) (sym c.in_ok-push.ensures.items)
-          (All-append New c.loop.views.items (other ∷ []) i.new
-          (all_one New other (subst (λ (k : Known). IsNewSeat c.args.board.now None (seen k.view) other) i.same c.in_ok-other.ensures.other)));
+          (All-push New c.loop.views.items other i.new
+          (subst (λ (k : Known). IsNewSeat c.args.board.now None (seen k.view) other) i.same c.in_ok-other.ensures.other));
     }
 
 pub returns-clause-count : goal.returns-clause-count

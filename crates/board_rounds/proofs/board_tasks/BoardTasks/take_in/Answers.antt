@@ -25,7 +25,7 @@ returns-clause-known c =
     let tasks = (subst (AreTasksOf c.args.board.now) (sym c.self.view_is) c.requires.tasks) in
     let taken = tasks_taken now.live now.ended c.args.view.now c.take_in_all.new.view c.take_in_all-2.new.view c.take_in_all.ensures.taken c.take_in_all-2.ensures.taken in
     subst (λ (w : Tasks). KnowsTasks c.args.board.now (all_of w) c.take_in_all-2.new.view) c.self.view_is
-    (knows c.args.board.now (all_of now) c.args.view.now c.take_in_all-2.new.view tasks.all taken c.requires.unknown)
+    (knows c.args.board.now (all_of now) c.args.view.now c.take_in_all-2.new.view tasks.all.board_tasks taken c.requires.unknown)
 
 pub returns-clause-kept : goal.returns-clause-kept
 returns-clause-kept c = λ kept.

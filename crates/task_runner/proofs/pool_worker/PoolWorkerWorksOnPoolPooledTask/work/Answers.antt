@@ -1,14 +1,11 @@
-use Rattle.task_runner.proofs.PoolWorkers.{same_made, same_on}
+use Rattle.task_runner.proofs.PoolWorkers.{may_on, goes_on}
 use Rattle.task_runner.proofs.pool_worker.PoolWorkerWorksOnPoolPooledTask.work.Goals as goal
 
-pub go_on-requires-clause-made : goal.go_on-requires-clause-made
-go_on-requires-clause-made g c = same_made c.args.pool.now c.args.self.now c.loop.self c.requires.made c.loop.invariant.0
-
-pub go_on-requires-clause-idle : goal.go_on-requires-clause-idle
-go_on-requires-clause-idle g c = c.loop.invariant.1
+pub go_on-requires-clause-ready : goal.go_on-requires-clause-ready
+go_on-requires-clause-ready g c = may_on g.N.BoardName.board c.args.pool.now c.args.self.now c.loop.self c.requires.ready c.loop.invariant
 
 pub loop-preserved : goal.loop-preserved
-loop-preserved g c = (same_on c.args.self.now c.loop.self c.go_on.new.self c.loop.invariant.0 c.go_on.ensures.same, c.go_on.ensures.idle)
+loop-preserved g c = goes_on c.args.self.now c.loop.self c.go_on.new.self c.loop.invariant c.go_on.ensures
 
-pub returns-then-not-go_on-clause-same : goal.returns-then-not-go_on-clause-same
-returns-then-not-go_on-clause-same g c = same_on c.args.self.now c.loop.self c.go_on.new.self c.loop.invariant.0 c.go_on.ensures.same
+pub returns-then-not-go_on : goal.returns-then-not-go_on
+returns-then-not-go_on g c = goes_on c.args.self.now c.loop.self c.go_on.new.self c.loop.invariant c.go_on.ensures

@@ -2,7 +2,7 @@ use Rattle.std.proofs.Common.{◌∙◌, subst}
 use Rattle.board.specs.calls.Seats.{Known, TakesIn}
 use Rattle.board_rounds.proofs.Goings.{same_on}
 use Rattle.board_rounds.proofs.Noting.{task_taken}
-use Rattle.board_rounds.proofs.board_tasks.take_in_all.Goals as goal
+use Rattle.board_rounds.proofs.endings.take_in_all.Goals as goal
 
 pub loop-task-preserved : goal.loop-task-preserved
 loop-task-preserved c =

@@ -3,9 +3,9 @@ use Rattle.std.specs.Prelude.{unwrap_or}
 use Rattle.std.proofs.lemmas.List.{take_more}
 use Rattle.board_rounds.specs.calls.Turns.{Working}
 use Rattle.board_rounds.specs.calls.TaskSeats.{number}
-use Rattle.board_rounds.specs.inside.Endings.{NotesPlaces}
+use Rattle.board_rounds.specs.calls.Endings.{NotesPlaces}
 use Rattle.board_rounds.proofs.Noting.{one_noted}
-use Rattle.board_rounds.proofs.board_tasks.note_places.Goals as goal
+use Rattle.board_rounds.proofs.endings.note_places.Goals as goal
 
 pub loop-task-preserved : goal.loop-task-preserved
 loop-task-preserved c =
