@@ -14,7 +14,8 @@ use Rattle.explain.specs.Outputs.{AnswersStepsIn, IsExplainCall, MayWrite, text_
 use Rattle.explain.specs.Requests.{Asked, avoided, clocks, explanation, help, nothing, steps, version}
 use Rattle.explain.specs.declared.answer.Wanted.{Wanted}
 use Rattle.explain.specs.declared.answer.Wanted.TheVariants.{Avoided, Clocks, Explanation, Steps}
-use Rattle.explain.specs.inside.Ending.{AnswersSource, asked_for}
+use Rattle.explain.specs.calls.Requested.{asked_for}
+use Rattle.explain.specs.inside.Ending.{AnswersSource}
 use Rattle.explain.proofs.Fixing.{completes}
 
 -- a status by a flag is small

@@ -1,9 +1,8 @@
 -- Where the runs of a clock text end, and what is explained there.
 use Rattle.std.proofs.Common.{◌≡◌, ◌∙◌, ℕ, zero, suc, ◌<◌, Bool, true, false, List, [], ◌∷◌, ◌++◌, Option, Some, None, length, ap, arith, inl, inr, refl, subst, sym}
-use Rattle.std.specs.Prelude.{◌↔◌, ◌⊎◌, Err, Ok, if◌then◌else◌}
+use Rattle.std.specs.Prelude.{◌↔◌, ◌⊎◌, Err, Ok}
 use Rattle.std.specs.List.{list_any}
 use Rattle.std.proofs.lemmas.Bool.{cases_eq, or_cases, or_right, or_left}
-use mathlib.Core.Path.{fun_ext}
 use Rattle.armus_base.specs.CheckedPlans.{IsCheckedPlan}
 use Rattle.armus_base.specs.calls.FinalLaws.{IsOfPlan}
 use Rattle.armus_base.specs.declared.ending.TaskEnd.{TaskEnd}
@@ -12,12 +11,11 @@ use Rattle.armus_base.specs.declared.event.Event.{Event}
 use Rattle.armus_base.specs.Finals.{end_by, end_of, list_below}
 use Rattle.armus_base.specs.Places.{state_at}
 use Rattle.armus_base.specs.Plans.{Plan}
-use Rattle.armus_base.specs.Runs.{IsMaximal, IsPlainRun, Place, places, state_after}
+use Rattle.armus_base.specs.Runs.{IsMaximal, IsPlainRun, places, state_after}
 use Rattle.armus_base.specs.States.{Step}
 use Rattle.armus_base.proofs.DeadByStatuses.{run_is_of_plan}
 use Rattle.armus_base.proofs.OneEnd.{one_end}
 use Rattle.armus_base.proofs.Stepping.{places_fix}
-use Rattle.pl_core.specs.calls.Worlds.{places_of}
 use Rattle.pl_plan.specs.Unfolding.{Outcome, ◌>>=◌}
 use Rattle.pl_plan.specs.declared.fault.CheckFault.{CheckFault}
 use Rattle.clock_syntax.specs.Grammar.{IsClockText}
@@ -28,13 +26,9 @@ use Rattle.clock_moves.proofs.ClockPlanIsChecked.{clock_plan_is_checked}
 use Rattle.clock_text.proofs.TextEndsTold.{text_ends_are_told}
 use Rattle.clock_origins.proofs.Walked.{same_unfolding}
 use Rattle.clock_sayings.specs.ClockExplanations.{ExplainsActivities, waits_there}
-use Rattle.clock_sayings.specs.declared.explaining.ClockExplanation.{ClockExplanation}
-use Rattle.world_runs.specs.calls.EndWorlds.{IsWorldEnd}
-use Rattle.world_runs.specs.declared.ending.WorldEnd.{WorldEnd}
 use Rattle.armus_words.specs.Words.{Text}
-use Rattle.explain.specs.ClockExplained.{HasSomeClockFault, IsClockExplanationOf, IsMaximalClockRun}
+use Rattle.explain.specs.ClockExplained.{HasSomeClockFault, IsMaximalClockRun}
 use Rattle.explain.specs.Explained.{WaitsIn}
-use Rattle.armus_top.proofs.TextEnds.{unfolding_of}
 
 -- ---- plans
 
@@ -89,30 +83,6 @@ run_or_fault text p u h run (inr (q, fault, reads, fails)) =
     let same : q ≡ p = one_clock_tree text q p reads run.reads in
     let both : clock_unfolded p ≡ Err fault = subst (λ r. clock_unfolded r ≡ Err fault) same fails in
     let opens : clock_unfolded p ≡ Ok u = run.unfolds in absurd (cc)
-
--- ---- what is explained
-
-pub clock_end_explained :
-    (file : Option Text) (text : Text) (p : ClockTree) (plan : Plan) (e : WorldEnd) (x : ClockExplanation) (status : ℕ) → IsClockText text p → clock_plan_of p ≡ Ok plan →
-    IsWorldEnd plan e →
-    ((u : ClockUnfolding) → clock_unfolded p ≡ Ok u → ExplainsActivities file text p u e.world.plan (places_of e.world) x.lines x.has_waiting) →
-    status ≡ (if x.has_waiting then 1 else 0) → IsClockExplanationOf file text status x.lines
-clock_end_explained file text p plan e x status reads unfolds ended explains status_is =
-    let (u, opens, same) = unfolding_of p plan unfolds in
-    let w = ended.world in
-    let run : IsPlainRun (plan_of_moves u) w.steps = subst (λ q. IsPlainRun q w.steps) (sym same) w.run in
-    let maximal : IsMaximal (plan_of_moves u) w.steps = subst (λ q. IsMaximal q w.steps) (sym same) w.maximal in
-    let by_plan : ExplainsActivities file text p u (plan_of_moves u) (places_of e.world) x.lines x.has_waiting =
-    subst (λ q. ExplainsActivities file text p u q (places_of e.world) x.lines x.has_waiting) (w.plan_is ∙ sym same) (explains u opens) in
-    record {
-      program = p;
-      unfolded = u;
-      steps = w.steps;
-      ended = clock_run text p u w.steps reads opens run maximal;
-      waits = x.has_waiting;
-      explains = subst (λ (a : ℕ → Place). ExplainsActivities file text p u (plan_of_moves u) a x.lines x.has_waiting) (sym (fun_ext w.there)) by_plan;
-      status_is = status_is;
-    }
 
 -- ---- who waits
 

@@ -1,5 +1,5 @@
 -- A clock text has one output, and the output fixes its status.
-use Rattle.std.proofs.Common.{◌≡◌, ◌∙◌, ℕ, Bool, List, Option, ap, inl, inr, refl, subst, sym}
+use Rattle.std.proofs.Common.{◌≡◌, ◌∙◌, ◌⊎◌, ℕ, List, Option, ap, inl, inr, refl, subst, sym}
 use Rattle.std.specs.Prelude.{Err, Ok, if◌then◌else◌}
 use mathlib.Core.Path.{fun_ext}
 use Rattle.armus_base.specs.Runs.{Place, places, state_after}
@@ -20,7 +20,7 @@ use Rattle.armus_words.specs.Words.{Text}
 use Rattle.explain.specs.ClockExplained.{AnswersClock, ClockEndsSo, HasSomeClockFault, IsClockExplanationOf, IsClockRefusedWith, IsMaximalClockRun, IsClockStatusOf}
 use Rattle.explain.specs.Explained.{SomeWaits}
 use Rattle.explain.specs.calls.Laws.{EachClockTextIsMet, OneClockOutput}
-use Rattle.explain.proofs.Statuses.{status_of_end, status_of_fault}
+use Rattle.explain.proofs.Statuses.{one_answer, one_status, status_of_end, status_of_fault}
 use Rattle.explain.proofs.ClockEnds.{checked_moves, clock_run, clocks_tell_waiting, end_alike, run_or_fault}
 
 -- ---- refusals
@@ -43,9 +43,6 @@ one_clock_refused file text lines others (inr (p, f, reads, fails, is)) (inr (q,
 
 -- ---- one output
 
-one_status : (x y : Bool) (status other : ℕ) → status ≡ (if x then 1 else 0) → other ≡ (if y then 1 else 0) → x ≡ y → status ≡ other
-one_status x y status other is are same = is ∙ ap (λ (w : Bool). if w then 1 else 0) same ∙ sym are
-
 pub one_clock_explained : (file : Option Text) (text : Text) (status other : ℕ) (lines others : Text) → IsClockExplanationOf file text status lines
     → IsClockExplanationOf file text other others → (status ≡ other) × (lines ≡ others)
 one_clock_explained file text status other lines others a b =
@@ -66,39 +63,50 @@ clock_explained_or_refused file text status lines others is refused =
     run_or_fault text is.program is.unfolded is.steps is.ended (has_fault file text others refused)
 
 pub one_clock_output : OneClockOutput
-one_clock_output file text status other lines others (inl a) (inl b) = one_clock_explained file text status other lines others a b
-one_clock_output file text status other lines others (inl a) (inr (three, b)) = absurd (clock_explained_or_refused file text status lines others a b)
-one_clock_output file text status other lines others (inr (three, a)) (inl b) = absurd (clock_explained_or_refused file text other others lines b a)
-one_clock_output file text status other lines others (inr (three, a)) (inr (too, b)) = (three ∙ sym too, one_clock_refused file text lines others a b)
+one_clock_output file text =
+    one_answer (IsClockExplanationOf file text) (IsClockRefusedWith file text) (one_clock_explained file text) (one_clock_refused file text)
+    (clock_explained_or_refused file text)
 
 -- ---- each text
 
-module _ (file : Option Text) (text : Text) where
-  met_by : (p : ClockTree) → IsClockText text p → (r : Outcome ClockUnfolding) → clock_unfolded p ≡ r → (status : ℕ) × (lines : Text) × AnswersClock file text status lines
-  met_by p reads (Err fault) fails =
-      (3, clock_fault_lines file text (clock_offsets text p) fault, inr (refl, inr (p, fault, reads, fails, refl)))
-  met_by p reads (Ok u) is =
-      let (steps, run, maximal) = maximal_exists (plan_of_moves u) (checked_moves p u is) in
-      let (lines, waits, explains) = clock_explanation_exists file text p u (plan_of_moves u) (places steps) reads is refl in (
-        (if waits then 1 else 0),
-        lines,
-        inl (record {
-          program = p;
-          unfolded = u;
-          steps = steps;
-          ended = clock_run text p u steps reads is run maximal;
-          waits = waits;
-          explains = explains;
-          status_is = refl;
-        }),
-      )
+module _ (file : Option Text) (text : Text) (Tells : ℕ → Text → Type 0) where
+  -- a whole output that tells this or is a refusal
+  abbrev pub IsClockMet : Type 0
+  IsClockMet = (status : ℕ) × (lines : Text) × (Tells status lines ⊎ ((status ≡ 3) × IsClockRefusedWith file text lines))
+
+  module _ (tells : (p : ClockTree) (u : ClockUnfolding) → IsClockText text p → clock_unfolded p ≡ Ok u → IsClockMet) where
+    met_by : (p : ClockTree) → IsClockText text p → (r : Outcome ClockUnfolding) → clock_unfolded p ≡ r → IsClockMet
+    met_by p reads (Err fault) fails = (3, clock_fault_lines file text (clock_offsets text p) fault, inr (refl, inr (p, fault, reads, fails, refl)))
+    met_by p reads (Ok u) is = tells p u reads is
+
+    -- it is there, if it is for each unfolding of the text
+    pub clock_met : IsClockMet
+    clock_met =
+        elim (clock_tree_or_fault text) [
+          | inl one ↦ let (p, reads) = one in met_by p reads (clock_unfolded p) refl
+          | inr one ↦ let (fault, has) = one in (3, clock_syntax_lines file text fault, inr (refl, inl (fault, has, refl)))
+        ]
+
+explained : (file : Option Text) (text : Text) (p : ClockTree) (u : ClockUnfolding) → IsClockText text p → clock_unfolded p ≡ Ok u
+    → IsClockMet file text (IsClockExplanationOf file text)
+explained file text p u reads is =
+    let (steps, run, maximal) = maximal_exists (plan_of_moves u) (checked_moves p u is) in
+    let (lines, waits, explains) = clock_explanation_exists file text p u (plan_of_moves u) (places steps) reads is refl in (
+      (if waits then 1 else 0),
+      lines,
+      inl (record {
+        program = p;
+        unfolded = u;
+        steps = steps;
+        ended = clock_run text p u steps reads is run maximal;
+        waits = waits;
+        explains = explains;
+        status_is = refl;
+      }),
+    )
 
 pub each_clock_text_is_met : EachClockTextIsMet
-each_clock_text_is_met file text =
-    elim (clock_tree_or_fault text) [
-      | inl one ↦ let (p, reads) = one in met_by file text p reads (clock_unfolded p) refl
-      | inr one ↦ let (fault, has) = one in (3, clock_syntax_lines file text fault, inr (refl, inl (fault, has, refl)))
-    ]
+each_clock_text_is_met file text = clock_met file text (IsClockExplanationOf file text) (explained file text)
 
 -- ---- the status
 

@@ -1,15 +1,11 @@
 -- A clock text has one output with the steps of its run, and the output fixes its status.
 use Rattle.std.proofs.Common.{◌≡◌, ◌∙◌, ◌++◌, ℕ, List, Option, ap, inl, inr, refl, subst, sym, true}
-use Rattle.std.specs.Prelude.{Err, Ok, if◌then◌else◌}
+use Rattle.std.specs.Prelude.{Ok, if◌then◌else◌}
 use Rattle.armus_base.specs.Runs.{IsMaximal, places}
 use Rattle.armus_base.specs.States.{Step}
-use Rattle.pl_plan.specs.Unfolding.{Outcome}
 use Rattle.clock_syntax.specs.Grammar.{IsClockText}
 use Rattle.clock_syntax.specs.Trees.{ClockTree}
-use Rattle.clock_syntax.proofs.ClockTexts.{clock_tree_or_fault}
 use Rattle.clock_moves.specs.Unfolding.{ClockUnfolding, clock_unfolded, plan_of_moves}
-use Rattle.clock_origins.specs.ClockOffsets.{clock_offsets}
-use Rattle.clock_sayings.specs.ClockRefusals.{clock_fault_lines, clock_syntax_lines}
 use Rattle.clock_sayings.proofs.OneExplanation.{clock_explanation_exists}
 use Rattle.step_lines.specs.SerialRuns.{IsSerialRun}
 use Rattle.step_lines.specs.calls.SerialRuns.{IsWholeSerialRun}
@@ -19,11 +15,12 @@ use Rattle.step_lines.proofs.SerialIsPlain.{serial_is_plain}
 use Rattle.clock_steps.specs.ShownClockSteps.{AreClockShown}
 use Rattle.clock_steps.proofs.OneClockShowing.{clock_showing_exists, one_clock_showing}
 use Rattle.armus_words.specs.Words.{Text}
-use Rattle.explain.specs.ClockExplained.{IsClockExplanationOf, IsClockStatusOf}
+use Rattle.explain.specs.ClockExplained.{IsClockExplanationOf, IsClockRefusedWith, IsClockStatusOf}
 use Rattle.explain.specs.ClockStepped.{AreClockStepsOf}
 use Rattle.explain.specs.Outputs.{AnswersStepsIn}
 use Rattle.explain.proofs.ClockEnds.{checked_moves, clock_run, end_alike}
-use Rattle.explain.proofs.ClockOutputs.{one_clock_explained, one_clock_refused, clock_explained_or_refused, status_of_clocks}
+use Rattle.explain.proofs.ClockOutputs.{IsClockMet, clock_explained_or_refused, clock_met, one_clock_explained, one_clock_refused, status_of_clocks}
+use Rattle.explain.proofs.Statuses.{one_answer}
 
 -- the steps end with an explanation
 clock_steps_end : (file : Option Text) (text : Text) (status : ℕ) (lines : Text) → (is : AreClockStepsOf file text status lines)
@@ -68,21 +65,15 @@ one_clock_stepped file text status other lines others a b =
 
 pub one_clock_steps : (file : Option Text) (text : Text) (status other : ℕ) (lines others : Text) → AnswersStepsIn true file text status lines
     → AnswersStepsIn true file text other others → (status ≡ other) × (lines ≡ others)
-one_clock_steps file text status other lines others (inl a) (inl b) = one_clock_stepped file text status other lines others a b
-one_clock_steps file text status other lines others (inl a) (inr (three, b)) =
-    absurd (clock_explained_or_refused file text status a.explanation others (clock_steps_end file text status lines a) b)
-one_clock_steps file text status other lines others (inr (three, a)) (inl b) =
-    absurd (clock_explained_or_refused file text other b.explanation lines (clock_steps_end file text other others b) a)
-one_clock_steps file text status other lines others (inr (three, a)) (inr (too, b)) = (three ∙ sym too, one_clock_refused file text lines others a b)
+one_clock_steps file text =
+    one_answer (AreClockStepsOf file text) (IsClockRefusedWith file text) (one_clock_stepped file text) (one_clock_refused file text)
+    (λ status lines others is refused. clock_explained_or_refused file text status is.explanation others (clock_steps_end file text status lines is) refused)
 
 -- ---- each text
 
 module _ (file : Option Text) (text : Text) where
-  stepped_by : (p : ClockTree) → IsClockText text p → (r : Outcome ClockUnfolding) → clock_unfolded p ≡ r
-      → (status : ℕ) × (lines : Text) × AnswersStepsIn true file text status lines
-  stepped_by p reads (Err fault) fails =
-      (3, clock_fault_lines file text (clock_offsets text p) fault, inr (refl, inr (p, fault, reads, fails, refl)))
-  stepped_by p reads (Ok u) is =
+  stepped : (p : ClockTree) (u : ClockUnfolding) → IsClockText text p → clock_unfolded p ≡ Ok u → IsClockMet file text (AreClockStepsOf file text)
+  stepped p u reads is =
       let (steps, whole) = serial_run_exists (plan_of_moves u) (checked_moves p u is) in
       let run = serial_is_plain (plan_of_moves u) steps whole.serial in
       let (shown, are_shown) = clock_showing_exists text p u (plan_of_moves u) steps in
@@ -106,11 +97,7 @@ module _ (file : Option Text) (text : Text) where
       )
 
   pub each_clock_text_has_steps : (status : ℕ) × (lines : Text) × AnswersStepsIn true file text status lines
-  each_clock_text_has_steps =
-      elim (clock_tree_or_fault text) [
-        | inl one ↦ let (p, reads) = one in stepped_by p reads (clock_unfolded p) refl
-        | inr one ↦ let (fault, has) = one in (3, clock_syntax_lines file text fault, inr (refl, inl (fault, has, refl)))
-      ]
+  each_clock_text_has_steps = clock_met file text (AreClockStepsOf file text) stepped
 
   -- ---- the status
 

@@ -1,5 +1,5 @@
 -- Each text has an output with the steps of its run.
-use Rattle.std.proofs.Common.{◌++◌, ℕ, Bool, true, false, Option, inl, inr, refl}
+use Rattle.std.proofs.Common.{◌++◌, ℕ, Bool, true, false, Option, inl, refl}
 use Rattle.std.specs.Prelude.{if◌then◌else◌}
 use Rattle.armus_base.specs.Plans.{Plan}
 use Rattle.explained_tasks.proofs.ExplanationExists.{explanation_exists}
@@ -9,14 +9,14 @@ use Rattle.step_lines.proofs.ShowingExists.{showing_exists}
 use Rattle.armus_words.specs.Words.{Text}
 use Rattle.armus_top.specs.Programs.{IsPlanOf}
 use Rattle.armus_top.proofs.OnePlan.{checked_plan}
-use Rattle.armus_top.proofs.WholeOutputs.{plan_or_refused}
 use Rattle.explain.specs.calls.Laws.{EachTextHasSteps}
 use Rattle.explain.specs.Languages.{is_of_clocks}
 use Rattle.explain.specs.Outputs.{AnswersStepsIn}
 use Rattle.explain.proofs.ClockSteps.{each_clock_text_has_steps}
-use Rattle.explain.proofs.EachText.{refused}
+use Rattle.explain.specs.Stepped.{AreStepsOf}
+use Rattle.explain.proofs.EachText.{IsMet, met}
 
-stepped : (file : Option Text) (text : Text) (plan : Plan) → IsPlanOf text plan → (status : ℕ) × (lines : Text) × AnswersStepsIn false file text status lines
+stepped : (file : Option Text) (text : Text) (plan : Plan) → IsPlanOf text plan → IsMet file text (AreStepsOf file text)
 stepped file text plan (program, checked) =
     let (steps, whole) = serial_run_exists plan (checked_plan text plan (program, checked)) in
     let run = serial_is_plain plan steps whole.serial in
@@ -40,16 +40,9 @@ stepped file text plan (program, checked) =
       }),
     )
 
-each_pl_text : (file : Option Text) (text : Text) → (status : ℕ) × (lines : Text) × AnswersStepsIn false file text status lines
-each_pl_text file text =
-    elim (plan_or_refused text) [
-      | inl one ↦ let (plan, is) = one in stepped file text plan is
-      | inr one ↦ let (why, is) = one in let (lines, refuses) = refused file text why is in (3, lines, inr (refl, refuses))
-    ]
-
 each_in : (of_clocks : Bool) (file : Option Text) (text : Text) → (status : ℕ) × (lines : Text) × AnswersStepsIn of_clocks file text status lines
 each_in true file text = each_clock_text_has_steps file text
-each_in false file text = each_pl_text file text
+each_in false file text = met file text (AreStepsOf file text) (stepped file text)
 
 pub each_text_has_steps : EachTextHasSteps
 each_text_has_steps file text = each_in (is_of_clocks file text) file text

@@ -1,12 +1,10 @@
--- The end of a run is explained.
-use Rattle.std.proofs.Common.{◌≡◌, ◌∙◌, ℕ, Option, ap, length, sym, subst}
+-- The end of a run is explained, with its steps or without.
+use Rattle.std.proofs.Common.{◌≡◌, ◌++◌, ℕ, Bool, Option, ap, subst, sym}
 use Rattle.std.specs.Prelude.{Ok, if◌then◌else◌}
 use mathlib.Core.Path.{fun_ext}
-use Rattle.armus_base.specs.declared.ending.Final.{Final}
-use Rattle.armus_base.specs.Finals.{end_of, final_of, list_below}
 use Rattle.armus_base.specs.Plans.{Plan}
-use Rattle.armus_base.specs.Runs.{Place}
-use Rattle.pl_core.specs.calls.Worlds.{places_of, state_of}
+use Rattle.armus_base.specs.Runs.{Place, places}
+use Rattle.pl_core.specs.calls.Worlds.{WorldValue, places_of}
 use Rattle.pl_plan.specs.Unfolding.{plan_of}
 use Rattle.pl_syntax.specs.Grammar.{IsText}
 use Rattle.pl_syntax.specs.declared.tree.Program.{Program}
@@ -14,41 +12,76 @@ use Rattle.explained_tasks.specs.Explanations.{IsExplanationAt}
 use Rattle.explained_tasks.specs.calls.RunEnds.{WaitersStay}
 use Rattle.explained_tasks.specs.declared.explaining.Explanation.{Explanation}
 use Rattle.explained_tasks.proofs.RestsAtEnd.{rests_at_end}
-use Rattle.world_runs.specs.calls.EndWorlds.{IsWorldEnd}
-use Rattle.world_runs.specs.declared.ending.WorldEnd.{WorldEnd}
+use Rattle.step_lines.specs.calls.SteppedRuns.{IsSteppedRun}
+use Rattle.step_lines.specs.declared.stepping.SteppedRun.{SteppedRun}
+use Rattle.step_lines.proofs.SerialIsPlain.{serial_is_plain}
+use Rattle.world_runs.specs.calls.EndWorlds.{IsEndWorld}
 use Rattle.armus_words.specs.Words.{Text}
+use Rattle.armus_top.specs.Programs.{IsPlanOf}
 use Rattle.armus_top.proofs.OnePlan.{checked_plan}
-use Rattle.explain.specs.Explained.{IsExplanationOf}
+use Rattle.explain.specs.Explained.{IsEndedRunOf, IsExplanationOf}
+use Rattle.explain.specs.Stepped.{AreStepsOf}
 
-module _ (plan : Plan) (e : WorldEnd) (ended : IsWorldEnd plan e) where
-  -- the value of the end is that of the world
-  pub end_is : e.end ≡ final_of e.world.plan (state_of e.world)
-  end_is = ended.value ∙ ap (λ (q : Plan). final_of q (state_of e.world)) (sym ended.world.plan_is)
+-- a run that was made step by step ends in its world
+abbrev pub stepped_world : (text : Text) (p : Program) (plan : Plan) (s : SteppedRun) → IsSteppedRun text p plan s → IsEndWorld plan s.world
+stepped_world text p plan s run = record {
+  plan_is = run.plan_is;
+  steps = run.steps;
+  run = serial_is_plain plan run.steps run.whole.serial;
+  maximal = run.whole.maximal;
+  there = λ t. ap (λ (a : ℕ → Place). a t) (sym run.there);
+}
 
-  -- it tells how each task has ended
-  pub ends_are_listed : e.end.ends ≡ list_below (end_of (state_of e.world)) (length e.world.plan.parents)
-  ends_are_listed = ap (λ (f : Final). f.ends) end_is
+module _ (file : Option Text) (text : Text) (p : Program) (plan : Plan) (reads : IsText text p) (unfolds : plan_of p ≡ Ok plan) where
+  plan_is : IsPlanOf text plan
+  plan_is = (p, record { reads = reads; unfolds = unfolds })
 
-module _ (text : Text) (p : Program) (plan : Plan) (e : WorldEnd) (reads : IsText text p) (unfolds : plan_of p ≡ Ok plan) (ended : IsWorldEnd plan e) where
-  -- who waits there stays
-  pub waiters_stay : WaitersStay e.world.plan (places_of e.world)
-  waiters_stay =
-      let w = ended.world in
-      let checked = checked_plan text plan (p, record { reads = reads; unfolds = unfolds }) in
-      let there : WaitersStay plan (places_of e.world) = subst (λ (a : ℕ → Place). WaitersStay plan a) (fun_ext w.there) (rests_at_end plan w.steps checked w.run.0 w.maximal) in
-      subst (λ (q : Plan). WaitersStay q (places_of e.world)) (sym w.plan_is) there
+  module _ (w : WorldValue) (end : IsEndWorld plan w) where
+    -- who waits there stays
+    pub waiters_stay : WaitersStay w.plan (places_of w)
+    waiters_stay =
+        let there : WaitersStay plan (places_of w) =
+        subst (λ (a : ℕ → Place). WaitersStay plan a) (fun_ext end.there) (rests_at_end plan end.steps (checked_plan text plan plan_is) end.run.0 end.maximal) in
+        subst (λ (q : Plan). WaitersStay q (places_of w)) (sym end.plan_is) there
 
-  pub end_explained : (file : Option Text) (x : Explanation) (status : ℕ) → IsExplanationAt file text e.world.plan (places_of e.world) x.lines x.has_waiting
-      → status ≡ (if x.has_waiting then 1 else 0) → IsExplanationOf file text status x.lines
-  end_explained file x status explains status_is =
-      let w = ended.world in
-      let by_plan : IsExplanationAt file text plan (places_of e.world) x.lines x.has_waiting =
-      subst (λ (q : Plan). IsExplanationAt file text q (places_of e.world) x.lines x.has_waiting) w.plan_is explains in
+    ended_run : IsEndedRunOf text plan end.steps
+    ended_run = record { plan_is = plan_is; run = end.run; maximal = end.maximal }
+
+    -- what explains the world explains the places to which the run leads
+    explains_run : (lines : Text) (waits : Bool) → IsExplanationAt file text w.plan (places_of w) lines waits
+        → IsExplanationAt file text plan (places end.steps) lines waits
+    explains_run lines waits explains =
+        let by_plan : IsExplanationAt file text plan (places_of w) lines waits =
+        subst (λ (q : Plan). IsExplanationAt file text q (places_of w) lines waits) end.plan_is explains in
+        subst (λ (a : ℕ → Place). IsExplanationAt file text plan a lines waits) (sym (fun_ext end.there)) by_plan
+
+    pub end_explained : (x : Explanation) (status : ℕ) → IsExplanationAt file text w.plan (places_of w) x.lines x.has_waiting
+        → status ≡ (if x.has_waiting then 1 else 0) → IsExplanationOf file text status x.lines
+    end_explained x status explains status_is = record {
+      plan = plan;
+      steps = end.steps;
+      ended = ended_run;
+      waits = x.has_waiting;
+      explains = explains_run x.lines x.has_waiting explains;
+      status_is = status_is;
+    }
+
+  pub stepped_explained : (s : SteppedRun) → IsSteppedRun text p plan s → (x : Explanation) (status : ℕ) (lines : Text)
+      → IsExplanationAt file text s.world.plan (places_of s.world) x.lines x.has_waiting → status ≡ (if x.has_waiting then 1 else 0)
+      → lines ≡ s.lines ++ x.lines → AreStepsOf file text status lines
+  stepped_explained s run x status lines explains status_is lines_are =
+      let end = stepped_world text p plan s run in
       record {
         plan = plan;
-        steps = w.steps;
-        ended = record { plan_is = (p, record { reads = reads; unfolds = unfolds }); run = w.run; maximal = w.maximal };
+        steps = run.steps;
+        ended = ended_run s.world end;
+        serial = run.whole.serial;
+        program = p;
+        shown = s.lines;
+        are_shown = run.shown;
+        explanation = x.lines;
         waits = x.has_waiting;
-        explains = subst (λ (a : ℕ → Place). IsExplanationAt file text plan a x.lines x.has_waiting) (sym (fun_ext w.there)) by_plan;
+        explains = explains_run s.world end x.lines x.has_waiting explains;
         status_is = status_is;
+        lines_are = lines_are;
       }

@@ -34,13 +34,9 @@ pub refused_has : (file : Option Text) (text lines : Text) → IsRefusedWith fil
 refused_has file text lines (inl (fault, is)) = (Syntax fault, is.is_stand.found)
 refused_has file text lines (inr (program, is)) = (Check is.scene.fault, (program, is.reads, (fault_is_first program is.scene.fault).1 is.is_scene.found))
 
--- a text that is explained has none
-pub explained_or_fault : (file : Option Text) (text : Text) (status : ℕ) (lines : Text) → IsExplanationOf file text status lines → HasSomeFault text → ⊥
-explained_or_fault file text status lines is (why, fault) = (let (program, checked) = is.ended.plan_is in plan_or_fault text why program is.plan fault checked)
-
--- a text one of whose runs ends has none
-ends_or_fault : (text : Text) (Holds : State → Type 0) → EndsSo text Holds → HasSomeFault text → ⊥
-ends_or_fault text Holds is (why, fault) = (let (program, checked) = is.ended.plan_is in plan_or_fault text why program is.plan fault checked)
+-- a text with a plan has none
+pub plan_or_some_fault : (text : Text) (plan : Plan) → IsPlanOf text plan → HasSomeFault text → ⊥
+plan_or_some_fault text plan (program, checked) (why, fault) = plan_or_fault text why program plan fault checked
 
 -- all runs of a text end in one state
 one_state : (text : Text) (Holds : State → Type 0) (plan : Plan) (h : List Step) → IsEndedRunOf text plan h → EndsSo text Holds → Holds (state_after h)
@@ -53,18 +49,14 @@ one_state text Holds plan h one is =
 
 pub status_of_text : (file : Option Text) (text : Text) (number : ℕ) (lines : Text) → AnswersText file text number lines → IsStatusOf text number
 status_of_text file text number lines (inl is) =
-    status_of_end (HasSomeFault text) (EndsSo text) SomeWaits number (ends_or_fault text) (state_after is.steps)
+    status_of_end (HasSomeFault text) (EndsSo text) SomeWaits number (λ Holds is. plan_or_some_fault text is.plan is.ended.plan_is) (state_after is.steps)
     (λ Holds holds. record { plan = is.plan; steps = is.steps; ended = is.ended; holds = holds })
     (λ Holds ends. one_state text Holds is.plan is.steps is.ended ends)
     is.waits is.status_is (tells_waiting file text is.plan is.steps lines is.waits is.ended is.explains)
 status_of_text file text number lines (inr (three, refused)) =
-    status_of_fault (HasSomeFault text) (EndsSo text) SomeWaits number (ends_or_fault text) three (refused_has file text lines refused)
+    status_of_fault (HasSomeFault text) (EndsSo text) SomeWaits number (λ Holds is. plan_or_some_fault text is.plan is.ended.plan_is) three (refused_has file text lines refused)
 
 -- ---- the run that avoids deadlock
-
--- a text that is explained so has no fault
-pub avoided_or_fault : (text : Text) (Holds : State → Type 0) → AvoidsSo text Holds → HasSomeFault text → ⊥
-avoided_or_fault text Holds is (why, fault) = (let (program, checked) = is.plan_is in plan_or_fault text why program is.plan fault checked)
 
 -- its serial avoided run ends in one state
 one_avoided_state : (text : Text) (Holds : State → Type 0) (plan : Plan) (h : List Step) → IsPlanOf text plan → IsSerialAvoidedEnd plan h → AvoidsSo text Holds
@@ -77,12 +69,12 @@ one_avoided_state text Holds plan h plan_is ended is =
 
 status_of_avoided : (file : Option Text) (text : Text) (number : ℕ) (lines : Text) → AnswersAvoided file text number lines → IsAvoidedStatusOf text number
 status_of_avoided file text number lines (inl is) =
-    status_of_end (HasSomeFault text) (AvoidsSo text) SomeStays number (avoided_or_fault text) (state_after is.steps)
+    status_of_end (HasSomeFault text) (AvoidsSo text) SomeStays number (λ Holds is. plan_or_some_fault text is.plan is.plan_is) (state_after is.steps)
     (λ Holds holds. record { plan = is.plan; plan_is = is.plan_is; steps = is.steps; ended = is.explains.ended; holds = holds })
     (λ Holds ends. one_avoided_state text Holds is.plan is.steps is.plan_is is.explains.ended ends)
     is.stays is.status_is (tells_staying file text is.plan is.steps lines is.stays is.plan_is is.explains.ended is.explains)
 status_of_avoided file text number lines (inr (three, refused)) =
-    status_of_fault (HasSomeFault text) (AvoidsSo text) SomeStays number (avoided_or_fault text) three (refused_has file text lines refused)
+    status_of_fault (HasSomeFault text) (AvoidsSo text) SomeStays number (λ Holds is. plan_or_some_fault text is.plan is.plan_is) three (refused_has file text lines refused)
 
 -- ---- steps
 

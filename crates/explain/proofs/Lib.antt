@@ -1,10 +1,9 @@
 pub mod EndExplained
-pub mod EndStepped
 pub mod Waiting
 pub mod ClockEnds
 pub mod Statuses
 pub mod ClockOutputs
-pub mod EndClockStepped
+pub mod EndClockExplained
 pub mod ClockSteps
 pub mod Fixing
 pub mod CallEnds

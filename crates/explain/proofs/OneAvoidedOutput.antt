@@ -1,5 +1,5 @@
 -- A text has one output with the explanation of its run that avoids deadlock, with one status; and it has one.
-use Rattle.std.proofs.Common.{◌≡◌, ◌∙◌, ℕ, List, Option, inl, inr, refl, subst, sym}
+use Rattle.std.proofs.Common.{◌≡◌, ℕ, List, Option, inl, refl, subst}
 use Rattle.std.specs.Prelude.{if◌then◌else◌}
 use Rattle.armus_base.specs.Plans.{Plan}
 use Rattle.armus_base.specs.Serial.{IsSerialAvoidedEnd}
@@ -12,14 +12,13 @@ use Rattle.refused_awaits.proofs.OneAvoided.{one_avoided_explanation}
 use Rattle.armus_words.specs.Words.{Text}
 use Rattle.armus_top.specs.Programs.{IsPlanOf}
 use Rattle.armus_top.proofs.OnePlan.{checked_plan, one_plan}
-use Rattle.armus_top.proofs.WholeOutputs.{plan_or_refused}
 use Rattle.explain.specs.Avoided.{IsAvoidedOf}
-use Rattle.explain.specs.Outputs.{AnswersAvoided}
 use Rattle.explain.specs.Refused.{IsRefusedWith}
 use Rattle.explain.specs.calls.Laws.{EachTextIsAvoided, OneAvoidedOutput}
-use Rattle.explain.proofs.EachText.{refused}
-use Rattle.explain.proofs.Fixing.{avoided_or_fault, refused_has}
-use Rattle.explain.proofs.OneOutput.{one_refused, one_status}
+use Rattle.explain.proofs.EachText.{IsMet, met}
+use Rattle.explain.proofs.Fixing.{plan_or_some_fault, refused_has}
+use Rattle.explain.proofs.OneOutput.{one_refused}
+use Rattle.explain.proofs.Statuses.{one_answer, one_status}
 
 module _ (file : Option Text) (text : Text) where
   one_avoided : (status other : ℕ) (lines others : Text) → IsAvoidedOf file text status lines → IsAvoidedOf file text other others
@@ -35,12 +34,7 @@ module _ (file : Option Text) (text : Text) where
       let same = one_avoided_explanation file text a.plan a.steps lines others a.stays b.stays a.explains by_steps in
       (one_status a.stays b.stays status other a.status_is b.status_is same.1, same.0)
 
-  no_fault : (status : ℕ) (lines others : Text) → IsAvoidedOf file text status lines → IsRefusedWith file text others → ⊥
-  no_fault status lines others is refused =
-      avoided_or_fault text (λ state. Unit {0})
-      (record { plan = is.plan; plan_is = is.plan_is; steps = is.steps; ended = is.explains.ended; holds = tt }) (refused_has file text others refused)
-
-  avoided : (plan : Plan) → IsPlanOf text plan → (status : ℕ) × (lines : Text) × AnswersAvoided file text status lines
+  avoided : (plan : Plan) → IsPlanOf text plan → IsMet file text (IsAvoidedOf file text)
   avoided plan (program, is) =
       let checked = checked_plan text plan (program, is) in
       let (state, final) = serial_run_ends plan checked in
@@ -58,14 +52,9 @@ module _ (file : Option Text) (text : Text) where
       )
 
 pub one_avoided_output : OneAvoidedOutput
-one_avoided_output file text status other lines others (inl a) (inl b) = one_avoided file text status other lines others a b
-one_avoided_output file text status other lines others (inl a) (inr (three, b)) = absurd (no_fault file text status lines others a b)
-one_avoided_output file text status other lines others (inr (three, a)) (inl b) = absurd (no_fault file text other others lines b a)
-one_avoided_output file text status other lines others (inr (three, a)) (inr (too, b)) = (three ∙ sym too, one_refused file text lines others a b)
+one_avoided_output file text =
+    one_answer (IsAvoidedOf file text) (IsRefusedWith file text) (one_avoided file text) (one_refused file text)
+    (λ status lines others is refused. plan_or_some_fault text is.plan is.plan_is (refused_has file text others refused))
 
 pub each_text_is_avoided : EachTextIsAvoided
-each_text_is_avoided file text =
-    elim (plan_or_refused text) [
-      | inl one ↦ let (plan, is) = one in avoided file text plan is
-      | inr one ↦ let (why, is) = one in let (lines, refuses) = refused file text why is in (3, lines, inr (refl, refuses))
-    ]
+each_text_is_avoided file text = met file text (IsAvoidedOf file text) (avoided file text)

@@ -1,6 +1,5 @@
 -- A text has one output, with one status.
-use Rattle.std.proofs.Common.{◌≡◌, ◌∙◌, ℕ, Bool, Option, ap, inl, inr, sym, subst}
-use Rattle.std.specs.Prelude.{if◌then◌else◌}
+use Rattle.std.proofs.Common.{◌≡◌, ℕ, Option, inl, inr, subst}
 use mathlib.Core.Path.{fun_ext}
 use Rattle.armus_base.specs.Plans.{Plan}
 use Rattle.armus_base.specs.Runs.{IsMaximal, IsPlainRun, Place, places}
@@ -15,10 +14,8 @@ use Rattle.armus_top.proofs.OnePlan.{checked_plan, one_plan}
 use Rattle.explain.specs.Explained.{IsExplanationOf}
 use Rattle.explain.specs.calls.Laws.{OneOutput}
 use Rattle.explain.specs.Refused.{IsRefusedWith}
-use Rattle.explain.proofs.Fixing.{explained_or_fault, refused_has}
-
-pub one_status : (x y : Bool) (status other : ℕ) → status ≡ (if x then 1 else 0) → other ≡ (if y then 1 else 0) → x ≡ y → status ≡ other
-one_status x y status other is are same = is ∙ ap (λ (w : Bool). if w then 1 else 0) same ∙ sym are
+use Rattle.explain.proofs.Fixing.{plan_or_some_fault, refused_has}
+use Rattle.explain.proofs.Statuses.{one_answer, one_status}
 
 pub one_explained : (file : Option Text) (text : Text) (status other : ℕ) (lines others : Text) → IsExplanationOf file text status lines
     → IsExplanationOf file text other others → (status ≡ other) × (lines ≡ others)
@@ -43,9 +40,6 @@ one_refused file text lines others (inr (p, a)) (inl (g, b)) = absurd (text_or_f
 one_refused file text lines others (inr (p, a)) (inr (q, b)) = one_check_refusal file text p q lines others a b
 
 pub one_output : OneOutput
-one_output file text status other lines others (inl a) (inl b) = one_explained file text status other lines others a b
-one_output file text status other lines others (inl a) (inr (three, b)) =
-    absurd (explained_or_fault file text status lines a (refused_has file text others b))
-one_output file text status other lines others (inr (three, a)) (inl b) =
-    absurd (explained_or_fault file text other others b (refused_has file text lines a))
-one_output file text status other lines others (inr (three, a)) (inr (too, b)) = (three ∙ sym too, one_refused file text lines others a b)
+one_output file text =
+    one_answer (IsExplanationOf file text) (IsRefusedWith file text) (one_explained file text) (one_refused file text)
+    (λ status lines others is refused. plan_or_some_fault text is.plan is.ended.plan_is (refused_has file text others refused))

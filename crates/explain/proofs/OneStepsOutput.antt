@@ -1,5 +1,5 @@
 -- A text has one output with the steps of its run, with one status.
-use Rattle.std.proofs.Common.{◌≡◌, ◌∙◌, ◌++◌, ℕ, Bool, true, false, List, Option, ap, inl, inr, subst, sym}
+use Rattle.std.proofs.Common.{◌≡◌, ◌∙◌, ◌++◌, ℕ, Bool, true, false, List, Option, ap, subst, sym}
 use Rattle.armus_base.specs.Plans.{Plan}
 use Rattle.armus_base.specs.Runs.{IsMaximal}
 use Rattle.armus_base.specs.States.{Step}
@@ -13,10 +13,12 @@ use Rattle.armus_top.proofs.OnePlan.{checked_plan, one_plan}
 use Rattle.explain.specs.calls.Laws.{OneStepsOutput}
 use Rattle.explain.specs.Languages.{is_of_clocks}
 use Rattle.explain.specs.Outputs.{AnswersStepsIn}
+use Rattle.explain.specs.Refused.{IsRefusedWith}
 use Rattle.explain.specs.Stepped.{AreStepsOf}
 use Rattle.explain.proofs.ClockSteps.{one_clock_steps}
-use Rattle.explain.proofs.Fixing.{explained_or_fault, refused_has, steps_explained}
+use Rattle.explain.proofs.Fixing.{plan_or_some_fault, refused_has, steps_explained}
 use Rattle.explain.proofs.OneOutput.{one_explained, one_refused}
+use Rattle.explain.proofs.Statuses.{one_answer}
 
 one_stepped : (file : Option Text) (text : Text) (status other : ℕ) (lines others : Text) → AreStepsOf file text status lines → AreStepsOf file text other others
     → (status ≡ other) × (lines ≡ others)
@@ -39,19 +41,12 @@ one_stepped file text status other lines others a b =
           ∙ sym b.lines_are,
     )
 
-one_pl_steps : (file : Option Text) (text : Text) (status other : ℕ) (lines others : Text) → AnswersStepsIn false file text status lines → AnswersStepsIn false file text other others
-    → (status ≡ other) × (lines ≡ others)
-one_pl_steps file text status other lines others (inl a) (inl b) = one_stepped file text status other lines others a b
-one_pl_steps file text status other lines others (inl a) (inr (three, b)) =
-    absurd (explained_or_fault file text status a.explanation (steps_explained file text status lines a) (refused_has file text others b))
-one_pl_steps file text status other lines others (inr (three, a)) (inl b) =
-    absurd (explained_or_fault file text other b.explanation (steps_explained file text other others b) (refused_has file text lines a))
-one_pl_steps file text status other lines others (inr (three, a)) (inr (too, b)) = (three ∙ sym too, one_refused file text lines others a b)
-
 one_in : (of_clocks : Bool) (file : Option Text) (text : Text) (status other : ℕ) (lines others : Text) → AnswersStepsIn of_clocks file text status lines
     → AnswersStepsIn of_clocks file text other others → (status ≡ other) × (lines ≡ others)
-one_in true = one_clock_steps
-one_in false = one_pl_steps
+one_in true file text = one_clock_steps file text
+one_in false file text =
+    one_answer (AreStepsOf file text) (IsRefusedWith file text) (one_stepped file text) (one_refused file text)
+    (λ status lines others is refused. plan_or_some_fault text is.plan is.ended.plan_is (refused_has file text others refused))
 
 pub one_steps_output : OneStepsOutput
 one_steps_output file text = one_in (is_of_clocks file text) file text

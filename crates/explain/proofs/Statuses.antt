@@ -1,9 +1,24 @@
--- The status of a text, by its fault or by the state in which its run ends.
-use Rattle.std.proofs.Common.{◌≡◌, ℕ, Bool, true, false, arith, refl}
+-- The status of a text, by its fault or by the state in which its run ends; and that it is one.
+use Rattle.std.proofs.Common.{◌≡◌, ◌∙◌, ◌⊎◌, ℕ, Bool, true, false, ap, arith, inl, inr, refl, sym}
 use Rattle.std.specs.Prelude.{◌↔◌, if◌then◌else◌}
 use Rattle.std.proofs.lemmas.Bool.{false≢true}
 use Rattle.armus_base.specs.States.{State}
+use Rattle.armus_words.specs.Words.{Text}
 use Rattle.explain.specs.Explained.{IsStatusBy}
+
+-- what tells the same of who stays has the same status
+pub one_status : (x y : Bool) (status other : ℕ) → status ≡ (if x then 1 else 0) → other ≡ (if y then 1 else 0) → x ≡ y → status ≡ other
+one_status x y status other is are same = is ∙ ap (λ (w : Bool). if w then 1 else 0) same ∙ sym are
+
+-- an output that tells something, or refuses, is one: where each of both is, and not both are there
+pub one_answer : (Tells : ℕ → Text → Type 0) (Refuses : Text → Type 0) → ((status other : ℕ) (lines others : Text) → Tells status lines → Tells other others → (status ≡ other) × (lines ≡ others))
+    → ((lines others : Text) → Refuses lines → Refuses others → lines ≡ others) → ((status : ℕ) (lines others : Text) → Tells status lines → Refuses others → ⊥)
+    → (status other : ℕ) (lines others : Text) → Tells status lines ⊎ ((status ≡ 3) × Refuses lines) → Tells other others ⊎ ((other ≡ 3) × Refuses others)
+    → (status ≡ other) × (lines ≡ others)
+one_answer Tells Refuses told refused never status other lines others (inl a) (inl b) = told status other lines others a b
+one_answer Tells Refuses told refused never status other lines others (inl a) (inr (three, b)) = absurd (never status lines others a b)
+one_answer Tells Refuses told refused never status other lines others (inr (three, a)) (inl b) = absurd (never other others lines b a)
+one_answer Tells Refuses told refused never status other lines others (inr (three, a)) (inr (too, b)) = (three ∙ sym too, refused lines others a b)
 
 module _ (has_fault : Type 0) (Ends : (State → Type 0) → Type 0) (SomeStays : State → Type 0) (number : ℕ)
     (or_fault : (Holds : State → Type 0) → Ends Holds → has_fault → ⊥) where

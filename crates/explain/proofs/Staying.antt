@@ -1,7 +1,6 @@
 -- By the explanation of an avoided run somebody was refused or waits for ever just where a task of the state in which it ends was or does.
 use Rattle.std.proofs.Common.{◌≡◌, ◌∙◌, ℕ, ◌<◌, Bool, true, false, Option, Some, None, List, length, ap, inl, inr, refl, subst, sym}
 use Rattle.std.specs.Prelude.{◌↔◌, slice_index_or}
-use Rattle.std.proofs.lemmas.Option.{get_or_from_slice_get}
 use Rattle.armus_base.specs.CheckedPlans.{IsCheckedPlan}
 use Rattle.armus_base.specs.Deadlocks.{IsDeadBy}
 use Rattle.armus_base.specs.declared.ending.TaskEnd.{TaskEnd}
@@ -15,7 +14,6 @@ use Rattle.armus_base.specs.Runs.{IsLegalRun, places, state_after}
 use Rattle.armus_base.specs.Serial.{IsSerialAvoidedEnd}
 use Rattle.armus_base.specs.States.{State, Step}
 use Rattle.armus_base.proofs.DeadByStatuses.{run_is_of_plan}
-use Rattle.armus_base.proofs.EndsTell.{ends_are}
 use Rattle.armus_base.proofs.NobodyIsDead.{avoided_legal}
 use Rattle.armus_base.proofs.SerialIsAvoided.{serial_is_avoided}
 use Rattle.armus_base.proofs.Stepping.{places_fix}
@@ -31,14 +29,9 @@ use Rattle.armus_words.specs.Words.{Text}
 use Rattle.armus_top.specs.Programs.{IsPlanOf}
 use Rattle.armus_top.proofs.OnePlan.{checked_plan}
 use Rattle.explain.specs.Avoided.{SomeStays}
+use Rattle.explain.proofs.Waiting.{blocked_is, sized, stands}
 
--- an end tells what it comes from
-blocked_is : (forked : Bool) (published refused : Option Event) (e : Event) → end_by forked published refused ≡ ends.Blocked e → published ≡ Some e
-blocked_is forked (Some d) refused e is = cc
-blocked_is forked None (Some d) e is = absurd (cc)
-blocked_is true None None e is = absurd (cc)
-blocked_is false None None e is = absurd (cc)
-
+-- an end that is refused comes from a refused event
 refused_is : (forked : Bool) (published refused : Option Event) (e : Event) → end_by forked published refused ≡ ends.Refused e → refused ≡ Some e
 refused_is forked (Some d) refused e is = absurd (cc)
 refused_is forked None (Some d) e is = cc
@@ -57,42 +50,30 @@ blocked_waits IsDead e s (inr (alive, is)) = ap waits_at_the_end is
 
 module _ (plan : Plan) (state : State) (standings : List Standing) (of_plan : IsOfPlan plan state)
     (stand : AreStandings (IsDeadBy (final_of plan state).blocked) (final_of plan state).ends standings) where
-  sized : length standings ≡ length plan.parents
-  sized = stand.sized ∙ (ends_are plan state).counted
-
-  -- how task t stands, by its end
-  stands : (t : ℕ) → t < length plan.parents → Stands (IsDeadBy (final_of plan state).blocked t) (end_of state t) (slice_index_or standings t way.Done)
-  stands t below =
-      let own = end_of state t in
-      let all = (final_of plan state).ends in
-      let within : t < length all = subst (λ n. t < n) (sym (ends_are plan state).counted) below in
-      let here : slice_index_or all t own ≡ own = get_or_from_slice_get all t own own ((ends_are plan state).each t below) in
-      subst (λ e. Stands (IsDeadBy (final_of plan state).blocked t) e (slice_index_or standings t way.Done)) here (stand.each t own way.Done within)
-
   stays_here : somebody_stays standings ≡ true → SomeStays state
   stays_here some =
       let (t, within, how) = standing_stays standings some in
-      let below : t < length plan.parents = subst (λ n. t < n) sized within in
+      let below : t < length plan.parents = subst (λ n. t < n) (sized plan state standings stand) within in
       let IsDead = IsDeadBy (final_of plan state).blocked t in
       let s = slice_index_or standings t way.Done in
       elim how [
         | inl on ↦
-            let end = refused_end IsDead (end_of state t) s (stands t below) on in
+            let end = refused_end IsDead (end_of state t) s (stands plan state standings stand t below) on in
             (t, inr (end.0, refused_is (state.forked t) (state.published t) (state.refused t) end.0 end.1))
         | inr on ↦
-            let end = waiting_end IsDead (end_of state t) s (stands t below) on in
+            let end = waiting_end IsDead (end_of state t) s (stands plan state standings stand t below) on in
             (t, inl (end.0, blocked_is (state.forked t) (state.published t) (state.refused t) end.0 end.1))
       ]
 
   module _ (t : ℕ) (below : t < length plan.parents) where
     within : t < length standings
-    within = subst (λ n. t < n) (sym sized) below
+    within = subst (λ n. t < n) (sym (sized plan state standings stand)) below
 
     waits_there : (e : Event) → state.published t ≡ Some e → somebody_stays standings ≡ true
     waits_there e is =
         let end : end_of state t ≡ ends.Blocked e = ap (λ o. end_by (state.forked t) o (state.refused t)) is in
         let so =
-        subst (λ x. Stands (IsDeadBy (final_of plan state).blocked t) x (slice_index_or standings t way.Done)) end (stands t below) in
+        subst (λ x. Stands (IsDeadBy (final_of plan state).blocked t) x (slice_index_or standings t way.Done)) end (stands plan state standings stand t below) in
         stays_by_standing standings (t, within, inr (blocked_waits (IsDeadBy (final_of plan state).blocked t) e (slice_index_or standings t way.Done) so))
 
     refused_there : (e : Event) → state.refused t ≡ Some e → (o : Option Event) → state.published t ≡ o → somebody_stays standings ≡ true
@@ -101,7 +82,7 @@ module _ (plan : Plan) (state : State) (standings : List Standing) (of_plan : Is
         let end : end_of state t ≡ ends.Refused e =
         ap (λ o. end_by (state.forked t) o (state.refused t)) published ∙ ap (λ o. end_by (state.forked t) None o) is in
         let so : slice_index_or standings t way.Done ≡ way.Refused e =
-        subst (λ x. Stands (IsDeadBy (final_of plan state).blocked t) x (slice_index_or standings t way.Done)) end (stands t below) in
+        subst (λ x. Stands (IsDeadBy (final_of plan state).blocked t) x (slice_index_or standings t way.Done)) end (stands plan state standings stand t below) in
         stays_by_standing standings (t, within, inl (ap was_refused so))
 
   here_stays : ((t : ℕ) (e : Event) → state.refused t ≡ Some e → t < length plan.parents) → SomeStays state → somebody_stays standings ≡ true

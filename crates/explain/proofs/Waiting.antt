@@ -31,7 +31,7 @@ use Rattle.armus_top.proofs.OnePlan.{checked_plan}
 use Rattle.explain.specs.Explained.{IsEndedRunOf, WaitsIn}
 
 -- an end that is an event comes from a published one
-blocked_is : (forked : Bool) (published refused : Option Event) (e : Event) → end_by forked published refused ≡ ends.Blocked e → published ≡ Some e
+pub blocked_is : (forked : Bool) (published refused : Option Event) (e : Event) → end_by forked published refused ≡ ends.Blocked e → published ≡ Some e
 blocked_is forked (Some d) refused e is = cc
 blocked_is forked None (Some d) e is = absurd (cc)
 blocked_is true None None e is = absurd (cc)
@@ -56,35 +56,37 @@ blocked_waits : (IsDead : Type 0) (e : Event) (standing : Standing) (fork : Opti
 blocked_waits IsDead e standing fork (inl (dead, is)) = ap (λ x. is_waiting (situation_by x fork)) is
 blocked_waits IsDead e standing fork (inr (alive, is)) = ap (λ x. is_waiting (situation_by x fork)) is
 
-module _ (plan : Plan) (state : State) (f : FactsValue) (of_plan : IsOfPlan plan state)
-    (stand : AreStandings (IsDeadBy (final_of plan state).blocked) (final_of plan state).ends f.standings) where
-  sized : length f.standings ≡ length plan.parents
+module _ (plan : Plan) (state : State) (standings : List Standing)
+    (stand : AreStandings (IsDeadBy (final_of plan state).blocked) (final_of plan state).ends standings) where
+  pub sized : length standings ≡ length plan.parents
   sized = stand.sized ∙ (ends_are plan state).counted
 
   -- how task t stands, by its end
-  stands : (t : ℕ) (d : Standing) → t < length plan.parents → Stands (IsDeadBy (final_of plan state).blocked t) (end_of state t) (slice_index_or f.standings t d)
-  stands t d below =
+  pub stands : (t : ℕ) → t < length plan.parents → Stands (IsDeadBy (final_of plan state).blocked t) (end_of state t) (slice_index_or standings t way.Done)
+  stands t below =
       let own = end_of state t in
       let all = (final_of plan state).ends in
       let within : t < length all = subst (λ n. t < n) (sym (ends_are plan state).counted) below in
       let here : slice_index_or all t own ≡ own = get_or_from_slice_get all t own own ((ends_are plan state).each t below) in
-      subst (λ e. Stands (IsDeadBy (final_of plan state).blocked t) e (slice_index_or f.standings t d)) here (stand.each t own d within)
+      subst (λ e. Stands (IsDeadBy (final_of plan state).blocked t) e (slice_index_or standings t way.Done)) here (stand.each t own way.Done within)
 
+module _ (plan : Plan) (state : State) (f : FactsValue) (of_plan : IsOfPlan plan state)
+    (stand : AreStandings (IsDeadBy (final_of plan state).blocked) (final_of plan state).ends f.standings) where
   waiting_task : ((t : TaskId) × Contains (tasks_that is_waiting f) t) → (t : ℕ) × WaitsIn state t
   waiting_task (t, one) =
       let (within, on) = that_is f is_waiting t one in
-      let below : t.0 < length plan.parents = subst (λ n. t.0 < n) sized within in
+      let below : t.0 < length plan.parents = subst (λ n. t.0 < n) (sized plan state f.standings stand) within in
       let (e, end_is) = waiting_end (IsDeadBy (final_of plan state).blocked t.0) (end_of state t.0) (slice_index_or f.standings t.0 way.Done) (forking_of f t.0)
-      (stands t.0 way.Done below) on in
+      (stands plan state f.standings stand t.0 below) on in
       (t.0, (e, blocked_is (state.forked t.0) (state.published t.0) (state.refused t.0) e end_is))
 
   task_waiting : ((t : ℕ) × WaitsIn state t) → (t : TaskId) × Contains (tasks_that is_waiting f) t
   task_waiting (t, (e, is)) =
       let below = of_plan.published t e is in
       let end_is : end_of state t ≡ ends.Blocked e = ap (λ p. end_by (state.forked t) p (state.refused t)) is in
-      let stands_so = subst (λ x. Stands (IsDeadBy (final_of plan state).blocked t) x (slice_index_or f.standings t way.Done)) end_is (stands t way.Done below) in
+      let stands_so = subst (λ x. Stands (IsDeadBy (final_of plan state).blocked t) x (slice_index_or f.standings t way.Done)) end_is (stands plan state f.standings stand t below) in
       let on : is_waiting (situation_of f t) ≡ true = blocked_waits (IsDeadBy (final_of plan state).blocked t) e (slice_index_or f.standings t way.Done) (forking_of f t) stands_so in
-      let within : t < length f.standings = subst (λ n. t < n) (sym sized) below in
+      let within : t < length f.standings = subst (λ n. t < n) (sym (sized plan state f.standings stand)) below in
       let task : TaskId = record { 0 = t } in
       (task, passed_from (λ (u : TaskId). is_waiting (situation_of f u.0)) (list_below (λ u. record { 0 = u }) (length f.standings)) task (task_below (length f.standings) task within) on)
 

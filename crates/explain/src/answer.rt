@@ -1,6 +1,9 @@
 // A whole output, or why there is none.
+ghost use Rattle.std.specs.Prelude.{◌≡◌, ◌++◌, IfOk, if◌then◌else◌};
+ghost use Rattle.armus_top.specs.inside.Status.{number_of_status};
+
 use armus_base::{List, NoMemory};
-use armus_top::ExitStatus;
+use armus_top::{ExitStatus, status_of};
 
 /// A whole output, and its status.
 #[derive(Drop)]
@@ -54,7 +57,6 @@ pub(crate) enum AnswerEnd {
 }
 
 impl From<NoMemory> for AnswerEnd {
-    ghost use Rattle.std.specs.Prelude.{◌≡◌};
     ghost use Rattle.explain.specs.declared.answer.AnswerEnd.TheVariants as ends;
 
     ghost from_gives = { λ _ e. e ≡ ends.NoMemory };
@@ -62,4 +64,21 @@ impl From<NoMemory> for AnswerEnd {
     fn from(_: NoMemory) -> Self {
         AnswerEnd::NoMemory
     }
+}
+
+/// The lines of steps, and behind them those of an explanation, by which somebody waits or nobody does.
+pub(crate) fn with_steps(
+    steps: List<u8>,
+    explanation: &List<u8>,
+    has_waiting: bool,
+) -> Result<Answer, NoMemory>
+    ensures lines { IfOk result (λ a. a.lines ≡ steps ++ explanation.now) }
+    ensures status { IfOk result (λ a. number_of_status a.status ≡ (if has_waiting then 1 else 0)) }
+{
+    let mut lines = steps.into_vec();
+    lines.extend_from_slice(explanation.as_slice())?;
+    Ok(Answer {
+        lines: List::from_vec(lines),
+        status: status_of(has_waiting),
+    })
 }

@@ -1,7 +1,5 @@
 // The whole output for a text, in memory.
-ghost use Rattle.std.specs.Prelude.{◌≡◌, ◌≤◌, IfErr, IfOk, Ok, length};
-ghost use Rattle.pl_plan.specs.Forks.{fork_statements};
-ghost use Rattle.pl_plan.specs.Unfolding.{plan_of};
+ghost use Rattle.std.specs.Prelude.{◌≡◌, ◌≤◌, IfErr, IfOk, length};
 ghost use Rattle.pl_syntax.specs.Grammar.{IsText};
 ghost use Rattle.pl_syntax.specs.Tree.{count};
 ghost use Rattle.armus_top.specs.calls.Headline.{passage};
@@ -10,41 +8,16 @@ ghost use Rattle.explain.specs.inside.Ending.{AnswersSource, EndsUnanswered, IsA
 ghost use Rattle.explain.specs.calls.Requested.{file_bytes};
 
 use crate::answer::{Answer, AnswerEnd, ClockWanted, PlWanted, Wanted};
-use crate::avoiding::avoid_unfolded;
+use crate::checked_text::CheckedText;
 use crate::clocks::answer_clocks;
-use crate::explaining::explain_unfolded;
 use crate::language::is_of_clocks;
 use crate::refusing::{refuse_check, refuse_length, refuse_syntax};
-use crate::showing::step_unfolded;
 use armus_base::{NoMemory, ReadEnd, Source, read_all};
 use armus_top::MAX_TEXT_BYTES;
-use pl_plan::{PlanEnd, Unfolded, unfold};
+use pl_plan::{PlanEnd, unfold};
 use pl_syntax::{ParseEnd, Program, parse};
 use std::alloc::Global;
 use text_places::TextPlaces;
-
-// The whole output for the text of this program, which unfolds to this plan.
-fn answer_unfolded(
-    alloc: Global,
-    wanted: PlWanted,
-    places: &TextPlaces,
-    file: Option<&[u8]>,
-    program: &Program,
-    unfolded: Unfolded,
-) -> Result<Answer, NoMemory>
-    requires short { length places.now ≤ MAX_TEXT_BYTES }
-    requires few { count program.now.body ≤ length places.now }
-    requires reads { IsText places.now program.now }
-    requires plan { plan_of program.now ≡ Ok unfolded.plan }
-    requires forks { unfolded.forks.items ≡ fork_statements program.now }
-    ensures answers { IfOk result (IsPlAnswerTo wanted (file_bytes file.entry) places.now) }
-{
-    match wanted {
-        PlWanted::Explanation => explain_unfolded(alloc, places, file, program, unfolded),
-        PlWanted::Steps => step_unfolded(alloc, places, file, program, unfolded),
-        PlWanted::Avoided => avoid_unfolded(alloc, places, file, program, unfolded),
-    }
-}
 
 // The whole output for the text of this program.
 fn answer_program(
@@ -62,7 +35,16 @@ fn answer_program(
     ensures answers { IfOk result (IsPlAnswerTo wanted (file_bytes file.entry) text.now) }
 {
     match unfold(alloc, program) {
-        Ok(unfolded) => answer_unfolded(alloc, wanted, &places, file, program, unfolded),
+        Ok(unfolded) => {
+            let checked = CheckedText {
+                places: &places,
+                file,
+                program,
+                unfolded,
+            };
+            let answer = checked.answer(alloc, wanted)?;
+            Ok(answer)
+        }
         Err(PlanEnd::Check(_)) => refuse_check(alloc, text, places, file, program),
         Err(PlanEnd::NoMemory) => Err(NoMemory),
     }

@@ -3,14 +3,13 @@
 
 mod answer;
 mod answering;
-mod avoiding;
+mod checked_clocks;
+mod checked_text;
 mod clocks;
-mod explaining;
 mod language;
 mod laws;
 mod refusing;
 mod request;
-mod showing;
 mod top;
 
 pub use laws::{

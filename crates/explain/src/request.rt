@@ -1,7 +1,9 @@
 // What the words ask for.
 ghost use Rattle.std.specs.Prelude.{◌≡◌, [], ◌∷◌, map, string_bytes};
-ghost use Rattle.explain.specs.Requests.{asked, avoided, clocks, explanation, file_asked, names_file, steps, word_asked};
-ghost use Rattle.explain.specs.calls.Requested.{requested};
+ghost use Rattle.explain.specs.Requests.{asked, file_asked, names_file, word_asked};
+ghost use Rattle.explain.specs.calls.Requested.{asked_for, file_bytes, requested, wanted_by};
+
+use crate::answer::Wanted;
 
 const RUN: &str = "run";
 
@@ -34,6 +36,31 @@ pub enum Request<'w> {
     Usage,
 }
 
+impl<'w> Request<'w> {
+    // The request of this for a text, from the file with this name, or from standard input.
+    fn of_text(wanted: Wanted, file: Option<&'w str>) -> Request<'w>
+        ensures { requested result ≡ asked_for wanted (file_bytes file.entry) }
+    {
+        match wanted {
+            Wanted::Explanation => Request::Explain(file),
+            Wanted::Steps => Request::Steps(file),
+            Wanted::Avoided => Request::Avoid(file),
+            Wanted::Clocks => Request::Clocks(file),
+        }
+    }
+
+    // What is asked for where a word can only be the name of the file with the text of which this is wanted.
+    fn of_file(wanted: Wanted, word: &'w str) -> Request<'w>
+        ensures { requested result ≡ file_asked (asked_for wanted) word.now }
+    {
+        if names_file(word) {
+            Request::of_text(wanted, Some(word))
+        } else {
+            Request::Usage
+        }
+    }
+}
+
 // Whether a word can be the name of a file.
 fn names_file(word: &str) -> bool
     ensures { result ≡ names_file word.now }
@@ -44,65 +71,31 @@ fn names_file(word: &str) -> bool
     }
 }
 
-// What a word asks for that can only be the name of a file to be explained.
-fn file_or_usage(word: &str) -> Request<'_>
-    ensures { requested result ≡ file_asked explanation word.now }
+// What a word asks for of a text, if it does.
+fn wanted_by(word: &str) -> Option<Wanted>
+    ensures { result ≡ wanted_by word.now }
 {
-    if names_file(word) {
-        Request::Explain(Some(word))
-    } else {
-        Request::Usage
+    if word == RUN {
+        return Some(Wanted::Explanation);
     }
-}
-
-// What a word asks for that can only be the name of a file of which the steps are asked for.
-fn steps_or_usage(word: &str) -> Request<'_>
-    ensures { requested result ≡ file_asked steps word.now }
-{
-    if names_file(word) {
-        Request::Steps(Some(word))
-    } else {
-        Request::Usage
+    if word == STEPS {
+        return Some(Wanted::Steps);
     }
-}
-
-// What a word asks for that can only be the name of a file of which the run that avoids deadlock is asked for.
-fn avoid_or_usage(word: &str) -> Request<'_>
-    ensures { requested result ≡ file_asked avoided word.now }
-{
-    if names_file(word) {
-        Request::Avoid(Some(word))
-    } else {
-        Request::Usage
+    if word == AVOID {
+        return Some(Wanted::Avoided);
     }
-}
-
-// What a word asks for that can only be the name of a file with a clock text.
-fn clocks_or_usage(word: &str) -> Request<'_>
-    ensures { requested result ≡ file_asked clocks word.now }
-{
-    if names_file(word) {
-        Request::Clocks(Some(word))
-    } else {
-        Request::Usage
+    if word == CLOCK {
+        return Some(Wanted::Clocks);
     }
+    None
 }
 
 // What one word asks for.
 fn word_request(word: &str) -> Request<'_>
     ensures { requested result ≡ word_asked word.now }
 {
-    if word == RUN {
-        return Request::Explain(None);
-    }
-    if word == STEPS {
-        return Request::Steps(None);
-    }
-    if word == AVOID {
-        return Request::Avoid(None);
-    }
-    if word == CLOCK {
-        return Request::Clocks(None);
+    if let Some(wanted) = wanted_by(word) {
+        return Request::of_text(wanted, None);
     }
     if word == HELP {
         return Request::Help;
@@ -110,25 +103,16 @@ fn word_request(word: &str) -> Request<'_>
     if word == VERSION {
         return Request::Version;
     }
-    file_or_usage(word)
+    Request::of_file(Wanted::Explanation, word)
 }
 
 // What two words ask for.
 fn words_request<'w>(word: &'w str, file: &'w str) -> Request<'w>
     ensures { requested result ≡ asked (word.now ∷ file.now ∷ []) }
 {
-    if word == RUN {
-        return file_or_usage(file);
-    }
-    if word == STEPS {
-        return steps_or_usage(file);
-    }
-    if word == AVOID {
-        avoid_or_usage(file)
-    } else if word == CLOCK {
-        clocks_or_usage(file)
-    } else {
-        Request::Usage
+    match wanted_by(word) {
+        Some(wanted) => Request::of_file(wanted, file),
+        None => Request::Usage,
     }
 }
 

@@ -4,8 +4,7 @@ ghost use Rattle.armus_top.specs.calls.Headline.{passage};
 ghost use Rattle.armus_top.specs.inside.Status.{number_of_status};
 ghost use Rattle.explain.specs.Outputs.{IsExplainCall};
 ghost use Rattle.explain.specs.Requests.{asked};
-ghost use Rattle.explain.specs.inside.Ending.{asked_for};
-ghost use Rattle.explain.specs.calls.Requested.{file_bytes};
+ghost use Rattle.explain.specs.calls.Requested.{asked_for, file_bytes};
 
 use crate::answer::{AnswerEnd, Wanted};
 use crate::answering::answer_source;

@@ -4,42 +4,40 @@ use Rattle.armus_words.specs.Words.{Text}
 use Rattle.explain.specs.Outputs.{AnswersAvoided, AnswersStepsOf, AnswersText}
 use Rattle.explain.specs.ClockExplained.{AnswersClock}
 
--- a text, of a file or not, has one output at most, with one status
+-- a text, of a file or not, has one output of this kind at most, with one status
+abbrev pub IsOneOutput : (Option Text → Text → ℕ → Text → Type 0) → Type 0
+IsOneOutput Answers =
+    (file : Option Text) (text : Text) (status other : ℕ) (lines others : Text) → Answers file text status lines → Answers file text other others →
+    (status ≡ other) × (lines ≡ others)
+
+-- and each text has one
+abbrev pub EachHasOutput : (Option Text → Text → ℕ → Text → Type 0) → Type 0
+EachHasOutput Answers = (file : Option Text) (text : Text) → (status : ℕ) × (lines : Text) × Answers file text status lines
+
+-- so it is with the explanation of its run
 abbrev pub OneOutput : Type 0
-OneOutput =
-    (file : Option Text) (text : Text) (status other : ℕ) (lines others : Text) → AnswersText file text status lines → AnswersText file text other others →
-    (status ≡ other) × (lines ≡ others)
+OneOutput = IsOneOutput AnswersText
 
--- and each text has one
 abbrev pub EachTextIsMet : Type 0
-EachTextIsMet = (file : Option Text) (text : Text) → (status : ℕ) × (lines : Text) × AnswersText file text status lines
+EachTextIsMet = EachHasOutput AnswersText
 
--- the same with the steps of its run, of a text of either language
+-- with the steps of its run, of a text of either language
 abbrev pub OneStepsOutput : Type 0
-OneStepsOutput =
-    (file : Option Text) (text : Text) (status other : ℕ) (lines others : Text) → AnswersStepsOf file text status lines → AnswersStepsOf file text other others →
-    (status ≡ other) × (lines ≡ others)
+OneStepsOutput = IsOneOutput AnswersStepsOf
 
--- and each text has one
 abbrev pub EachTextHasSteps : Type 0
-EachTextHasSteps = (file : Option Text) (text : Text) → (status : ℕ) × (lines : Text) × AnswersStepsOf file text status lines
+EachTextHasSteps = EachHasOutput AnswersStepsOf
 
--- the same of its run that avoids deadlock
+-- with the explanation of its run that avoids deadlock
 abbrev pub OneAvoidedOutput : Type 0
-OneAvoidedOutput =
-    (file : Option Text) (text : Text) (status other : ℕ) (lines others : Text) → AnswersAvoided file text status lines → AnswersAvoided file text other others →
-    (status ≡ other) × (lines ≡ others)
+OneAvoidedOutput = IsOneOutput AnswersAvoided
 
--- and each text has one
 abbrev pub EachTextIsAvoided : Type 0
-EachTextIsAvoided = (file : Option Text) (text : Text) → (status : ℕ) × (lines : Text) × AnswersAvoided file text status lines
+EachTextIsAvoided = EachHasOutput AnswersAvoided
 
--- a clock text, of a file or not, has one output at most, with one status
+-- and with that of a clock text
 abbrev pub OneClockOutput : Type 0
-OneClockOutput =
-    (file : Option Text) (text : Text) (status other : ℕ) (lines others : Text) → AnswersClock file text status lines → AnswersClock file text other others →
-    (status ≡ other) × (lines ≡ others)
+OneClockOutput = IsOneOutput AnswersClock
 
--- and each clock text has one
 abbrev pub EachClockTextIsMet : Type 0
-EachClockTextIsMet = (file : Option Text) (text : Text) → (status : ℕ) × (lines : Text) × AnswersClock file text status lines
+EachClockTextIsMet = EachHasOutput AnswersClock

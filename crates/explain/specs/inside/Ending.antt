@@ -15,8 +15,8 @@ use Rattle.explain.specs.declared.answer.PlWanted as pl
 use Rattle.explain.specs.declared.answer.PlWanted.TheVariants as p
 use Rattle.explain.specs.Outputs.{AnswersAvoided, AnswersStepsIn, AnswersStepsOf, AnswersText, MayWrite}
 use Rattle.explain.specs.Refused.{IsRefusedWith}
-use Rattle.explain.specs.Requests.{Asked, avoided, clocks, explanation, steps}
 use Rattle.explain.specs.ClockExplained.{AnswersClock, IsClockRefusedWith}
+use Rattle.explain.specs.calls.Requested.{asked_for}
 
 -- it is a refusal of this text
 abbrev pub IsRefusalOf : Option Text → Text → Answer → Type 0
@@ -43,13 +43,6 @@ IsAnswerTo Explanation file text answer = AnswersText file text (number_of_statu
 IsAnswerTo Steps file text answer = AnswersStepsOf file text (number_of_status answer.status) answer.lines
 IsAnswerTo Avoided file text answer = AnswersAvoided file text (number_of_status answer.status) answer.lines
 IsAnswerTo Clocks file text answer = AnswersClock file text (number_of_status answer.status) answer.lines
-
--- what is asked for where this is wanted of a text
-abbrev pub asked_for : Wanted → Option Text → Asked
-asked_for Explanation file = explanation file
-asked_for Steps file = steps file
-asked_for Avoided file = avoided file
-asked_for Clocks file = clocks file
 
 -- it is a whole output for what the source gave, which did not fail
 abbrev pub AnswersSource : Wanted → Option Text → Passage → Answer → Type 0

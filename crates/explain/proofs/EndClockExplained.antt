@@ -1,0 +1,87 @@
+-- The end of a run of a clock text is explained, with its steps or without.
+use Rattle.std.proofs.Common.{◌≡◌, ◌∙◌, ◌++◌, ℕ, Bool, Option, ap, subst, sym}
+use Rattle.std.specs.Prelude.{Ok, if◌then◌else◌}
+use mathlib.Core.Path.{fun_ext}
+use Rattle.armus_base.specs.Plans.{Plan}
+use Rattle.armus_base.specs.Runs.{IsMaximal, IsPlainRun, Place, places}
+use Rattle.pl_core.specs.calls.Worlds.{WorldValue, places_of}
+use Rattle.step_lines.specs.SerialRuns.{IsSerialRun}
+use Rattle.step_lines.specs.declared.stepping.SteppedRun.{SteppedRun}
+use Rattle.step_lines.proofs.SerialIsPlain.{serial_is_plain}
+use Rattle.clock_syntax.specs.Grammar.{IsClockText}
+use Rattle.clock_syntax.specs.Trees.{ClockTree}
+use Rattle.clock_moves.specs.Unfolding.{ClockUnfolding, clock_plan_of, clock_unfolded, plan_of_moves}
+use Rattle.clock_sayings.specs.ClockExplanations.{ExplainsActivities}
+use Rattle.clock_sayings.specs.declared.explaining.ClockExplanation.{ClockExplanation}
+use Rattle.clock_steps.specs.ShownClockSteps.{AreClockShown}
+use Rattle.clock_steps.specs.calls.SteppedClocks.{IsSteppedClockRun}
+use Rattle.world_runs.specs.calls.EndWorlds.{IsEndWorld}
+use Rattle.armus_words.specs.Words.{Text}
+use Rattle.explain.specs.ClockExplained.{IsClockExplanationOf, IsMaximalClockRun}
+use Rattle.explain.specs.ClockStepped.{AreClockStepsOf}
+use Rattle.explain.proofs.ClockEnds.{clock_run}
+use Rattle.armus_top.proofs.TextEnds.{unfolding_of}
+
+module _ (file : Option Text) (text : Text) (p : ClockTree) (plan : Plan) (reads : IsClockText text p) (unfolds : clock_plan_of p ≡ Ok plan) where
+  module _ (u : ClockUnfolding) (opens : clock_unfolded p ≡ Ok u) (same : plan_of_moves u ≡ plan) (w : WorldValue) (end : IsEndWorld plan w) where
+    ended_run : IsMaximalClockRun text p u end.steps
+    ended_run =
+        let run : IsPlainRun (plan_of_moves u) end.steps = subst (λ (q : Plan). IsPlainRun q end.steps) (sym same) end.run in
+        let maximal : IsMaximal (plan_of_moves u) end.steps = subst (λ (q : Plan). IsMaximal q end.steps) (sym same) end.maximal in
+        clock_run text p u end.steps reads opens run maximal
+
+    -- what explains the world explains the places to which the run leads
+    explains_run : (lines : Text) (waits : Bool) → ExplainsActivities file text p u w.plan (places_of w) lines waits
+        → ExplainsActivities file text p u (plan_of_moves u) (places end.steps) lines waits
+    explains_run lines waits explains =
+        let by_plan : ExplainsActivities file text p u (plan_of_moves u) (places_of w) lines waits =
+        subst (λ (q : Plan). ExplainsActivities file text p u q (places_of w) lines waits) (end.plan_is ∙ sym same) explains in
+        subst (λ (a : ℕ → Place). ExplainsActivities file text p u (plan_of_moves u) a lines waits) (sym (fun_ext end.there)) by_plan
+
+  pub clock_end_explained : (w : WorldValue) → IsEndWorld plan w → (x : ClockExplanation) (status : ℕ)
+      → ((u : ClockUnfolding) → clock_unfolded p ≡ Ok u → ExplainsActivities file text p u w.plan (places_of w) x.lines x.has_waiting)
+      → status ≡ (if x.has_waiting then 1 else 0) → IsClockExplanationOf file text status x.lines
+  clock_end_explained w end x status explains status_is =
+      let (u, opens, same) = unfolding_of p plan unfolds in
+      record {
+        program = p;
+        unfolded = u;
+        steps = end.steps;
+        ended = ended_run u opens same w end;
+        waits = x.has_waiting;
+        explains = explains_run u opens same w end x.lines x.has_waiting (explains u opens);
+        status_is = status_is;
+      }
+
+  module _ (s : SteppedRun) (stepped : (u : ClockUnfolding) → clock_unfolded p ≡ Ok u → IsSteppedClockRun text p u plan s) where
+    -- what is known of the run by its text's unfolding
+    pub stepped_run : (u : ClockUnfolding) × IsSteppedClockRun text p u plan s
+    stepped_run = (let (u, opens, same) = unfolding_of p plan unfolds in (u, stepped u opens))
+
+    pub clock_steps_explained : (x : ClockExplanation) (status : ℕ) (lines : Text)
+        → ((u : ClockUnfolding) → clock_unfolded p ≡ Ok u → ExplainsActivities file text p u s.world.plan (places_of s.world) x.lines x.has_waiting)
+        → status ≡ (if x.has_waiting then 1 else 0) → lines ≡ s.lines ++ x.lines → AreClockStepsOf file text status lines
+    clock_steps_explained x status lines explains status_is lines_are =
+        let (u, opens, same) = unfolding_of p plan unfolds in
+        let run = stepped u opens in
+        let end : IsEndWorld plan s.world = record {
+          plan_is = run.plan_is;
+          steps = run.steps;
+          run = serial_is_plain plan run.steps run.whole.serial;
+          maximal = run.whole.maximal;
+          there = λ t. ap (λ (a : ℕ → Place). a t) (sym run.there);
+        } in
+        record {
+          program = p;
+          unfolded = u;
+          steps = run.steps;
+          ended = ended_run u opens same s.world end;
+          serial = subst (λ (q : Plan). IsSerialRun q run.steps) (sym same) run.whole.serial;
+          shown = s.lines;
+          are_shown = subst (λ (q : Plan). AreClockShown text p u q run.steps s.lines) (sym same) run.shown;
+          explanation = x.lines;
+          waits = x.has_waiting;
+          explains = explains_run u opens same s.world end x.lines x.has_waiting (explains u opens);
+          status_is = status_is;
+          lines_are = lines_are;
+        }

@@ -1,0 +1,18 @@
+use Rattle.armus_top.specs.inside.Status.{number_of_status}
+use Rattle.explain.specs.calls.Requested.{file_bytes}
+use Rattle.explain.proofs.EndExplained.{stepped_explained, stepped_world}
+use Rattle.explain.proofs.checked_text.CheckedText.steps.Goals as goal
+
+pub standing-requires-clause-ended : goal.standing-requires-clause-ended
+standing-requires-clause-ended c =
+    let text = c.args.self.now in
+    stepped_world text.places.now text.program.now text.unfolded.plan c.in_ok-ran.ran c.in_ok-ran.ensures.run
+
+pub returns : goal.returns
+returns c =
+    let text = c.args.self.now in
+    record {
+      steps = stepped_explained (file_bytes text.file) text.places.now text.program.now text.unfolded.plan c.requires.known.reads c.requires.known.plan
+          c.in_ok-ran.ran c.in_ok-ran.ensures.run c.in_ok-explanation.explanation (number_of_status c.in_ok-answer.answer.status) c.in_ok-answer.answer.lines
+          c.in_ok-explanation.ensures c.in_ok-answer.ensures.status c.in_ok-answer.ensures.lines;
+    }

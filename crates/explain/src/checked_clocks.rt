@@ -1,0 +1,97 @@
+// What is written of a clock text that is not refused.
+ghost use Rattle.std.specs.Prelude.{◌≡◌, IfOk, Ok};
+ghost use Rattle.armus_base.specs.Finals.{final_of};
+ghost use Rattle.clock_moves.specs.Unfolding.{ClockUnfolding, clock_unfolded};
+ghost use Rattle.clock_sayings.specs.ClockExplanations.{ExplainsActivities};
+ghost use Rattle.pl_core.specs.calls.Worlds.{places_of, state_of};
+ghost use Rattle.armus_top.specs.inside.Status.{number_of_status};
+ghost use Rattle.explain.specs.ClockExplained.{IsClockExplanationOf};
+ghost use Rattle.explain.specs.ClockStepped.{AreClockStepsOf};
+ghost use Rattle.explain.specs.calls.Requested.{file_bytes};
+ghost use Rattle.explain.specs.inside.Checked.{IsCheckedClocks};
+ghost use Rattle.explain.specs.inside.Ending.{IsClockAnswerTo};
+
+use crate::answer::{Answer, ClockWanted, with_steps};
+use armus_base::{Final, NoMemory, Plan};
+use armus_top::status_of;
+use clock_pl::ClockProgram;
+use clock_sayings::{ClockExplanation, clock_explanation_of};
+use clock_steps::clock_steps_through;
+use pl_core::World;
+use std::alloc::Global;
+use text_places::TextPlaces;
+use world_runs::run_to_world;
+
+/// What is known of a clock text that is not refused.
+#[derive(Drop)]
+pub(crate) struct CheckedClocks<'t> {
+    /// Its places.
+    pub(crate) places: &'t TextPlaces<'t>,
+    /// The name of its file, if it comes from one.
+    pub(crate) file: Option<&'t [u8]>,
+    /// Its program.
+    pub(crate) program: &'t ClockProgram,
+    /// The plan to which the program unfolds.
+    pub(crate) plan: Plan,
+}
+
+impl<'t> CheckedClocks<'t> {
+    // How its activities stand in this world of its plan, whose state has this value.
+    fn standing(
+        &self,
+        alloc: Global,
+        world: &World<'_>,
+        end: &Final,
+    ) -> Result<ClockExplanation, NoMemory>
+        requires known { IsCheckedClocks self.now }
+        requires plan { world.now.plan ≡ self.now.plan }
+        requires end { end.now ≡ final_of self.now.plan (state_of world.now) }
+        ensures { IfOk result (λ e. (u : ClockUnfolding) → clock_unfolded self.now.program.now.body ≡ Ok u →
+            ExplainsActivities (file_bytes self.now.file) self.now.places.now self.now.program.now.body u world.now.plan (places_of world.now) e.lines e.has_waiting) }
+    {
+        let explanation = clock_explanation_of(
+            alloc,
+            self.places,
+            self.file,
+            self.program,
+            world,
+            end,
+        )?;
+        Ok(explanation)
+    }
+
+    // Its explanation.
+    fn explain(&self, alloc: Global) -> Result<Answer, NoMemory>
+        requires known { IsCheckedClocks self.now }
+        ensures explains { IfOk result (λ a. IsClockExplanationOf (file_bytes self.now.file) self.now.places.now (number_of_status a.status) a.lines) }
+    {
+        let ended = run_to_world(alloc, &self.plan)?;
+        let explanation = self.standing(alloc, &ended.world, &ended.end)?;
+        Ok(Answer {
+            lines: explanation.lines,
+            status: status_of(explanation.has_waiting),
+        })
+    }
+
+    // The steps of its run, and behind them its explanation.
+    fn steps(&self, alloc: Global) -> Result<Answer, NoMemory>
+        requires known { IsCheckedClocks self.now }
+        ensures steps { IfOk result (λ a. AreClockStepsOf (file_bytes self.now.file) self.now.places.now (number_of_status a.status) a.lines) }
+    {
+        let ran = clock_steps_through(alloc, self.places, self.program, &self.plan)?;
+        let explanation = self.standing(alloc, &ran.world, &ran.end)?;
+        let answer = with_steps(ran.lines, &explanation.lines, explanation.has_waiting)?;
+        Ok(answer)
+    }
+
+    /// The whole output for it, of which this is wanted.
+    pub(crate) fn answer(&self, alloc: Global, wanted: ClockWanted) -> Result<Answer, NoMemory>
+        requires known { IsCheckedClocks self.now }
+        ensures answers { IfOk result (IsClockAnswerTo wanted (file_bytes self.now.file) self.now.places.now) }
+    {
+        match wanted {
+            ClockWanted::Explanation => self.explain(alloc),
+            ClockWanted::Steps => self.steps(alloc),
+        }
+    }
+}

@@ -1,0 +1,137 @@
+// What is written of a text of PL that is not refused.
+ghost use Rattle.std.specs.Prelude.{◌≡◌, IfOk};
+ghost use Rattle.armus_base.specs.Finals.{final_of};
+ghost use Rattle.pl_core.specs.calls.Worlds.{places_of, state_of};
+ghost use Rattle.pl_plan.specs.Forks.{fork_statements};
+ghost use Rattle.explained_tasks.specs.Explanations.{IsExplanationAt};
+ghost use Rattle.explained_tasks.specs.RunEnds.{IsAccountOf};
+ghost use Rattle.world_runs.specs.calls.EndWorlds.{IsEndWorld};
+ghost use Rattle.armus_top.specs.inside.Status.{number_of_status};
+ghost use Rattle.explain.specs.Avoided.{IsAvoidedOf};
+ghost use Rattle.explain.specs.Explained.{IsExplanationOf};
+ghost use Rattle.explain.specs.Stepped.{AreStepsOf};
+ghost use Rattle.explain.specs.calls.Requested.{file_bytes};
+ghost use Rattle.explain.specs.inside.Checked.{IsCheckedText};
+ghost use Rattle.explain.specs.inside.Ending.{IsPlAnswerTo};
+
+use crate::answer::{Answer, PlWanted, with_steps};
+use accounts::{Account, account_of};
+use armus_base::{Final, NoMemory};
+use armus_top::status_of;
+use explained_tasks::{Explanation, explanation_of};
+use pl_core::World;
+use pl_plan::Unfolded;
+use pl_syntax::Program;
+use refused_awaits::{avoid_through, avoided_explanation_of};
+use std::alloc::Global;
+use step_lines::step_through;
+use text_places::TextPlaces;
+use world_runs::run_to_world;
+
+/// What is known of a text of PL that is not refused.
+#[derive(Drop)]
+pub(crate) struct CheckedText<'t> {
+    /// Its places.
+    pub(crate) places: &'t TextPlaces<'t>,
+    /// The name of its file, if it comes from one.
+    pub(crate) file: Option<&'t [u8]>,
+    /// Its program.
+    pub(crate) program: &'t Program,
+    /// The plan to which the program unfolds, and where its tasks are forked.
+    pub(crate) unfolded: Unfolded,
+}
+
+impl<'t> CheckedText<'t> {
+    // The statements that fork its tasks.
+    fn forks(&self, alloc: Global) -> Result<Vec<Option<u32>>, NoMemory>
+        requires known { IsCheckedText self.now }
+        ensures forks { IfOk result (λ forks. forks.items ≡ fork_statements self.now.program.now) }
+    {
+        let forks = Vec::from_slice(alloc, self.unfolded.forks.as_slice())?;
+        Ok(forks)
+    }
+
+    // Its account in this world of its plan, whose state has this value.
+    fn account(&self, alloc: Global, world: &World<'_>, end: &Final) -> Result<Account, NoMemory>
+        requires known { IsCheckedText self.now }
+        requires plan { world.now.plan ≡ self.now.unfolded.plan }
+        requires end { end.now ≡ final_of self.now.unfolded.plan (state_of world.now) }
+        ensures account { IfOk result (IsAccountOf self.now.places.now world.now.plan (places_of world.now)) }
+    {
+        let forks = self.forks(alloc)?;
+        let ends = end.ends.as_slice();
+        let account = account_of(alloc, self.places, self.program, forks, world, ends)?;
+        Ok(account)
+    }
+
+    // How its tasks stand in the world in which a run of its plan has ended, whose state has this value.
+    fn standing(
+        &self,
+        alloc: Global,
+        world: &World<'_>,
+        end: &Final,
+    ) -> Result<Explanation, NoMemory>
+        requires known { IsCheckedText self.now }
+        requires ended { IsEndWorld self.now.unfolded.plan world.now }
+        requires end { end.now ≡ final_of self.now.unfolded.plan (state_of world.now) }
+        ensures { IfOk result (λ e. IsExplanationAt (file_bytes self.now.file) self.now.places.now world.now.plan (places_of world.now) e.lines e.has_waiting) }
+    {
+        let account = self.account(alloc, world, end)?;
+        let explanation = explanation_of(alloc, self.places, self.file, &account, world, end)?;
+        Ok(explanation)
+    }
+
+    // Its explanation.
+    fn explain(&self, alloc: Global) -> Result<Answer, NoMemory>
+        requires known { IsCheckedText self.now }
+        ensures explains { IfOk result (λ a. IsExplanationOf (file_bytes self.now.file) self.now.places.now (number_of_status a.status) a.lines) }
+    {
+        let ended = run_to_world(alloc, &self.unfolded.plan)?;
+        let explanation = self.standing(alloc, &ended.world, &ended.end)?;
+        Ok(Answer {
+            lines: explanation.lines,
+            status: status_of(explanation.has_waiting),
+        })
+    }
+
+    // The steps of its run, and behind them its explanation.
+    fn steps(&self, alloc: Global) -> Result<Answer, NoMemory>
+        requires known { IsCheckedText self.now }
+        ensures steps { IfOk result (λ a. AreStepsOf (file_bytes self.now.file) self.now.places.now (number_of_status a.status) a.lines) }
+    {
+        let forks = self.forks(alloc)?;
+        let plan = &self.unfolded.plan;
+        let ran = step_through(alloc, self.places, self.program, forks, plan)?;
+        let explanation = self.standing(alloc, &ran.world, &ran.end)?;
+        let answer = with_steps(ran.lines, &explanation.lines, explanation.has_waiting)?;
+        Ok(answer)
+    }
+
+    // The explanation of its run that avoids deadlock.
+    fn avoid(&self, alloc: Global) -> Result<Answer, NoMemory>
+        requires known { IsCheckedText self.now }
+        ensures avoided { IfOk result (λ a. IsAvoidedOf (file_bytes self.now.file) self.now.places.now (number_of_status a.status) a.lines) }
+    {
+        let forks = self.forks(alloc)?;
+        let plan = &self.unfolded.plan;
+        let ran = avoid_through(alloc, self.places, self.file, self.program, forks, plan)?;
+        let account = self.account(alloc, &ran.world, &ran.end)?;
+        let explanation = avoided_explanation_of(alloc, self.places, self.file, &account, &ran)?;
+        Ok(Answer {
+            lines: explanation.lines,
+            status: status_of(explanation.somebody_stays),
+        })
+    }
+
+    /// The whole output for it, of which this is wanted.
+    pub(crate) fn answer(&self, alloc: Global, wanted: PlWanted) -> Result<Answer, NoMemory>
+        requires known { IsCheckedText self.now }
+        ensures answers { IfOk result (IsPlAnswerTo wanted (file_bytes self.now.file) self.now.places.now) }
+    {
+        match wanted {
+            PlWanted::Explanation => self.explain(alloc),
+            PlWanted::Steps => self.steps(alloc),
+            PlWanted::Avoided => self.avoid(alloc),
+        }
+    }
+}
