@@ -5,8 +5,7 @@ use Rattle.std.proofs.lemmas.Bool.{false≢true}
 use Rattle.atomic_table.specs.Seated.{TableId}
 use Rattle.armus_base.specs.declared.event.Event.{Event}
 use Rattle.armus_base.specs.Plans.{Aim, Plan, Refuses}
-use Rattle.armus_base.specs.Runs.{Place, next_place}
-use Rattle.armus_base.specs.Places.{published_after}
+use Rattle.armus_base.specs.Runs.{next_place}
 use Rattle.armus_base.specs.calls.Seats.{AvoidsByWhatIsSeen}
 use Rattle.board.specs.declared.view.View.{View}
 use Rattle.board.specs.calls.Views.{action_after, avoids, next_action, own_place, place_in, seen, task_of}
@@ -14,8 +13,7 @@ use Rattle.board.specs.calls.Steps.{after_action}
 use Rattle.board.specs.calls.Seats.{Frame, IsOf, IsSeat, Known, MakesStep, event_of}
 use Rattle.board.specs.inside.Sitting.{IsSitting}
 use Rattle.board.specs.calls.Locking.{FindsHeld, FreesLock, MayRefuse, with_lock}
-use Rattle.board.proofs.Sights.{seen_stepped}
-use Rattle.board.proofs.Seated.{event_here, place_next}
+use Rattle.board.proofs.Seated.{event_here, stays_sitting, steps}
 
 -- a seat stays one with the lock or without it
 pub locked_seat :
@@ -51,7 +49,7 @@ refused_done : (k : ℕ) (o : Option ℕ) (aim : Aim) → (next_place k o (Refus
 refused_done k None p = refl
 refused_done k (Some d) p = refl
 
-module _ (table table' : TableId) (v w : View) (aim : Aim) (seat : IsSeat (record { table = table; view = v })) (within : task_of v < length v.sight.places)
+module _ {table table' : TableId} {v w : View} (aim : Aim) (seat : IsSeat (record { table = table; view = v })) (within : task_of v < length v.sight.places)
     (is : w ≡ after_action (Refuses aim) v) where
   pub refused_seat : IsSeat (record { table = table'; view = w })
   refused_seat =
@@ -65,39 +63,13 @@ module _ (table table' : TableId) (v w : View) (aim : Aim) (seat : IsSeat (recor
         lock = seat.lock;
       })
 
-  pub refuses_step : table' ≡ table → MakesStep (Refuses aim) (record { table = table; view = v }) (record { table = table'; view = w })
-  refuses_step same =
-      record {
-        seen_now = ap seen is ∙ seen_stepped (Refuses aim) v within;
-        same = record {
-          plan = ap (λ (u : View). u.plan) is;
-          mode = ap (λ (u : View). u.mode) is;
-          own = ap (λ (u : View). u.own) is;
-          holds = ap (λ (u : View). u.holds) is;
-          spent = ap (λ (u : View). u.spent) is;
-          count = ap (λ (u : View). length u.sight.places) is ∙ length-set v.sight.places (task_of v) (next_place (own_place v).done (own_place v).dropped (Refuses aim));
-        };
-        loads = ap (λ (u : View). u.loads) is;
-        table = same;
-        kept = refused_seat;
-      }
+  pub refuses_step : {now : Known} → record { table = table; view = v } ≡ now → table' ≡ table →
+      MakesStep (Refuses aim) now (record { table = table'; view = w })
+  refuses_step here same = steps (Refuses aim) here within is same refused_seat
 
-  pub refuses_sitting : (t n : ℕ) (o : Option Event) → IsSitting t n o (record { table = table; view = v }) → IsSitting t n o (record { table = table'; view = w })
-  refuses_sitting t n o s =
-      let k : Known = record { table = table; view = v } in
-      let same : event_of (record { table = table'; view = w }) ≡ event_of k =
-      ap (λ (u : View). event_of (record { table = table'; view = u })) is
-      ∙ event_here (record { table = table'; view = after_action (Refuses aim) v }) t s.task
-      ∙ ap (λ (b : Place). published_after v.plan (task_of v) b.done) (place_next v (Refuses aim) within)
-      ∙ ap (published_after v.plan (task_of v)) (refused_done (own_place v).done (own_place v).dropped aim)
-      ∙ sym (event_here k t s.task) in
-      record {
-        task = ap (λ (u : View). u.own) is ∙ s.task;
-        seat = refused_seat;
-        scanned_is = s.scanned_is ∙ sym (ap (λ (u : View). u.sight.scanned) is);
-        event = s.event ∙ sym same;
-        idle = λ e. s.idle (sym same ∙ e);
-      }
+  pub refuses_sitting : {t n : ℕ} {o : Option Event} → IsSitting t n o (record { table = table; view = v }) →
+      IsSitting t n o (record { table = table'; view = w })
+  refuses_sitting s = stays_sitting (Refuses aim) s (refused_done (own_place v).done (own_place v).dropped aim) refl is refused_seat
 
 -- what is asked of who refuses, by the board's own plan
 pub may_refuse_here :

@@ -12,6 +12,7 @@ pub mod Forking
 pub mod Ending
 pub mod Closing
 pub mod Seated
+pub mod Called
 pub mod Reading
 pub mod Loaded
 pub mod Holding

@@ -132,3 +132,24 @@ answers_phase table table' v w t p answer given seat small load same is =
       table = same;
       kept = loaded_seat table table' v w seat load.same load.seen_now.exact (few_phase table v w v.mode t p answer seat small load);
     }
+
+-- what a call answers that loads a phase word and reads its number
+pub looked_answers :
+    (table table' : TableId) (slots index n t p : ℕ) (me me' : Me (Unit {0}) View) (f : Frame) (given : Option ℕ) →
+    Looked (step slots index 0 0 none) me n me' →
+    IsOf (record { table = table; view = me.0 }) f → IsSeat (record { table = table; view = me.0 }) → t < length f.plan.parents → p < length f.plan.makers →
+    index ≡ phase_index f.plan t p → table' ≡ table → ((answer : Option ℕ) → n ≡ phase_number answer → given ≡ answer) →
+    AnswersPhase t p given (record { table = table; view = me.0 }) (record { table = table'; view = me'.0 })
+looked_answers table table' slots index n t p me me' f given looked of seat small few is same read =
+    let told = looked_told slots index me me' n t p f table looked of small few is in
+    answers_phase table table' me.0 me'.0 t p told.0 given seat (subst (λ (q : Plan). t < length q.parents) (sym of.plan) small) told.3 same
+    (read told.0 told.1)
+
+-- after such a load, with the tasks that are scanned then
+pub phase_sitting :
+    {table table' : TableId} {v w : View} {t n m u p : ℕ} {o : Option Event} {answer : Option ℕ} → IsSitting t n o (record { table = table; view = v }) →
+    u < length v.plan.parents → LoadsPhase v.plan v.mode u p answer v w → m ≡ (seen w).scanned →
+    (event_of (record { table = table; view = v }) ≡ None → m ≡ 0) →
+    IsSitting t m o (record { table = table'; view = w })
+phase_sitting {table} {table'} {v} {w} {t} {n} {m} {u} {p} {o} {answer} i small load scanned idle =
+    loads_sitting table table' v w t n m o _ _ i load.same load.seen_now.exact load.was (few_phase table v w v.mode u p answer i.seat small load) scanned idle

@@ -1,5 +1,5 @@
 -- A load keeps the rule, and teaches the longest place that all places with the loaded meaning have in common.
-use Rattle.std.proofs.Common.{◌≡◌, ◌≢◌, ℕ, zero, suc, ◌+◌, ◌^◌, ◌<◌, ◌≤◌, Bool, true, false, List, ◌∷◌, Option, Some, None, length, get_or, set, sym, refl, ap, ◌∙◌, subst, arith, inl, inr, ◌⊎◌, length-set, eqb-true}
+use Rattle.std.proofs.Common.{◌≡◌, ◌≢◌, ℕ, zero, suc, ◌+◌, ◌^◌, ◌<◌, Bool, true, false, List, ◌∷◌, Option, Some, None, length, get_or, set, sym, refl, ap, ◌∙◌, subst, arith, inl, inr, ◌⊎◌, length-set, eqb-true}
 use Rattle.std.specs.Prelude.{if◌then◌else◌, ◌==◌, ◌&&◌}
 use Rattle.std.proofs.lemmas.Bool.{cases_eq}
 use Rattle.std.proofs.lemmas.List.{set-get_or}
@@ -7,7 +7,6 @@ use mathlib.Core.Option.{none, some}
 use lib.ListN.{get_elem?}
 use Rattle.atomic_table.specs.Table.{Allows, Me, State as TableState, keeps, step, stepped}
 use Rattle.atomic_table.proofs.Lists.{at_set}
-use Rattle.armus_base.specs.Limits.{max_ops}
 use Rattle.armus_base.specs.declared.event.Event.{Event}
 use Rattle.armus_base.specs.Plans.{Plan}
 use Rattle.armus_base.specs.States.{State}
@@ -35,6 +34,7 @@ use Rattle.board.proofs.Seating.{GoesOnAs, as_before, one_goes_on, seated_stays}
 use Rattle.board.proofs.Showing.{phases_apart}
 use Rattle.board.proofs.Sights.{set_place}
 use Rattle.board.proofs.Ranges.{found_small, phases_small}
+use Rattle.board.proofs.Reading.{number_small}
 use Rattle.board.proofs.Longest.{longest_exists, undropped}
 use Rattle.board.proofs.Acting.{own_phases_so, sits}
 
@@ -346,10 +346,10 @@ teaches plan mode s l t p before later = elim (first_or_not before) [
 ]
 
 -- the load of a phase word
-pub looks :
+looks_word :
     (plan : Plan) (mode : Mode) (slots id : ℕ) (me : Me (Unit {0}) View) (t p : ℕ) → me.0.spent ≡ false → me.0.plan ≡ plan → t < length plan.parents → p < length plan.makers →
     Allows (IsKeptBy plan mode) slots id me (phase_index plan t p) (λ n. n) (Looked (step slots (phase_index plan t p) 0 0 none) me)
-looks plan mode slots id me t p live same small few s l _ at _ =
+looks_word plan mode slots id me t p live same small few s l _ at _ =
     let v = me.0 in
     let f = l.views id v at live in
     let st = state_at plan l.places in
@@ -408,10 +408,14 @@ looks plan mode slots id me t p live same small few s l _ at _ =
             ),
       ),
     )
-  where
-    number_small : (o : Option ℕ) → ((n : ℕ) → o ≡ Some n → n ≤ max_ops) → phase_number o < 2 ^ 32
-    number_small None h = omega arith
-    number_small (Some n) h = (let m = h n refl in omega arith)
+
+-- by its index
+pub looks :
+    (plan : Plan) (mode : Mode) (slots id : ℕ) (me : Me (Unit {0}) View) (t p index : ℕ) → me.0.spent ≡ false → me.0.plan ≡ plan → t < length plan.parents →
+    p < length plan.makers → index ≡ phase_index plan t p → Allows (IsKeptBy plan mode) slots id me index (λ n. n) (Looked (step slots index 0 0 none) me)
+looks plan mode slots id me t p index live same small few is =
+    subst (λ (k : ℕ). Allows (IsKeptBy plan mode) slots id me k (λ n. n) (Looked (step slots k 0 0 none) me)) (sym is)
+    (looks_word plan mode slots id me t p live same small few)
 
 -- the load of one's own phase word
 pub recalls :
@@ -435,7 +439,3 @@ recalls plan mode slots id me t p own live same few s l _ at _ =
             ),
       ),
     )
-  where
-    number_small : (o : Option ℕ) → ((n : ℕ) → o ≡ Some n → n ≤ max_ops) → phase_number o < 2 ^ 32
-    number_small None h = omega arith
-    number_small (Some n) h = (let m = h n refl in omega arith)

@@ -1,13 +1,14 @@
 -- What the numbers in words say.
-use Rattle.std.proofs.Common.{◌≡◌, ℕ, zero, suc, ◌+◌, ◌-◌, ◌/◌, ◌%◌, ◌<◌, ◌≤◌, Option, Some, None, List, [], ◌∷◌, get_or, sym, refl, arith}
+use Rattle.std.proofs.Common.{◌≡◌, ℕ, zero, suc, ◌+◌, ◌-◌, ◌/◌, ◌%◌, ◌<◌, ◌≤◌, Option, Some, None, List, [], ◌∷◌, ◌*◌, length, get_or, sym, refl, ◌∙◌, arith}
 use Rattle.std.proofs.lemmas.Nat.{div-mul-add, mod-mul-add}
 use mathlib.Core.Option.{some, some-injective, some-ne-none}
 use lib.ListN.{get_elem?}
 use Rattle.armus_base.specs.calls.Limits.{max_awaited}
 use Rattle.armus_base.specs.Limits.{max_ops, max_phasers}
 use Rattle.armus_base.specs.declared.event.Event.{Event}
+use Rattle.armus_base.specs.Plans.{Plan}
 use Rattle.armus_base.specs.calls.Seats.{Found, FoundIdle, FoundRefused, FoundWaiting}
-use Rattle.board.specs.calls.Words.{IsInRange, await_number, event_number, phase_number}
+use Rattle.board.specs.calls.Words.{IsInRange, await_number, event_number, phase_index, phase_number}
 
 -- the phaser and the phase of an event's number
 pub phaser_in : (e : Event) → e.n ≤ max_awaited → event_number e / 4294967296 ≡ e.p.0 + 1
@@ -43,3 +44,8 @@ pub read_at : {A : Type 0} (l : List A) (i : ℕ) (a d : A) → get_elem? l i �
 read_at [] i a d e = absurd (some-ne-none a (sym e))
 read_at (x ∷ xs) zero a d e = some-injective x a e
 read_at (x ∷ xs) (suc i) a d e = read_at xs i a d e
+
+-- the phase word of task t on phaser p, among n tasks
+pub read_phase : (l : List ℕ) {n a : ℕ} (plan : Plan) (t p : ℕ) → n ≡ length plan.parents → get_elem? l (1 + n + p * n + t) ≡ some a →
+    a ≡ get_or l (phase_index plan t p) 0
+read_phase l {n} {a} plan t p tasks e = sym (read_at l (1 + n + p * n + t) a 0 e) ∙ (λ j. get_or l (1 + tasks j + p * tasks j + t) 0)

@@ -58,14 +58,12 @@ seat_next table table' v w seat is = subst (λ (u : View). IsSeat (record { tabl
   lock = seat.lock;
 })
 
--- an own step
-pub makes_step :
-    (table table' : TableId) (v w : View) (x : Action) → task_of v < length v.sight.places → next_action v ≡ Some x → w ≡ next_view v → table' ≡ table →
-    IsSeat (record { table = table; view = v }) →
-    MakesStep x (record { table = table; view = v }) (record { table = table'; view = w })
-makes_step table table' v w x within next is same seat =
-    let after : w ≡ after_action x v = is ∙ sym (next_view_is v x next) in
-    record {
+-- an own step, by what it makes of the view
+pub steps : {table table' : TableId} {v w : View} {now : Known} (x : Action) → record { table = table; view = v } ≡ now → task_of v < length v.sight.places →
+    w ≡ after_action x v → table' ≡ table → IsSeat (record { table = table'; view = w }) → MakesStep x now (record { table = table'; view = w })
+steps {table} {table'} {v} {w} x here within after same seat =
+    subst (λ (k : Known). MakesStep x k (record { table = table'; view = w })) here
+    (record {
       seen_now = ap seen after ∙ seen_stepped x v within;
       same = record {
         plan = ap (λ (u : View). u.plan) after;
@@ -77,8 +75,15 @@ makes_step table table' v w x within next is same seat =
       };
       loads = ap (λ (u : View). u.loads) after;
       table = same;
-      kept = seat_next table table' v w seat is;
-    }
+      kept = seat;
+    })
+
+-- and of the next action by the code
+pub makes_step : {table table' : TableId} {v w : View} {now : Known} {t n : ℕ} {o : Option Event} (x : Action) → record { table = table; view = v } ≡ now →
+    IsSitting t n o (record { table = table; view = v }) → next_action v ≡ Some x → w ≡ next_view v → table' ≡ table →
+    MakesStep x now (record { table = table'; view = w })
+makes_step {table} {table'} {v} {w} x here s next is same =
+    steps x here (task_inside _ _ s.seat s.task) (is ∙ sym (next_view_is v x next)) same (seat_next table table' v w s.seat is)
 
 -- the own place after it
 pub place_next : (v : View) (x : Action) → task_of v < length v.sight.places → own_place (after_action x v) ≡ next_place (own_place v).done (own_place v).dropped x
@@ -102,16 +107,21 @@ event_before k t x own next n =
     let there = next_there k.view x next in
     event_here k t own ∙ nothing_published k.view.plan (task_of k.view) (own_place k.view).done x there.1 n
 
+-- where the code goes on
+pub place_next_by_code : (k : ℕ) (o : Option ℕ) (x : Action) → o ≡ None → ((aim : Aim) → x ≢ Refuses aim) →
+    next_place k o x ≡ record { done = suc k; dropped = None }
+place_next_by_code k None (Makes p) e n = refl
+place_next_by_code k None (Registers c p) e n = refl
+place_next_by_code k None (Forks c) e n = refl
+place_next_by_code k None (Advances p) e n = refl
+place_next_by_code k None (Drops p) e n = refl
+place_next_by_code k None (Blocks p) e n = refl
+place_next_by_code k None (Passes p) e n = refl
+place_next_by_code k None (Refuses p) e n = absurd (n p refl)
+place_next_by_code k (Some d) x e n = absurd (cc)
+
 pub place_made : (k : ℕ) (o : Option ℕ) (x : Action) → o ≡ None → ((aim : Aim) → x ≢ Refuses aim) → (next_place k o x).done ≡ suc k
-place_made k None (Makes p) e n = refl
-place_made k None (Registers c p) e n = refl
-place_made k None (Forks c) e n = refl
-place_made k None (Advances p) e n = refl
-place_made k None (Drops p) e n = refl
-place_made k None (Blocks p) e n = refl
-place_made k None (Passes p) e n = refl
-place_made k None (Refuses p) e n = absurd (n p refl)
-place_made k (Some d) x e n = absurd (cc)
+place_made k o x e n = ap (λ (b : Place). b.done) (place_next_by_code k o x e n)
 
 -- the event after an own action
 pub event_next :
@@ -156,15 +166,12 @@ scanned_same v w x next b p is = ap (λ (u : View). u.sight.scanned) (is ∙ sym
     by_case (Passes p) b q = absurd (q p refl)
     by_case (Refuses p) b q = refl
 
--- the seat is of its board, from inside
-pub own_small : (k : Known) (f : Frame) (t : ℕ) → IsSeat k → IsOf k f → k.view.own ≡ Some t → t < length f.plan.parents
-own_small k f t seat of own = subst (λ (q : Plan). t < length q.parents) of.plan (seat.own t own).0
-
--- the seat's own facts after an own action that neither blocks nor passes
+-- after an action that neither blocks, passes nor refuses
 pub acts_sitting :
-    (table table' : TableId) (v w : View) (t n : ℕ) (o : Option Event) (x : Action) → IsSitting t n o (record { table = table; view = v }) → next_action v ≡ Some x →
+    {table table' : TableId} {v w : View} {t n : ℕ} {o : Option Event} (x : Action) → IsSitting t n o (record { table = table; view = v }) →
+    next_action v ≡ Some x →
     ((aim : Aim) → x ≢ Blocks aim) → ((p : ℕ) → x ≢ Passes p) → ((aim : Aim) → x ≢ Refuses aim) → w ≡ next_view v → IsSitting t n o (record { table = table'; view = w })
-acts_sitting table table' v w t n o x s next b p r is =
+acts_sitting {table} {table'} {v} {w} {t} x s next b p r is =
     let k : Known = record { table = table; view = v } in
     let within = task_inside k t s.seat s.task in
     let before = event_before k t x s.task next p in
@@ -179,10 +186,10 @@ acts_sitting table table' v w t n o x s next b p r is =
 
 -- after a block
 pub blocks_sitting :
-    (table table' : TableId) (v w : View) (t n : ℕ) (o : Option Event) (aim : Aim) (e : Event) → IsSitting t n o (record { table = table; view = v }) →
+    {table table' : TableId} {v w : View} {t n : ℕ} {o : Option Event} (aim : Aim) (e : Event) → IsSitting t n o (record { table = table; view = v }) →
     next_action v ≡ Some (Blocks aim) →
     option_map (target aim.off) (own_phase v aim.phaser) ≡ Some e.n → e.p.0 ≡ aim.phaser → w ≡ next_view v → IsSitting t 0 (Some e) (record { table = table'; view = w })
-blocks_sitting table table' v w t n o aim e s next phase here is =
+blocks_sitting {table} {table'} {v} {w} {t} aim e s next phase here is =
     let k : Known = record { table = table; view = v } in
     let within = task_inside k t s.seat s.task in
     let there = next_there v (Blocks aim) next in
@@ -199,10 +206,10 @@ blocks_sitting table table' v w t n o aim e s next phase here is =
 
 -- after a pass
 pub passes_sitting :
-    (table table' : TableId) (v w : View) (t n p : ℕ) (o : Option Event) → IsSitting t n o (record { table = table; view = v }) →
+    {table table' : TableId} {v w : View} {t n : ℕ} {o : Option Event} (p : ℕ) → IsSitting t n o (record { table = table; view = v }) →
     next_action v ≡ Some (Passes p) → w ≡ next_view v →
     IsSitting t 0 None (record { table = table'; view = w })
-passes_sitting table table' v w t n p o s next is =
+passes_sitting {table} {table'} {v} {w} {t} p s next is =
     let k : Known = record { table = table; view = v } in
     let within = task_inside k t s.seat s.task in
     record {
@@ -213,30 +220,31 @@ passes_sitting table table' v w t n p o s next is =
       idle = λ none_now. refl;
     }
 
--- after a refused task's drop
-pub drop_done : (k d : ℕ) (o : Option ℕ) (p : ℕ) → o ≡ Some d → (next_place k o (Drops p)).done ≡ k
-drop_done k d None p e = absurd (cc)
-drop_done k d (Some q) p e = refl
-
-pub leaves_sitting :
-    (table table' : TableId) (v w : View) (t n d p : ℕ) (o : Option Event) → IsSitting t n o (record { table = table; view = v }) → (own_place v).dropped ≡ Some d →
-    w ≡ after_action (Drops p) v → IsSeat (record { table = table'; view = w }) → IsSitting t n o (record { table = table'; view = w })
-leaves_sitting table table' v w t n d p o s dropped is seat =
+-- after an action that does not go on in the code: a refusal, or a refused task's drop
+pub stays_sitting :
+    {table table' : TableId} {v w : View} {t n : ℕ} {o : Option Event} (x : Action) → IsSitting t n o (record { table = table; view = v }) →
+    (next_place (own_place v).done (own_place v).dropped x).done ≡ (own_place v).done → (after_action x v).sight.scanned ≡ v.sight.scanned →
+    w ≡ after_action x v → IsSeat (record { table = table'; view = w }) → IsSitting t n o (record { table = table'; view = w })
+stays_sitting {table} {table'} {v} {w} {t} x s stays scanned is seat =
     let k : Known = record { table = table; view = v } in
     let within = task_inside k t s.seat s.task in
     let same : event_of (record { table = table'; view = w }) ≡ event_of k =
     ap (λ (u : View). event_of (record { table = table'; view = u })) is
-    ∙ event_here (record { table = table'; view = after_action (Drops p) v }) t s.task
-    ∙ ap (λ (b : Place). published_after v.plan (task_of v) b.done) (place_next v (Drops p) within)
-    ∙ ap (published_after v.plan (task_of v)) (drop_done (own_place v).done d (own_place v).dropped p dropped)
+    ∙ event_here (record { table = table'; view = after_action x v }) t s.task
+    ∙ ap (λ (b : Place). published_after v.plan (task_of v) b.done) (place_next v x within)
+    ∙ ap (published_after v.plan (task_of v)) stays
     ∙ sym (event_here k t s.task) in
     record {
       task = ap (λ (u : View). u.own) is ∙ s.task;
       seat = seat;
-      scanned_is = s.scanned_is ∙ sym (ap (λ (u : View). u.sight.scanned) is);
+      scanned_is = s.scanned_is ∙ sym (ap (λ (u : View). u.sight.scanned) is ∙ scanned);
       event = s.event ∙ sym same;
       idle = λ e. s.idle (sym same ∙ e);
     }
+
+pub drop_done : (k d : ℕ) (o : Option ℕ) (p : ℕ) → o ≡ Some d → (next_place k o (Drops p)).done ≡ k
+drop_done k d None p e = absurd (cc)
+drop_done k d (Some q) p e = refl
 
 -- a member where the code goes on so
 formed_member : (plan : Plan) (t k p : ℕ) (x : Action) → IsByMember x p → IsWellFormed plan t k x → (n : ℕ) × (phases_after plan t k p ≡ Some n)
@@ -303,27 +311,6 @@ may_publish_here k f t aim of own may avoiding =
 pub some_is : (o : Option ℕ) → IsSome o → (n : ℕ) × (o ≡ Some n)
 some_is None e = absurd (false≢true e)
 some_is (Some n) e = (n, refl)
-
--- an own step of a refused task
-pub leaves_step :
-    (table table' : TableId) (v w : View) (p : ℕ) → task_of v < length v.sight.places → w ≡ after_action (Drops p) v → table' ≡ table →
-    IsSeat (record { table = table'; view = w }) →
-    MakesStep (Drops p) (record { table = table; view = v }) (record { table = table'; view = w })
-leaves_step table table' v w p within after same seat =
-    record {
-      seen_now = ap seen after ∙ seen_stepped (Drops p) v within;
-      same = record {
-        plan = ap (λ (u : View). u.plan) after;
-        mode = ap (λ (u : View). u.mode) after;
-        own = ap (λ (u : View). u.own) after;
-        holds = ap (λ (u : View). u.holds) after;
-        spent = ap (λ (u : View). u.spent) after;
-        count = ap (λ (u : View). length u.sight.places) after ∙ length-set v.sight.places (task_of v) (next_place (own_place v).done (own_place v).dropped (Drops p));
-      };
-      loads = ap (λ (u : View). u.loads) after;
-      table = same;
-      kept = seat;
-    }
 
 -- a seat as the board sees it
 pub new_of : (k : Known) (f : Frame) (table : TableId) (v : View) → IsOf k f → table ≡ k.table → v.plan ≡ k.view.plan → v.mode ≡ k.view.mode →

@@ -1,5 +1,5 @@
 -- The stores: each says in its word what the action changes.
-use Rattle.std.proofs.Common.{◌≡◌, ◌≢◌, ℕ, ◌+◌, ◌<◌, true, false, Option, Some, None, length, set, sym, refl, ap, ◌∙◌, subst, arith}
+use Rattle.std.proofs.Common.{◌≡◌, ◌≢◌, ℕ, ◌+◌, ◌<◌, true, false, Option, Some, None, length, set, sym, refl, ap, ◌∙◌, subst, subst₂, arith}
 use Rattle.std.specs.Prelude.{option_map, unwrap_or}
 use Rattle.std.proofs.lemmas.Bool.{false≢true}
 use mathlib.Core.Option.{some, none}
@@ -48,34 +48,41 @@ pub record IsPhaseAction (x : Action) : Type 0 where
   pub no_block : (aim : Aim) → x ≢ Blocks aim
   pub no_refusal : (aim : Aim) → x ≢ Refuses aim
 
+-- the seat of task t, which is not taken in and does not hold the lock
+pub record IsFree (v : View) (t : ℕ) : Type 0 where
+  pub own : v.own ≡ Some t
+  pub live : v.spent ≡ false
+  pub free : v.holds ≡ false
+
 -- a store to a phase word
 stores_phase :
-    (plan : Plan) (mode : Mode) (slots id : ℕ) (me : Me (Unit {0}) View) (t : ℕ) (x : Action) (u p n : ℕ) → me.0.own ≡ Some t → me.0.spent ≡ false →
-    me.0.holds ≡ false → next_action me.0 ≡ Some x → IsPhaseAction x → u < length plan.parents → p < length plan.makers →
+    (plan : Plan) (mode : Mode) (slots id : ℕ) (me : Me (Unit {0}) View) (t : ℕ) (x : Action) (u p n index : ℕ) → IsFree me.0 t →
+    next_action me.0 ≡ Some x → IsPhaseAction x → u < length plan.parents → p < length plan.makers → index ≡ phase_index plan u p →
     ((s : T) (l : IsKeptBy plan mode s) → Sits plan mode s l id me.0 t → ChangesPhase (state_at plan l.places) (after (state_at plan l.places) t x) u p n) →
-    Allows (IsKeptBy plan mode) slots id me (phase_index plan u p) (λ _. n) (λ _. Acted (step slots (phase_index plan u p) n 0 none) me n)
-stores_phase plan mode slots id me t x u p n own live free next kind a b change s l _ found _ =
-    let si = sits plan mode s l id me.0 t own live found in
+    Allows (IsKeptBy plan mode) slots id me index (λ _. n) (λ _. Acted (step slots index n 0 none) me n)
+stores_phase plan mode slots id me t x u p n index has next kind a b at change s l _ found _ =
+    let si = sits plan mode s l id me.0 t has.own has.live found in
     let st : State = state_at plan l.places in
     let is_step = steps_by_code plan mode s l id me.0 t x si next kind.no_pass
-    (λ _. (avoids_else st t x kind.no_block kind.no_refusal, may_do l.lock t x (not_held plan mode s l id me.0 t si own free) kind.no_block kind.no_refusal)) in
+    (λ _. let unheld = not_held plan mode s l id me.0 t si has.own has.free in
+    (avoids_else st t x kind.no_block kind.no_refusal, may_do l.lock t x unheld kind.no_block kind.no_refusal)) in
     let ch = change s l si in (
       after_action x me.0,
       keeps,
       tt,
-      acts_kept plan mode s l id (phase_index plan u p) n me.1 me.0 t x own live found is_step ch.forked
-          (subst (λ (k : ℕ). IsShown plan (after st t x) l.lock (set s.words (phase_index plan u p) k)) (sym ch.here)
+      acts_kept plan mode s l id index n me.1 me.0 t x has.own has.live found is_step ch.forked
+          (subst₂ (λ (i k : ℕ). IsShown plan (after st t x) l.lock (set s.words i k)) (sym at) (sym ch.here)
           (shows_phase plan st (after st t x) l.lock s.words u p ((after st t x).phases u p) l.shown a b refl ch.others ch.same)),
       (next_view_is me.0 x next, refl),
     )
 
 -- a phaser is made
 pub makes_phaser :
-    (plan : Plan) (mode : Mode) (slots id : ℕ) (me : Me (Unit {0}) View) (t p : ℕ) → me.0.own ≡ Some t → me.0.spent ≡ false → me.0.holds ≡ false →
+    (plan : Plan) (mode : Mode) (slots id : ℕ) (me : Me (Unit {0}) View) (t p index : ℕ) → IsFree me.0 t →
     next_action me.0 ≡ Some (Makes p) → t < length plan.parents → p < length plan.makers →
-    Allows (IsKeptBy plan mode) slots id me (phase_index plan t p) (λ _. 1) (λ _. Acted (step slots (phase_index plan t p) 1 0 none) me 1)
-makes_phaser plan mode slots id me t p own live free next a b =
-    stores_phase plan mode slots id me t (Makes p) t p 1 own live free next (record { no_pass = λ q e. cc; no_block = λ q e. cc; no_refusal = λ q e. cc }) a b
+    index ≡ phase_index plan t p → Allows (IsKeptBy plan mode) slots id me index (λ _. 1) (λ _. Acted (step slots index 1 0 none) me 1)
+makes_phaser plan mode slots id me t p index has next a b at =
+    stores_phase plan mode slots id me t (Makes p) t p 1 index has next (record { no_pass = λ q e. cc; no_block = λ q e. cc; no_refusal = λ q e. cc }) a b at
     (λ s l si. record {
       here = ap phase_number (sym (with_phase_same (state_at plan l.places).phases t p (Some 0)));
       others = λ w q n. with_phase_other (state_at plan l.places).phases t p (Some 0) w q n;
@@ -85,11 +92,12 @@ makes_phaser plan mode slots id me t p own live free next a b =
 
 -- a child is registered at the own phase
 pub registers_child :
-    (plan : Plan) (mode : Mode) (slots id : ℕ) (me : Me (Unit {0}) View) (t c p n m : ℕ) → me.0.own ≡ Some t → me.0.spent ≡ false → me.0.holds ≡ false →
+    (plan : Plan) (mode : Mode) (slots id : ℕ) (me : Me (Unit {0}) View) (t c p n m index : ℕ) → IsFree me.0 t →
     next_action me.0 ≡ Some (Registers c p) → c < length plan.parents → p < length plan.makers → phases_at_place me.0.plan (task_of me.0) (own_place me.0) p ≡ Some m →
-    n ≡ m + 1 → Allows (IsKeptBy plan mode) slots id me (phase_index plan c p) (λ _. n) (λ _. Acted (step slots (phase_index plan c p) n 0 none) me n)
-registers_child plan mode slots id me t c p n m own live free next a b phase is =
-    stores_phase plan mode slots id me t (Registers c p) c p n own live free next (record { no_pass = λ q e. cc; no_block = λ q e. cc; no_refusal = λ q e. cc }) a b
+    n ≡ m + 1 → index ≡ phase_index plan c p → Allows (IsKeptBy plan mode) slots id me index (λ _. n) (λ _. Acted (step slots index n 0 none) me n)
+registers_child plan mode slots id me t c p n m index has next a b phase is at =
+    stores_phase plan mode slots id me t (Registers c p) c p n index has next (record { no_pass = λ q e. cc; no_block = λ q e. cc; no_refusal = λ q e. cc }) a
+    b at
     (λ s l si. record {
       here = is ∙ ap phase_number (sym phase ∙ sym (own_phases_so plan mode s l id me.0 t p si) ∙
           sym (with_phase_same (state_at plan l.places).phases c p ((state_at plan l.places).phases t p)));
@@ -100,11 +108,11 @@ registers_child plan mode slots id me t c p n m own live free next a b phase is 
 
 -- one phase more
 pub advances :
-    (plan : Plan) (mode : Mode) (slots id : ℕ) (me : Me (Unit {0}) View) (t p n m : ℕ) → me.0.own ≡ Some t → me.0.spent ≡ false → me.0.holds ≡ false →
+    (plan : Plan) (mode : Mode) (slots id : ℕ) (me : Me (Unit {0}) View) (t p n m index : ℕ) → IsFree me.0 t →
     next_action me.0 ≡ Some (Advances p) → t < length plan.parents → p < length plan.makers → phases_at_place me.0.plan (task_of me.0) (own_place me.0) p ≡ Some m →
-    n ≡ m + 2 → Allows (IsKeptBy plan mode) slots id me (phase_index plan t p) (λ _. n) (λ _. Acted (step slots (phase_index plan t p) n 0 none) me n)
-advances plan mode slots id me t p n m own live free next a b phase is =
-    stores_phase plan mode slots id me t (Advances p) t p n own live free next (record { no_pass = λ q e. cc; no_block = λ q e. cc; no_refusal = λ q e. cc }) a b
+    n ≡ m + 2 → index ≡ phase_index plan t p → Allows (IsKeptBy plan mode) slots id me index (λ _. n) (λ _. Acted (step slots index n 0 none) me n)
+advances plan mode slots id me t p n m index has next a b phase is at =
+    stores_phase plan mode slots id me t (Advances p) t p n index has next (record { no_pass = λ q e. cc; no_block = λ q e. cc; no_refusal = λ q e. cc }) a b at
     (λ s l si. let here : (state_at plan l.places).phases t p ≡ Some m = own_phases_so plan mode s l id me.0 t p si ∙ phase in record {
       here = is ∙ two m ∙ ap phase_number (ap next_phase (sym here) ∙ sym (with_phase_same (state_at plan l.places).phases t p (next_phase ((state_at plan l.places).phases t p))));
       others = λ w q n. with_phase_other (state_at plan l.places).phases t p (next_phase ((state_at plan l.places).phases t p)) w q n;
@@ -117,11 +125,11 @@ advances plan mode slots id me t p n m own live free next a b phase is =
 
 -- a phaser is left
 pub drops :
-    (plan : Plan) (mode : Mode) (slots id : ℕ) (me : Me (Unit {0}) View) (t p : ℕ) → me.0.own ≡ Some t → me.0.spent ≡ false → me.0.holds ≡ false →
+    (plan : Plan) (mode : Mode) (slots id : ℕ) (me : Me (Unit {0}) View) (t p index : ℕ) → IsFree me.0 t →
     next_action me.0 ≡ Some (Drops p) → t < length plan.parents → p < length plan.makers →
-    Allows (IsKeptBy plan mode) slots id me (phase_index plan t p) (λ _. 0) (λ _. Acted (step slots (phase_index plan t p) 0 0 none) me 0)
-drops plan mode slots id me t p own live free next a b =
-    stores_phase plan mode slots id me t (Drops p) t p 0 own live free next (record { no_pass = λ q e. cc; no_block = λ q e. cc; no_refusal = λ q e. cc }) a b
+    index ≡ phase_index plan t p → Allows (IsKeptBy plan mode) slots id me index (λ _. 0) (λ _. Acted (step slots index 0 0 none) me 0)
+drops plan mode slots id me t p index has next a b at =
+    stores_phase plan mode slots id me t (Drops p) t p 0 index has next (record { no_pass = λ q e. cc; no_block = λ q e. cc; no_refusal = λ q e. cc }) a b at
     (λ s l si. record {
       here = ap phase_number (sym (with_phase_same (state_at plan l.places).phases t p None));
       others = λ w q n. with_phase_other (state_at plan l.places).phases t p None w q n;
@@ -251,15 +259,15 @@ refuses plan mode slots id me t n aim e own live has avoiding dead next phase he
 
 -- the event is reached, and the task goes on
 pub passes :
-    (plan : Plan) (mode : Mode) (slots id : ℕ) (me : Me (Unit {0}) View) (t : ℕ) (e : Event) → me.0.own ≡ Some t → me.0.spent ≡ false → me.0.holds ≡ false → me.0.plan ≡ plan →
+    (plan : Plan) (mode : Mode) (slots id : ℕ) (me : Me (Unit {0}) View) (t : ℕ) (e : Event) → IsFree me.0 t → me.0.plan ≡ plan →
     own_event me.0.plan me.0.own (seen me.0) ≡ Some e → me.0.sight.scanned ≡ length plan.parents →
     Allows (IsKeptBy plan mode) slots id me (await_index t) (λ _. 0) (λ _. Withdrawn (step slots (await_index t) 0 0 none) me 0)
-passes plan mode slots id me t e own live free same event all s l _ found _ =
-    let si = sits plan mode s l id me.0 t own live found in
+passes plan mode slots id me t e has same event all s l _ found _ =
+    let si = sits plan mode s l id me.0 t has.own has.live found in
     let st : State = state_at plan l.places in
-    let far : IsAsFarOn plan (Some t) l.places (seen me.0) = subst (λ o. IsAsFarOn plan o l.places (seen me.0)) own si.fits.far in
+    let far : IsAsFarOn plan (Some t) l.places (seen me.0) = subst (λ o. IsAsFarOn plan o l.places (seen me.0)) has.own si.fits.far in
     let seen_event : published_after plan t ((seen me.0).places t).done ≡ Some e =
-    subst (λ o. own_event plan o (seen me.0) ≡ Some e) own (subst (λ q. own_event q me.0.own (seen me.0) ≡ Some e) same event) in
+    subst (λ o. own_event plan o (seen me.0) ≡ Some e) has.own (subst (λ q. own_event q me.0.own (seen me.0) ≡ Some e) same event) in
     let published : published_after plan t (l.places t).done ≡ Some e =
     ap (λ (b : Place). published_after plan t b.done) (sym (sym (ap (place_in me.0.sight.places) si.task) ∙ si.place)) ∙ seen_event in
     let next : action_at plan t (l.places t).done ≡ Some (Passes e.p.0) = published_passes plan t (l.places t).done e published in
@@ -270,13 +278,13 @@ passes plan mode slots id me t e own live free same event all s l _ found _ =
       code = by_code_so plan t (l.places t).done (l.places t).dropped (Passes e.p.0) dropped next;
       legal = (si.forked, e.n, published, reached, ap (refused_at plan t (l.places t).done) dropped);
       plain = λ _ p is. cc;
-      avoided = λ _. (tt, not_held plan mode s l id me.0 t si own free);
+      avoided = λ _. (tt, not_held plan mode s l id me.0 t si has.own has.free);
     } in
     let next_is : next_action me.0 ≡ Some (Passes e.p.0) = comes_so plan mode s l id me.0 t (Passes e.p.0) si dropped next in (
       after_action (Passes e.p.0) me.0,
       keeps,
       tt,
-      stores_await plan mode slots id me t (Passes e.p.0) 0 s l own live found is_step (λ w. refl) (λ u q. refl)
+      stores_await plan mode slots id me t (Passes e.p.0) 0 s l has.own has.live found is_step (λ w. refl) (λ u q. refl)
           (λ u ne. ap (λ o. found_by o (st.refused u)) (updated_other st.published t u None ne))
           (ap await_number (sym (ap (λ o. found_by o (st.refused t)) (updated_same st.published t t None refl) ∙
           ap (found_by None) (ap (refused_at plan t (l.places t).done) dropped)))),
@@ -302,11 +310,11 @@ drop_view v p d e = sym (ap (λ o. after_action (unwrap_or (action_after v.plan 
 
 -- a refused task leaves the least phaser of which it is a member
 pub drops_refused :
-    (plan : Plan) (mode : Mode) (slots id : ℕ) (me : Me (Unit {0}) View) (t p d n : ℕ) → me.0.own ≡ Some t → me.0.spent ≡ false → me.0.holds ≡ false →
+    (plan : Plan) (mode : Mode) (slots id : ℕ) (me : Me (Unit {0}) View) (t p d n index : ℕ) → IsFree me.0 t →
     (own_place me.0).dropped ≡ Some d → own_phase me.0 p ≡ Some n → ((q : ℕ) → q < p → own_phase me.0 q ≡ None) → t < length plan.parents → p < length plan.makers →
-    Allows (IsKeptBy plan mode) slots id me (phase_index plan t p) (λ _. 0) (λ _. Acted (step slots (phase_index plan t p) 0 0 none) me 0)
-drops_refused plan mode slots id me t p d n own live free dropped member least a b s l _ found _ =
-    let si = sits plan mode s l id me.0 t own live found in
+    index ≡ phase_index plan t p → Allows (IsKeptBy plan mode) slots id me index (λ _. 0) (λ _. Acted (step slots index 0 0 none) me 0)
+drops_refused plan mode slots id me t p d n index has dropped member least a b at s l _ found _ =
+    let si = sits plan mode s l id me.0 t has.own has.live found in
     let st : State = state_at plan l.places in
     let there : (l.places t).dropped ≡ Some d = ap (λ (x : Place). x.dropped) (sym si.place) ∙ dropped in
     let stands = (reachable_is_fixed plan l.places l.checked (lawful_is_reachable (avoids mode) plan l.places l.lock l.lawful)).1.refused t d there in
@@ -320,13 +328,13 @@ drops_refused plan mode slots id me t p d n own live free dropped member least a
         λ _ q less. own_phases_so plan mode s l id me.0 t q si ∙ least q less,
       );
       plain = λ _ q is. cc;
-      avoided = λ _. (tt, not_held plan mode s l id me.0 t si own free);
+      avoided = λ _. (tt, not_held plan mode s l id me.0 t si has.own has.free);
     } in (
       after_action (Drops p) me.0,
       keeps,
       tt,
-      acts_kept plan mode s l id (phase_index plan t p) 0 me.1 me.0 t (Drops p) own live found is_step (λ _. refl)
-          (subst (λ (k : ℕ). IsShown plan (after st t (Drops p)) l.lock (set s.words (phase_index plan t p) k)) (ap phase_number (with_phase_same st.phases t p None))
+      acts_kept plan mode s l id index 0 me.1 me.0 t (Drops p) has.own has.live found is_step (λ _. refl)
+          (subst₂ (λ (i k : ℕ). IsShown plan (after st t (Drops p)) l.lock (set s.words i k)) (sym at) (ap phase_number (with_phase_same st.phases t p None))
           (shows_phase plan st (after st t (Drops p)) l.lock s.words t p ((after st t (Drops p)).phases t p) l.shown a b refl
           (λ w q m. with_phase_other st.phases t p None w q m) (λ _. refl))),
       (drop_view me.0 p d dropped, refl),

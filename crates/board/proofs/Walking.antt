@@ -20,7 +20,7 @@ use Rattle.board.specs.calls.Steps.{IsSameSeat, WasSo}
 use Rattle.armus_base.proofs.MemberPhasers.{phaser_of_member}
 pub use Rattle.armus_base.proofs.Lists.{first_and_rest as next_left}
 use Rattle.board.proofs.Loaded.{event_stays, own_stays}
-use Rattle.board.proofs.Seated.{event_here, next_there, not_awaited, place_made}
+use Rattle.board.proofs.Seated.{event_here, next_there, not_awaited, place_next_by_code}
 
 of_plan : (plan : Plan) → IsCheckedPlan plan → (t k : ℕ) (x : Action) → IsWellFormed plan t k x → IsActionOfPlan plan x
 of_plan plan checked t k (Makes p) f = phaser_within plan t p f.0
@@ -80,15 +80,7 @@ moved_here t (Passes p) s = updated_same s.places t t (next_place (s.places t).d
 moved_here t (Refuses p) s = updated_same s.places t t (next_place (s.places t).done (s.places t).dropped (Refuses p)) refl
 
 pub place_undropped : (k : ℕ) (o : Option ℕ) (x : Action) → o ≡ None → ((aim : Aim) → x ≢ Refuses aim) → (next_place k o x).dropped ≡ None
-place_undropped k None (Makes p) e n = refl
-place_undropped k None (Registers c p) e n = refl
-place_undropped k None (Forks c) e n = refl
-place_undropped k None (Advances p) e n = refl
-place_undropped k None (Drops p) e n = refl
-place_undropped k None (Blocks p) e n = refl
-place_undropped k None (Passes p) e n = refl
-place_undropped k None (Refuses p) e n = absurd (n p refl)
-place_undropped k (Some d) x e n = absurd (cc)
+place_undropped k o x e n = ap (λ (b : Place). b.dropped) (place_next_by_code k o x e n)
 
 pub has_stepped :
     (k m : Known) (t : ℕ) (x : Action) (xs : List Action) → k.view.own ≡ Some t → k.view.holds ≡ false → (own_place k.view).dropped ≡ None →
@@ -96,7 +88,7 @@ pub has_stepped :
 has_stepped k m t x xs own free unrefused left n step =
     record {
       free = step.same.holds ∙ free;
-      unrefused = ap (λ (b : Place). b.dropped) place ∙ place_undropped (own_place k.view).done (own_place k.view).dropped x unrefused n;
+      unrefused = ap (λ (b : Place). b.dropped) place;
       left = (λ i. drop (done i) (actions (step.same.plan i) (task i))) ∙ rest_left (actions k.view.plan (task_of k.view)) (own_place k.view).done x xs left;
       plan = step.same.plan;
       task = task;
@@ -107,11 +99,12 @@ has_stepped k m t x xs own free unrefused left n step =
     task : task_of m.view ≡ task_of k.view
     task = ap (λ o. unwrap_or o 0) step.same.own
 
-    place : own_place m.view ≡ next_place (own_place k.view).done (own_place k.view).dropped x
-    place = ap (seen m.view).places task ∙ ap (λ (s : SeenBy). s.places (task_of k.view)) step.seen_now ∙ moved_here (task_of k.view) x (seen k.view)
+    place : own_place m.view ≡ record { done = suc (own_place k.view).done; dropped = None }
+    place = ap (seen m.view).places task ∙ ap (λ (s : SeenBy). s.places (task_of k.view)) step.seen_now ∙ moved_here (task_of k.view) x (seen k.view) ∙
+        place_next_by_code (own_place k.view).done (own_place k.view).dropped x unrefused n
 
     done : (own_place m.view).done ≡ suc (own_place k.view).done
-    done = ap (λ (b : Place). b.done) place ∙ place_made (own_place k.view).done (own_place k.view).dropped x unrefused n
+    done = ap (λ (b : Place). b.done) place
 
 -- these ops are left then, after all steps but a block
 pub left_then : (k m : Known) (x : Action) (ops : List Op) → HasStepped k m x (actions_of ops) → ((aim : Aim) → x ≢ Blocks aim) → HasLeft ops m

@@ -1,4 +1,5 @@
 -- Why the functions do what their contracts say.
+pub mod NotedInTurn
 pub mod Noting
 pub mod NotingOps
 pub mod Keywords

@@ -1,19 +1,17 @@
 -- What is noted of comings, one after the other.
-use Rattle.std.proofs.Common.{◌≡◌, ℕ, suc, ◌+◌, ◌<◌, ◌≤◌, List, [], ◌∷◌, ◌++◌, length, drop, get_or, sym, ap, ◌∙◌, arith, append_assoc, append-nil}
+use Rattle.std.proofs.Common.{◌≡◌, ℕ, ◌+◌, List, [], ◌∷◌, ◌++◌, refl, sym, ap, ◌∙◌, append_assoc, append-nil}
 use Rattle.std.specs.Prelude.{Err, Ok, OnOk, Result}
 use Rattle.std.proofs.lemmas.Grind.{flat_map-append}
-use Rattle.std.proofs.lemmas.List.{drop_all}
 use Rattle.armus_base.specs.Pieces.{times}
 use Rattle.clock_syntax.specs.declared.tree.ClockStmt.{ClockStmt}
 use Rattle.clock_syntax.specs.declared.tree.ClockStmt.TheVariants as s
-use Rattle.clock_syntax.specs.Trees.{ClockTree, clock_count, done}
-use Rattle.clock_syntax.specs.calls.Bodies.{clock_followed_by, clock_tree_of}
-use Rattle.clock_syntax.proofs.ClockParts.{clock_counts}
+use Rattle.clock_syntax.specs.Trees.{ClockTree, done}
+use Rattle.clock_syntax.specs.calls.Bodies.{clock_followed_by}
 use Rattle.clock_moves.specs.Unfolding.{ClockComing, a_close, a_finish, a_turn, an_async, coming, comings_of}
-use Rattle.clock_moves.proofs.NextComings.{next_comings_of, times_more}
 use Rattle.clock_origins.specs.ClockOrigins.{StartedActivity, MadeThing, made_thing_at, things_in, wait_at, waits_in}
 use Rattle.clock_origins.specs.calls.Begun.{begun_at, begun_in}
 use Rattle.clock_origins.specs.inside.Notes.{NotesValue, noted, noted_all}
+use Rattle.clock_origins.proofs.NotedInTurn.{InTurn}
 
 same_notes :
     (a a' : List StartedActivity) (b b' : List MadeThing) (c c' : List ℕ) → a ≡ a' → b ≡ b' → c ≡ c' →
@@ -64,57 +62,6 @@ pub noted_loop : (n turns : ℕ) (body : ClockTree) (k : NotesValue) →
     noted_all (times turns (coming n a_turn ∷ comings_of (n + 1) body)) k ≡ noted_all (comings_of n (clock_followed_by (s.Loop turns body) done)) k
 noted_loop n turns body k = ap (λ ms. noted_all ms k) (sym (append-nil (times turns (coming n a_turn ∷ comings_of (n + 1) body))))
 
--- ---- turns
-
-module _ (n : ℕ) (body : ClockTree) (old : NotesValue) where
-  abbrev pub TurnsNoted : ℕ → NotesValue → Type 0
-  TurnsNoted i out = out ≡ noted_all (times i (coming n a_turn ∷ comings_of (n + 1) body)) old
-
-  pub no_turn : TurnsNoted 0 old
-  no_turn = sym (noted_none old)
-
-  pub turn_noted : (i : ℕ) (out next : NotesValue) → TurnsNoted i out → next ≡ noted_all (comings_of (n + 1) body) out → TurnsNoted (i + 1) next
-  turn_noted i out next so e =
-      let turn = coming n a_turn ∷ comings_of (n + 1) body in
-      e ∙ ap (noted_all (comings_of (n + 1) body)) so
-      ∙ sym (noted_all-append (times i turn) turn old)
-      ∙ ap (λ ms. noted_all ms old) (times_more i turn)
-      ∙ ap (λ m. noted_all (times m turn) old) (let q : suc i ≡ i + 1 = omega arith in q)
-
--- ---- bodies
-
--- what is noted so far, and what the statements from the j-th on do, is what the body does; and the statements left have numbers of 32 bits
-pub record NotedSoFar (items : List ClockStmt) (j : ℕ) (body : ClockTree) (n at : ℕ) (old out : NotesValue) : Type 0 where
-  pub from : n ≤ at
-  pub numbers : at + clock_count (clock_tree_of (drop j items)) ≡ n + clock_count body
-  pub so_far : noted_all (comings_of at (clock_tree_of (drop j items))) out ≡ noted_all (comings_of n body) old
-
-pub noted_start : (items : List ClockStmt) (body : ClockTree) (n : ℕ) (old : NotesValue) → clock_tree_of items ≡ body → NotedSoFar items 0 body n n old old
-noted_start items body n old e = record { from = omega arith; numbers = ap (λ b. n + clock_count b) e; so_far = ap (λ b. noted_all (comings_of n b) old) e }
-
-module _ (items : List ClockStmt) (j : ℕ) (body : ClockTree) (n at : ℕ) (old out : NotesValue) (q : ClockStmt) (lt : j < length items) (is : q ≡ get_or items j q)
-    (h : NotedSoFar items j body n at old out) where
-  pub noted_within : at + clock_count (clock_followed_by q done) ≤ n + clock_count body
-  noted_within = omega (arith, h.numbers, clock_counts items j q lt is)
-
-  pub noted_fewer : clock_count (clock_followed_by q done) ≤ clock_count body
-  noted_fewer = omega (arith, h.from, h.numbers, clock_counts items j q lt is)
-
-  pub noted_next : (many : ℕ) → many ≡ clock_count (clock_followed_by q done) → (next : NotesValue) → next ≡ noted_all (comings_of at (clock_followed_by q done)) out →
-      NotedSoFar items (j + 1) body n (at + many) old next
-  noted_next many all next e =
-      let behind = comings_of (at + clock_count (clock_followed_by q done)) (clock_tree_of (drop (j + 1) items)) in
-      record {
-        from = (let f = h.from in omega arith);
-        numbers = omega (arith, h.numbers, clock_counts items j q lt is, all);
-        so_far = ap (λ m. noted_all (comings_of (at + m) (clock_tree_of (drop (j + 1) items))) next) all
-            ∙ ap (noted_all behind) e
-            ∙ sym (noted_all-append (comings_of at (clock_followed_by q done)) behind out)
-            ∙ ap (λ ms. noted_all ms out) (sym (next_comings_of items j at q lt is))
-            ∙ h.so_far;
-      }
-
-pub noted_end : (items : List ClockStmt) (j : ℕ) (body : ClockTree) (n at : ℕ) (old out : NotesValue) → length items ≤ j → NotedSoFar items j body n at old out →
-    out ≡ noted_all (comings_of n body) old
-noted_end items j body n at old out le h =
-    sym (noted_none out) ∙ ap (λ (ts : List ClockStmt). noted_all (comings_of at (clock_tree_of ts)) out) (sym (drop_all j items le)) ∙ h.so_far
+-- and in turn
+abbrev pub all_notes : InTurn NotesValue
+all_notes = record { noted = noted_all; none = noted_none; append = noted_all-append; turn = λ n ms k. refl }

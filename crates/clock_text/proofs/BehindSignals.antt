@@ -1,5 +1,5 @@
 -- The step behind an advance's signal, and a drop.
-use Rattle.std.proofs.Common.{◌≡◌, ◌≢◌, ℕ, Bool, true, false, Option, Some, None, List, [], ◌∷◌, arith, sym, ◌∙◌, ap, subst, refl, ◌⊎◌, inl, inr}
+use Rattle.std.proofs.Common.{◌≡◌, ◌≢◌, ℕ, Bool, true, false, Option, Some, None, List, ◌∷◌, arith, sym, ◌∙◌, ap, subst, refl, ◌⊎◌, inl, inr}
 use Rattle.std.specs.Str.{bytes_eq}
 use Rattle.std.specs.Prelude.{◌&&◌, ◌==◌, if◌then◌else◌, is_some}
 use Rattle.clock_machine.specs.calls.Direct.{ClockState, departing, forgetting, going}
@@ -8,11 +8,10 @@ use Rattle.clock_moves.specs.Unfolding.{ClockNames, ClockUnfolding}
 use Rattle.clock_text.specs.calls.ProgramPoints.{ProgramPoint}
 use Rattle.clock_text.specs.TextMachine.{Acting, Activity, Clock, Continuation, Made, TextState, departs, goes_to, is_made, is_there, left_by, remembering, with_clock}
 use Rattle.clock_text.specs.TextNumbers.{IsActivityIn, made_in, number_in}
-use Rattle.clock_text.proofs.Changing.{acts_other, acts_own, changed, clock_entry, phase_same, remember_entry}
-use Rattle.clock_text.proofs.Corresponding.{ActsAs, Corresponds, Finishes, Fits, IsClock, Knows, bottom, registered, target_at}
+use Rattle.clock_text.proofs.Changing.{acts_other, acts_own, clock_entry, phase_same, remember_entry}
+use Rattle.clock_text.proofs.Corresponding.{Corresponds, Finishes, Fits, IsClock, Knows, bottom, registered, target_at}
 use Rattle.clock_text.proofs.Makes.{Makes}
-use Rattle.clock_text.proofs.OnOneClock.{inside, left_other, left_own, less, lists_less, made_kept}
-use Rattle.clock_text.proofs.Stepped.{done_more}
+use Rattle.clock_text.proofs.OnOneClock.{inside, less, lists_acting, lists_less, made_kept, moves_by}
 use Rattle.clock_text.proofs.Tables.{HaveNames, entry_agrees, in_without, bytes_itself, is_in, made_itself, other_bytes, same_made}
 
 module _ (u : ClockUnfolding) (names : HaveNames u) (s : TextState) (m : ClockState) (h : Corresponds u s m) (a : Activity) (there : is_there s a ≡ true)
@@ -69,45 +68,33 @@ module _ (u : ClockUnfolding) (names : HaveNames u) (s : TextState) (m : ClockSt
         let v = goes_to a d w in
         let own : v.acting a ≡ y = acts_own a (record (w.acting a) { rest = d }) w ∙ ap (λ (z : Acting). record z { rest = d }) (acts_own a forgotten s) in
         let other : (b : Activity) → b ≢ a → v.acting b ≡ s.acting b = λ b n. acts_other a (record (w.acting a) { rest = d }) w b n ∙ acts_other a forgotten s b n in
-        let n = going t ms (forgetting t (made_in u p) m) in
-        changed u names s m h a there v n
+        moves_by u names s m h a there v y (advances (made_in u p)) ms (forgetting t (made_in u p) m) refl own other refl
         (record {
-          tells = record {
-            phase = h.tells.phase;
-            enrolled = h.tells.enrolled;
-            unsignalled = h.tells.unsignalled;
-            open_set = h.tells.open_set;
-            remembers =
-                entry_agrees u names (λ q b. (s.acting b).remembers q) (λ q b. (v.acting b).remembers q) m.remembered p a None clock.0 here
-                (remember_entry s v a y p None own other (λ q. refl)) h.tells.remembers;
-            started = h.tells.started;
-          };
-          same_there = refl;
-          other_acts = other;
-          other_left = λ b is e. left_other u names a b ms m here is e;
-          lists =
-              lists_less u names s m h a there v (λ q b e. e) (λ q b e. e) (λ q b e. refl) refl (made_kept u names s m h a there v y own other (omega arith))
-              (ap (λ (z : Acting). bottom u z.rest) own ∙ bottoms ∙ ap (bottom u) (sym rest_is));
-          started = omega (arith, ap (λ (z : Acting). z.started) own);
-          own =
-              subst (λ z. ActsAs u t z (n.left t) (registered u v a)) (sym own)
-              (subst (λ zs. ActsAs u t y zs (registered u v a)) (sym (left_own u a ms m))
-              (done_more u t x y (m.left t) (advances (made_in u p) ∷ []) ms (registered u s a) (registered u v a) (h.acts a there) (left_is ∙ move) (omega arith) (omega arith)
-              (inr (record {
-                point = at;
-                names = ns;
-                standing = with_pending (made_in u p) false standing;
-                fits = fits;
-                makes = makes;
-                knows = record {
-                  named = knows.named;
-                  clocks = knows.clocks;
-                  members = knows.members;
-                  pending = λ q is differs. pending_now q is (is_made p q) refl (inr target);
-                  finishes = finishes;
-                };
-              }))));
+          phase = h.tells.phase;
+          enrolled = h.tells.enrolled;
+          unsignalled = h.tells.unsignalled;
+          open_set = h.tells.open_set;
+          remembers =
+              entry_agrees u names (λ q b. (s.acting b).remembers q) (λ q b. (v.acting b).remembers q) m.remembered p a None clock.0 here
+              (remember_entry s v a y p None own other (λ q. refl)) h.tells.remembers;
+          started = h.tells.started;
         })
+        (lists_acting u names s m h a there v.acting y own other (omega arith) (bottoms ∙ ap (bottom u) (sym rest_is))) (left_is ∙ move) (omega arith)
+        (omega arith)
+        (inr (record {
+          point = at;
+          names = ns;
+          standing = with_pending (made_in u p) false standing;
+          fits = fits;
+          makes = makes;
+          knows = record {
+            named = knows.named;
+            clocks = knows.clocks;
+            members = knows.members;
+            pending = λ q is differs. pending_now q is (is_made p q) refl (inr target);
+            finishes = finishes;
+          };
+        }))
 
     -- ---- a drop
 
@@ -129,57 +116,47 @@ module _ (u : ClockUnfolding) (names : HaveNames u) (s : TextState) (m : ClockSt
         acts_own a (record (w.acting a) { rest = d }) w ∙ ap (λ (z : Acting). record z { rest = d }) (acts_own a forgotten (with_clock p (left_by a k) s)) in
         let other : (b : Activity) → b ≢ a → v.acting b ≡ s.acting b =
         λ b n. acts_other a (record (w.acting a) { rest = d }) w b n ∙ acts_other a forgotten (with_clock p (left_by a k) s) b n in
-        let n = going t ms (departing t (made_in u p) m) in
-        changed u names s m h a there v n
+        moves_by u names s m h a there v y (drops (made_in u p)) ms (departing t (made_in u p) m) refl own other refl
         (record {
-          tells = record {
-            phase = λ q is. phase_same s p (left_by a k) refl q ∙ h.tells.phase q is;
-            enrolled =
-                entry_agrees u names (λ q b. is_in b (s.clock_of q).enrolled) (λ q b. is_in b (v.clock_of q).enrolled) m.enrolled p a false clock.0 here left_enrolled
-                h.tells.enrolled;
-            unsignalled =
-                entry_agrees u names (λ q b. is_in b (s.clock_of q).unsignalled) (λ q b. is_in b (v.clock_of q).unsignalled) m.unsignalled p a false clock.0 here
-                left_unsignalled h.tells.unsignalled;
-            open_set = h.tells.open_set;
-            remembers =
-                entry_agrees u names (λ q b. (s.acting b).remembers q) (λ q b. (v.acting b).remembers q) m.remembered p a None clock.0 here
-                (remember_entry s v a y p None own other (λ q. refl)) h.tells.remembers;
-            started = h.tells.started;
-          };
-          same_there = refl;
-          other_acts = other;
-          other_left = λ b is e. left_other u names a b ms m here is e;
-          lists =
-              lists_less u names s m h a there v
-              (λ q b e. less (is_made p q && bytes_eq a b) (is_in b (s.clock_of q).enrolled) (sym (left_enrolled q b) ∙ e))
-              (λ q b e. less (is_made p q && bytes_eq a b) (is_in b (s.clock_of q).unsignalled) (sym (left_unsignalled q b) ∙ e))
-              (λ q b e. left_enrolled q b ∙ ap (λ z. if is_made p q && z then false else is_in b (s.clock_of q).enrolled) (other_bytes a b (λ z. e (sym z)))
-              ∙ neither (is_made p q) (is_in b (s.clock_of q).enrolled))
-              refl (made_kept u names s m h a there v y own other (omega arith))
-              (ap (λ (z : Acting). bottom u z.rest) own ∙ bottoms ∙ ap (bottom u) (sym rest_is));
-          started = omega (arith, ap (λ (z : Acting). z.started) own);
-          own =
-              subst (λ z. ActsAs u t z (n.left t) (registered u v a)) (sym own)
-              (subst (λ zs. ActsAs u t y zs (registered u v a)) (sym (left_own u a ms m))
-              (done_more u t x y (m.left t) (drops (made_in u p) ∷ []) ms (registered u s a) (registered u v a) (h.acts a there) (left_is ∙ move) (omega arith) (omega arith)
-              (inr (record {
-                point = at;
-                names = ns;
-                standing = unregistered_from (made_in u p) standing;
-                fits = fits;
-                makes = makes;
-                knows = record {
-                  named = knows.named;
-                  clocks = knows.clocks;
-                  members = λ q is.
-                      ap (λ b. if made_in u q == made_in u p then false else b) (knows.members q is)
-                      ∙ ap (λ b. if b then false else registered u s a q) (sym (same_made u names p q clock.0 is.0))
-                      ∙ own_entry (is_made p q) (is_in a (s.clock_of q).enrolled) ∙ sym (left_enrolled q a);
-                  pending = λ q is differs. pending_now q is (is_made p q) refl (inl none);
-                  finishes = finishes;
-                };
-              }))));
+          phase = λ q is. phase_same s p (left_by a k) refl q ∙ h.tells.phase q is;
+          enrolled =
+              entry_agrees u names (λ q b. is_in b (s.clock_of q).enrolled) (λ q b. is_in b (v.clock_of q).enrolled) m.enrolled p a false clock.0 here
+              left_enrolled
+              h.tells.enrolled;
+          unsignalled =
+              entry_agrees u names (λ q b. is_in b (s.clock_of q).unsignalled) (λ q b. is_in b (v.clock_of q).unsignalled) m.unsignalled p a false clock.0 here
+              left_unsignalled h.tells.unsignalled;
+          open_set = h.tells.open_set;
+          remembers =
+              entry_agrees u names (λ q b. (s.acting b).remembers q) (λ q b. (v.acting b).remembers q) m.remembered p a None clock.0 here
+              (remember_entry s v a y p None own other (λ q. refl)) h.tells.remembers;
+          started = h.tells.started;
         })
+        (lists_less u names s m h a there v
+        (λ q b e. less (is_made p q && bytes_eq a b) (is_in b (s.clock_of q).enrolled) (sym (left_enrolled q b) ∙ e))
+        (λ q b e. less (is_made p q && bytes_eq a b) (is_in b (s.clock_of q).unsignalled) (sym (left_unsignalled q b) ∙ e))
+        (λ q b e. left_enrolled q b ∙ ap (λ z. if is_made p q && z then false else is_in b (s.clock_of q).enrolled) (other_bytes a b (λ z. e (sym z)))
+        ∙ neither (is_made p q) (is_in b (s.clock_of q).enrolled))
+        refl (made_kept u names s m h a there v y own other (omega arith))
+        (ap (λ (z : Acting). bottom u z.rest) own ∙ bottoms ∙ ap (bottom u) (sym rest_is)))
+        (left_is ∙ move) (omega arith) (omega arith)
+        (inr (record {
+          point = at;
+          names = ns;
+          standing = unregistered_from (made_in u p) standing;
+          fits = fits;
+          makes = makes;
+          knows = record {
+            named = knows.named;
+            clocks = knows.clocks;
+            members = λ q is.
+                ap (λ b. if made_in u q == made_in u p then false else b) (knows.members q is)
+                ∙ ap (λ b. if b then false else registered u s a q) (sym (same_made u names p q clock.0 is.0))
+                ∙ own_entry (is_made p q) (is_in a (s.clock_of q).enrolled) ∙ sym (left_enrolled q a);
+            pending = λ q is differs. pending_now q is (is_made p q) refl (inl none);
+            finishes = finishes;
+          };
+        }))
       where
         neither : (b o : Bool) → (if b && false then false else o) ≡ o
         neither true o = refl

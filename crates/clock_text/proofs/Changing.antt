@@ -104,6 +104,23 @@ module _ (u : ClockUnfolding) (names : HaveNames u) (s : TextState) (m : ClockSt
         (is_in b (r.clock_of p).enrolled ≡ false) × (is_in b (r.clock_of p).unsignalled ≡ false)
     pub bottom_same : (p : Made) → is_in a (r.open_set p) ≡ true → bottom u (r.acting a).rest ≡ bottom u (s.acting a).rest
 
+  -- the tables are the same where the actor alone has changed, and remembers the same
+  pub tells_acting :
+      (acting : Activity → Acting) (y : Acting) → acting a ≡ y → ((b : Activity) → b ≢ a → acting b ≡ s.acting b) →
+      ((q : Made) → y.remembers q ≡ (s.acting a).remembers q) →
+      Tells u (record s { acting = acting }) m
+  tells_acting acting y own other same =
+      record {
+        phase = h.tells.phase;
+        enrolled = h.tells.enrolled;
+        unsignalled = h.tells.unsignalled;
+        open_set = h.tells.open_set;
+        remembers =
+            agrees_same u (λ q b. (s.acting b).remembers q) (λ q b. (acting b).remembers q) m.remembered
+            (remember_same s (record s { acting = acting }) a y own other same) h.tells.remembers;
+        started = h.tells.started;
+      }
+
   -- where activity a acts, these are the states behind
   pub record Changes (r : TextState) (n : ClockState) : Type 0 where
     pub tells : Tells u r n

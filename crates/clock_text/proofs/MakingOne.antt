@@ -11,12 +11,11 @@ use Rattle.clock_moves.specs.Unfolding.{ClockNames, ClockUnfolding}
 use Rattle.clock_text.specs.calls.ProgramPoints.{ProgramPoint}
 use Rattle.clock_text.specs.TextMachine.{Acting, Activity, Clock, Continuation, Made, TextState, goes_to, is_made, is_there, opens_clock, next_made, with_clock}
 use Rattle.clock_text.specs.TextNumbers.{IsActivityIn, IsMadeIn, made_in, number_in}
-use Rattle.clock_text.proofs.Changing.{acts_other, acts_own, agrees_same, changed, clock_entry, remember_same, this_or_other}
-use Rattle.clock_text.proofs.Corresponding.{ActsAs, Corresponds, Finishes, Fits, IsClock, Knows, Tells, bottom, is_clock, registered, target_at}
+use Rattle.clock_text.proofs.Changing.{acts_other, acts_own, agrees_same, clock_entry, remember_same, this_or_other}
+use Rattle.clock_text.proofs.Corresponding.{Corresponds, Finishes, Fits, IsClock, Knows, Tells, bottom, is_clock, registered, target_at}
 use Rattle.clock_text.proofs.Makes.{Makes}
 use Rattle.clock_text.proofs.NextNames.{next_is_made, next_kind, next_number}
-use Rattle.clock_text.proofs.OnOneClock.{inside, left_other, left_own}
-use Rattle.clock_text.proofs.Stepped.{done_more}
+use Rattle.clock_text.proofs.OnOneClock.{inside, moves_by}
 use Rattle.clock_text.proofs.Tables.{HaveNames, bytes_itself, entry_agrees, in_more, is_in, other_bytes, other_made, same_made}
 
 module _ (u : ClockUnfolding) (names : HaveNames u) (s : TextState) (m : ClockState) (h : Corresponds u s m) (a : Activity) (there : is_there s a ≡ true)
@@ -140,57 +139,40 @@ module _ (u : ClockUnfolding) (names : HaveNames u) (s : TextState) (m : ClockSt
 
     pub opens_now : Corresponds u v (going t ms (opening_clock t (made_in u p) m))
     opens_now =
-        let n = going t ms (opening_clock t (made_in u p) m) in
-        let told = tells_open in
-        changed u names s m h a there v n
+        moves_by u names s m h a there v named_so (opens q) ms (opening_clock t (made_in u p) m) refl own other refl tells_open
         (record {
-          tells = record {
-            phase = told.phase;
-            enrolled = told.enrolled;
-            unsignalled = told.unsignalled;
-            open_set = told.open_set;
-            remembers = told.remembers;
-            started = told.started;
-          };
-          same_there = refl;
-          other_acts = other;
-          other_left = λ b is e. left_other u names a b ms m here is e;
-          lists = record {
-            enrolled_in = λ r b e.
-                elim (gained (is_made p r) (is_in b (s.clock_of r).enrolled) (bytes_eq a b) (sym (new_enrolled r b) ∙ e)) [ inl old ↦ inl old | inr g ↦ inr (actor_is b g) ];
-            unsignalled_in = λ r b e.
-                elim (gained (is_made p r) (is_in b (s.clock_of r).unsignalled) (bytes_eq a b) (sym (new_unsignalled r b) ∙ e)) [ inl old ↦ inl old | inr g ↦ inr (actor_is b g) ];
-            open_in = λ r b e. e;
-            others = λ r b n.
-                new_enrolled r b ∙ ap (λ z. if is_made p r && z then true else is_in b (s.clock_of r).enrolled) (other_bytes a b (λ z. n (sym z)))
-                ∙ neither (is_made p r) (is_in b (s.clock_of r).enrolled);
-            fresh = still_fresh;
-            bottom_same = λ r e. ap (λ (z : Acting). bottom u z.rest) own ∙ bottoms ∙ ap (bottom u) (sym rest_is);
-          };
-          started = omega (arith, ap (λ (z : Acting). z.started) own);
-          own =
-              subst (λ z. ActsAs u t z (n.left t) (registered u v a)) (sym own)
-              (subst (λ zs. ActsAs u t named_so zs (registered u v a)) (sym (left_own u a ms m))
-              (done_more u t x named_so (m.left t) (opens q ∷ []) ms (registered u s a) (registered u v a) (h.acts a there) (left_is ∙ move) (omega arith) (omega arith)
-              (inr (record {
-                point = at;
-                names = λ z. if bytes_eq name z then Some q else ns z;
-                standing = registered_on q standing;
-                fits = fits;
-                makes = makes_on;
-                knows = record {
-                  named = λ z. by_name z (bytes_eq name z);
-                  clocks = λ z r e. by_clock z r (bytes_eq name z) e;
-                  members = λ r is.
-                      ap (λ n. if made_in u r == n then true else standing.members (made_in u r)) (sym number)
-                      ∙ ap (λ b. if b then true else standing.members (made_in u r)) (sym (same_made u names p r made is.0))
-                      ∙ ap (λ b. if is_made p r then true else b) (knows.members r is)
-                      ∙ own_entry (is_made p r) (is_in a (s.clock_of r).enrolled) ∙ sym (new_enrolled r a);
-                  pending = λ r is differs. knows.pending r is (λ e. absurd (let z = sym target ∙ e in cc));
-                  finishes = finishes;
-                };
-              }))));
+          enrolled_in = λ r b e.
+              elim (gained (is_made p r) (is_in b (s.clock_of r).enrolled) (bytes_eq a b) (sym (new_enrolled r b) ∙ e))
+              [ inl old ↦ inl old | inr g ↦ inr (actor_is b g) ];
+          unsignalled_in = λ r b e.
+              elim (gained (is_made p r) (is_in b (s.clock_of r).unsignalled) (bytes_eq a b) (sym (new_unsignalled r b) ∙ e))
+              [ inl old ↦ inl old | inr g ↦ inr (actor_is b g) ];
+          open_in = λ r b e. e;
+          others = λ r b n.
+              new_enrolled r b ∙ ap (λ z. if is_made p r && z then true else is_in b (s.clock_of r).enrolled) (other_bytes a b (λ z. n (sym z)))
+              ∙ neither (is_made p r) (is_in b (s.clock_of r).enrolled);
+          fresh = still_fresh;
+          bottom_same = λ r e. ap (λ (z : Acting). bottom u z.rest) own ∙ bottoms ∙ ap (bottom u) (sym rest_is);
         })
+        (left_is ∙ move) (omega arith) (omega arith)
+        (inr (record {
+          point = at;
+          names = λ z. if bytes_eq name z then Some q else ns z;
+          standing = registered_on q standing;
+          fits = fits;
+          makes = makes_on;
+          knows = record {
+            named = λ z. by_name z (bytes_eq name z);
+            clocks = λ z r e. by_clock z r (bytes_eq name z) e;
+            members = λ r is.
+                ap (λ n. if made_in u r == n then true else standing.members (made_in u r)) (sym number)
+                ∙ ap (λ b. if b then true else standing.members (made_in u r)) (sym (same_made u names p r made is.0))
+                ∙ ap (λ b. if is_made p r then true else b) (knows.members r is)
+                ∙ own_entry (is_made p r) (is_in a (s.clock_of r).enrolled) ∙ sym (new_enrolled r a);
+            pending = λ r is differs. knows.pending r is (λ e. absurd (let z = sym target ∙ e in cc));
+            finishes = finishes;
+          };
+        }))
       where
         neither : (b o : Bool) → (if b && false then true else o) ≡ o
         neither true o = refl

@@ -9,12 +9,11 @@ use Rattle.clock_moves.specs.Unfolding.{ClockNames, ClockUnfolding}
 use Rattle.clock_text.specs.calls.ProgramPoints.{ProgramPoint}
 use Rattle.clock_text.specs.TextMachine.{Acting, Activity, Clock, Continuation, Made, TextState, departs_from_all, goes_to, is_made, is_there, leaves, left_by, has_made, next_made, over, with_open_set, without_activity}
 use Rattle.clock_text.specs.TextNumbers.{IsActivityIn, made_in, number_in}
-use Rattle.clock_text.proofs.Changing.{acts_other, acts_own, agrees_same, changed, remember_same}
-use Rattle.clock_text.proofs.Corresponding.{ActsAs, Corresponds, Finishes, Fits, IsClock, IsFinish, Knows, bottom, is_clock, registered, target_at}
+use Rattle.clock_text.proofs.Changing.{acts_other, acts_own, tells_acting}
+use Rattle.clock_text.proofs.Corresponding.{Corresponds, Finishes, Fits, IsClock, IsFinish, Knows, bottom, is_clock, registered, target_at}
 use Rattle.clock_text.proofs.Makes.{Makes}
 use Rattle.clock_text.proofs.NextNames.{next_is_made, next_kind, next_number}
-use Rattle.clock_text.proofs.OnOneClock.{inside, left_other, left_own, less, lists_less, made_kept}
-use Rattle.clock_text.proofs.Stepped.{done_more}
+use Rattle.clock_text.proofs.OnOneClock.{inside, less, lists_acting, made_kept, moves_by}
 use Rattle.clock_text.proofs.Tables.{HaveNames, bytes_itself, column_agrees, in_without, is_in, made_itself, made_same, other_bytes, other_made, same_bytes, same_made}
 
 module _ (u : ClockUnfolding) (names : HaveNames u) (s : TextState) (m : ClockState) (h : Corresponds u s m) (a : Activity) (there : is_there s a ≡ true)
@@ -59,48 +58,25 @@ module _ (u : ClockUnfolding) (names : HaveNames u) (s : TextState) (m : ClockSt
           let own : v.acting a ≡ y = acts_own a (record (w.acting a) { rest = d }) w ∙ ap (λ (z : Acting). record z { rest = d }) (acts_own a (record x { made = x.made + 1 }) s) in
           let other : (b : Activity) → b ≢ a → v.acting b ≡ s.acting b =
           λ b n. acts_other a (record (w.acting a) { rest = d }) w b n ∙ acts_other a (record x { made = x.made + 1 }) s b n in
-          let n = going t ms m in
-          changed u names s m h a there v n
-          (record {
-            tells = record {
-              phase = h.tells.phase;
-              enrolled = h.tells.enrolled;
-              unsignalled = h.tells.unsignalled;
-              open_set = h.tells.open_set;
-              remembers =
-                  agrees_same u (λ r b. (s.acting b).remembers r) (λ r b. (v.acting b).remembers r) m.remembered (remember_same s v a y own other (λ r. refl))
-                  h.tells.remembers;
-              started = h.tells.started;
+          moves_by u names s m h a there v y (begins q) ms m refl own other refl (tells_acting u names s m h a there v.acting y own other (λ r. refl))
+          (lists_acting u names s m h a there v.acting y own other (omega arith) (bottoms ∙ ap (bottom u) (sym rest_is))) (left_is ∙ move) (omega arith)
+          (omega arith)
+          (inr (record {
+            point = at;
+            names = ns;
+            standing = registered_on q standing;
+            fits = fits;
+            makes = makes_on;
+            knows = record {
+              named = knows.named;
+              clocks = knows.clocks;
+              members = λ r is.
+                  ap (λ k. if made_in u r == k then true else standing.members (made_in u r)) (sym begun_number)
+                  ∙ ap (λ b. if b then true else standing.members (made_in u r)) (apart r f is finish) ∙ knows.members r is;
+              pending = λ r is differs. knows.pending r is (λ e. absurd (let z = sym target ∙ e in cc));
+              finishes = finishes finish;
             };
-            same_there = refl;
-            other_acts = other;
-            other_left = λ b is e. left_other u names a b ms m here is e;
-            lists =
-                lists_less u names s m h a there v (λ r b e. e) (λ r b e. e) (λ r b e. refl) refl
-                (made_kept u names s m h a there v y own other (omega arith))
-                (ap (λ (z : Acting). bottom u z.rest) own ∙ bottoms ∙ ap (bottom u) (sym rest_is));
-            started = omega (arith, ap (λ (z : Acting). z.started) own);
-            own =
-                subst (λ z. ActsAs u t z (n.left t) (registered u v a)) (sym own)
-                (subst (λ zs. ActsAs u t y zs (registered u v a)) (sym (left_own u a ms m))
-                (done_more u t x y (m.left t) (begins q ∷ []) ms (registered u s a) (registered u v a) (h.acts a there) (left_is ∙ move) (omega arith) (omega arith)
-                (inr (record {
-                  point = at;
-                  names = ns;
-                  standing = registered_on q standing;
-                  fits = fits;
-                  makes = makes_on;
-                  knows = record {
-                    named = knows.named;
-                    clocks = knows.clocks;
-                    members = λ r is.
-                        ap (λ k. if made_in u r == k then true else standing.members (made_in u r)) (sym begun_number)
-                        ∙ ap (λ b. if b then true else standing.members (made_in u r)) (apart r f is finish) ∙ knows.members r is;
-                    pending = λ r is differs. knows.pending r is (λ e. absurd (let z = sym target ∙ e in cc));
-                    finishes = finishes finish;
-                  };
-                }))));
-          })
+          }))
 
     -- ---- a finish ends
 
@@ -112,46 +88,25 @@ module _ (u : ClockUnfolding) (names : HaveNames u) (s : TextState) (m : ClockSt
         let y : Acting = record x { rest = d } in
         let own : v.acting a ≡ y = acts_own a y s in
         let other = acts_other a y s in
-        let n = going t ms m in
-        changed u names s m h a there v n
-        (record {
-          tells = record {
-            phase = h.tells.phase;
-            enrolled = h.tells.enrolled;
-            unsignalled = h.tells.unsignalled;
-            open_set = h.tells.open_set;
-            remembers =
-                agrees_same u (λ r b. (s.acting b).remembers r) (λ r b. (v.acting b).remembers r) m.remembered (remember_same s v a y own other (λ r. refl)) h.tells.remembers;
-            started = h.tells.started;
+        moves_by u names s m h a there v y (ends (made_in u f)) ms m refl own other refl (tells_acting u names s m h a there v.acting y own other (λ r. refl))
+        (lists_acting u names s m h a there v.acting y own other (omega arith) (bottoms ∙ ap (bottom u) (sym rest_is))) (left_is ∙ move) (omega arith)
+        (omega arith)
+        (inr (record {
+          point = at;
+          names = ns;
+          standing = unregistered_from (made_in u f) standing;
+          fits = fits;
+          makes = makes_on;
+          knows = record {
+            named = knows.named;
+            clocks = knows.clocks;
+            members = λ r is. ap (λ b. if b then false else standing.members (made_in u r)) (apart r f is finish) ∙ knows.members r is;
+            pending = λ r is differs.
+                ap (λ b. if b then false else standing.pending (made_in u r)) (apart r f is finish)
+                ∙ knows.pending r is (λ e. absurd (let z = sym target ∙ e in cc));
+            finishes = finishes;
           };
-          same_there = refl;
-          other_acts = other;
-          other_left = λ b is e. left_other u names a b ms m here is e;
-          lists =
-              lists_less u names s m h a there v (λ r b e. e) (λ r b e. e) (λ r b e. refl) refl (made_kept u names s m h a there v y own other (omega arith))
-              (ap (λ (z : Acting). bottom u z.rest) own ∙ bottoms ∙ ap (bottom u) (sym rest_is));
-          started = omega (arith, ap (λ (z : Acting). z.started) own);
-          own =
-              subst (λ z. ActsAs u t z (n.left t) (registered u v a)) (sym own)
-              (subst (λ zs. ActsAs u t y zs (registered u v a)) (sym (left_own u a ms m))
-              (done_more u t x y (m.left t) (ends (made_in u f) ∷ []) ms (registered u s a) (registered u v a) (h.acts a there) (left_is ∙ move) (omega arith) (omega arith)
-              (inr (record {
-                point = at;
-                names = ns;
-                standing = unregistered_from (made_in u f) standing;
-                fits = fits;
-                makes = makes_on;
-                knows = record {
-                  named = knows.named;
-                  clocks = knows.clocks;
-                  members = λ r is. ap (λ b. if b then false else standing.members (made_in u r)) (apart r f is finish) ∙ knows.members r is;
-                  pending = λ r is differs.
-                      ap (λ b. if b then false else standing.pending (made_in u r)) (apart r f is finish)
-                      ∙ knows.pending r is (λ e. absurd (let z = sym target ∙ e in cc));
-                  finishes = finishes;
-                };
-              }))));
-        })
+        }))
 
   -- ---- an activity ends
 
@@ -243,45 +198,37 @@ module _ (u : ClockUnfolding) (names : HaveNames u) (s : TextState) (m : ClockSt
 
     pub stops_now : Corresponds u v (going t [] (departing_all t m))
     stops_now =
-        let n = going t [] (departing_all t m) in
-        changed u names s m h a there v n
+        moves_by u names s m h a there v gone (stops ps) [] (departing_all t m) refl own other (same_there f w)
         (record {
-          tells = record {
-            phase = λ q is. ap (λ (k : Clock). k.phase) (clock_is q) ∙ h.tells.phase q is;
-            enrolled =
-                column_agrees u names (λ q b. is_in b (s.clock_of q).enrolled) (λ q b. is_in b (v.clock_of q).enrolled) m.enrolled a false here left_enrolled h.tells.enrolled;
-            unsignalled =
-                column_agrees u names (λ q b. is_in b (s.clock_of q).unsignalled) (λ q b. is_in b (v.clock_of q).unsignalled) m.unsignalled a false here left_unsignalled
-                h.tells.unsignalled;
-            open_set = column_agrees u names (λ q b. is_in b (s.open_set q)) (λ q b. is_in b (v.open_set q)) m.open_set a false here left_open h.tells.open_set;
-            remembers =
-                column_agrees u names (λ q b. (s.acting b).remembers q) (λ q b. (v.acting b).remembers q) m.remembered a None here none_remembered h.tells.remembers;
-            started = λ b is. ap (λ xs. is_in b xs) (same_there f w) ∙ h.tells.started b is;
-          };
-          same_there = same_there f w;
-          other_acts = other;
-          other_left = λ b is e. left_other u names a b [] m here is e;
-          lists = record {
-            enrolled_in = λ q b e. inl (less (bytes_eq a b) (is_in b (s.clock_of q).enrolled) (sym (left_enrolled q b) ∙ e));
-            unsignalled_in = λ q b e. inl (less (bytes_eq a b) (is_in b (s.clock_of q).unsignalled) (sym (left_unsignalled q b) ∙ e));
-            open_in = λ q b e. less (bytes_eq a b) (is_in b (s.open_set q)) (sym (left_open q b) ∙ e);
-            others = λ q b e. left_enrolled q b ∙ ap (λ k. if k then false else is_in b (s.clock_of q).enrolled) (other_bytes a b (λ k. e (sym k)));
-            fresh = λ q b l.
-                let before = h.holds.fresh q b (omega (arith, l, made_kept u names s m h a there v gone own other (omega arith) q.maker)) in (
-                  left_enrolled q b ∙ gone_too (bytes_eq a b) (is_in b (s.clock_of q).enrolled) before.0,
-                  left_unsignalled q b ∙ gone_too (bytes_eq a b) (is_in b (s.clock_of q).unsignalled) before.1,
-                );
-            bottom_same = λ q e.
-                absurd (let none = sym (left_open q a) ∙ e in
-                let itself = ap (λ k. if k then false else is_in a (s.open_set q)) (bytes_itself a) in false≢true (sym itself ∙ none));
-          };
-          started = omega (arith, ap (λ (k : Acting). k.started) own);
-          own =
-              subst (λ k. ActsAs u t k (n.left t) (registered u v a)) (sym own)
-              (subst (λ zs. ActsAs u t gone zs (registered u v a)) (sym (left_own u a [] m))
-              (done_more u t x gone (m.left t) (stops ps ∷ []) [] (registered u s a) (registered u v a) (h.acts a there) (left_is ∙ move) (omega arith) (omega arith)
-              (inl (refl, refl))));
+          phase = λ q is. ap (λ (k : Clock). k.phase) (clock_is q) ∙ h.tells.phase q is;
+          enrolled =
+              column_agrees u names (λ q b. is_in b (s.clock_of q).enrolled) (λ q b. is_in b (v.clock_of q).enrolled) m.enrolled a false here left_enrolled
+              h.tells.enrolled;
+          unsignalled =
+              column_agrees u names (λ q b. is_in b (s.clock_of q).unsignalled) (λ q b. is_in b (v.clock_of q).unsignalled) m.unsignalled a false here
+              left_unsignalled
+              h.tells.unsignalled;
+          open_set = column_agrees u names (λ q b. is_in b (s.open_set q)) (λ q b. is_in b (v.open_set q)) m.open_set a false here left_open h.tells.open_set;
+          remembers =
+              column_agrees u names (λ q b. (s.acting b).remembers q) (λ q b. (v.acting b).remembers q) m.remembered a None here none_remembered
+              h.tells.remembers;
+          started = λ b is. ap (λ xs. is_in b xs) (same_there f w) ∙ h.tells.started b is;
         })
+        (record {
+          enrolled_in = λ q b e. inl (less (bytes_eq a b) (is_in b (s.clock_of q).enrolled) (sym (left_enrolled q b) ∙ e));
+          unsignalled_in = λ q b e. inl (less (bytes_eq a b) (is_in b (s.clock_of q).unsignalled) (sym (left_unsignalled q b) ∙ e));
+          open_in = λ q b e. less (bytes_eq a b) (is_in b (s.open_set q)) (sym (left_open q b) ∙ e);
+          others = λ q b e. left_enrolled q b ∙ ap (λ k. if k then false else is_in b (s.clock_of q).enrolled) (other_bytes a b (λ k. e (sym k)));
+          fresh = λ q b l.
+              let before = h.holds.fresh q b (omega (arith, l, made_kept u names s m h a there v gone own other (omega arith) q.maker)) in (
+                left_enrolled q b ∙ gone_too (bytes_eq a b) (is_in b (s.clock_of q).enrolled) before.0,
+                left_unsignalled q b ∙ gone_too (bytes_eq a b) (is_in b (s.clock_of q).unsignalled) before.1,
+              );
+          bottom_same = λ q e.
+              absurd (let none = sym (left_open q a) ∙ e in
+              let itself = ap (λ k. if k then false else is_in a (s.open_set q)) (bytes_itself a) in false≢true (sym itself ∙ none));
+        })
+        (left_is ∙ move) (omega arith) (omega arith) (inl (refl, refl))
       where
         gone_too : (k o : Bool) → o ≡ false → (if k then false else o) ≡ false
         gone_too true o e = refl

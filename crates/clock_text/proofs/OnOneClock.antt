@@ -1,5 +1,5 @@
 -- Steps on one clock: a signal, the step behind it, a resume and a drop.
-use Rattle.std.proofs.Common.{◌≡◌, ◌≢◌, ℕ, ◌≤◌, Bool, true, false, Option, Some, None, List, [], ◌∷◌, arith, sym, ◌∙◌, ap, subst, refl, inl, inr}
+use Rattle.std.proofs.Common.{◌≡◌, ◌≢◌, ℕ, ◌+◌, ◌≤◌, Bool, true, false, Option, Some, None, List, [], ◌∷◌, arith, sym, ◌∙◌, ap, subst, refl, ◌⊎◌, inl, inr, length}
 use Rattle.std.specs.Str.{bytes_eq}
 use Rattle.std.specs.Prelude.{◌&&◌, ◌==◌, if◌then◌else◌, is_some}
 use Rattle.std.proofs.lemmas.Bool.{eq-eqb, false≢true}
@@ -7,8 +7,8 @@ use Rattle.clock_machine.specs.calls.Direct.{ClockState, going, signalling, with
 use Rattle.clock_moves.specs.Moves.{Move, Standing, resumes, with_pending}
 use Rattle.clock_moves.specs.Unfolding.{ClockNames, ClockUnfolding}
 use Rattle.clock_text.specs.calls.ProgramPoints.{ProgramPoint}
-use Rattle.clock_text.specs.TextMachine.{Acting, Activity, Clock, Continuation, Made, TextState, goes_to, is_made, is_there, signalled_by, signals, with_clock}
-use Rattle.clock_text.specs.TextNumbers.{IsActivityIn, made_in, number_in}
+use Rattle.clock_text.specs.TextMachine.{Acting, Activity, Clock, Continuation, Made, TextState, goes_to, is_made, is_there, over, signalled_by, signals, with_clock}
+use Rattle.clock_text.specs.TextNumbers.{IsActivityIn, made_by, made_in, number_in, started_by}
 use Rattle.clock_text.proofs.Changing.{ListsChange, acts_other, acts_own, agrees_same, changed, clock_entry, clock_same, phase_same, remember_entry, this_or_other}
 use Rattle.clock_text.proofs.Corresponding.{ActsAs, Corresponds, Finishes, Fits, IsClock, Knows, Stands, Tells, bottom, registered, target_at}
 use Rattle.clock_text.proofs.Makes.{Makes}
@@ -75,6 +75,45 @@ module _ (u : ClockUnfolding) (names : HaveNames u) (s : TextState) (m : ClockSt
         | inl same ↦ subst (λ z. (s.acting z).made ≤ (v.acting z).made) (sym same) (omega (arith, more, ap (λ (z : Acting). z.made) own))
         | inr n ↦ omega (arith, ap (λ (z : Acting). z.made) (other b n))
       ]
+
+  -- and lists that stay
+  pub lists_acting :
+      (acting : Activity → Acting) (y : Acting) → acting a ≡ y → ((b : Activity) → b ≢ a → acting b ≡ s.acting b) → x.made ≤ y.made →
+      bottom u y.rest ≡ bottom u x.rest →
+      ListsChange u names s m h a there (record s { acting = acting })
+  lists_acting acting y own other made bottoms =
+      lists_less (record s { acting = acting }) (λ q b e. e) (λ q b e. e) (λ q b e. refl) refl (made_kept (record s { acting = acting }) y own other made)
+      (ap (λ (z : Acting). bottom u z.rest) own ∙ bottoms)
+
+  -- ---- the actor makes a move
+
+  -- behind a move the actor is y, the tables are those of state n, and these moves are left
+  pub moves_by :
+      (v : TextState) (y : Acting) (moved : Move) (ms : List Move) (n : ClockState) → n.left ≡ m.left → v.acting a ≡ y →
+      ((b : Activity) → b ≢ a → v.acting b ≡ s.acting b) → v.there ≡ s.there → Tells u v n → ListsChange u names s m h a there v → m.left t ≡ moved ∷ ms →
+      y.started ≡ x.started + length (started_by (moved ∷ [])) → y.made ≡ x.made + length (made_by (moved ∷ [])) →
+      (((y.rest ≡ over) × (ms ≡ [])) ⊎ Stands u y y.rest ms (registered u v a)) → Corresponds u v (going t ms n)
+  moves_by v y moved ms n lefts own other same tells lists is started made stands =
+      changed u names s m h a there v (going t ms n)
+      (record {
+        tells = record {
+          phase = tells.phase;
+          enrolled = tells.enrolled;
+          unsignalled = tells.unsignalled;
+          open_set = tells.open_set;
+          remembers = tells.remembers;
+          started = tells.started;
+        };
+        same_there = same;
+        other_acts = other;
+        other_left = λ b within k. left_other u names a b ms n inside within k ∙ ap (λ f. f (number_in u b)) lefts;
+        lists = lists;
+        started = omega (arith, started, ap (λ (z : Acting). z.started) own);
+        own =
+            subst (λ z. ActsAs u t z ((going t ms n).left t) (registered u v a)) (sym own)
+            (subst (λ zs. ActsAs u t y zs (registered u v a)) (sym (left_own u a ms n))
+            (done_more u t x y (m.left t) (moved ∷ []) ms (registered u s a) (registered u v a) (h.acts a there) is started made stands));
+      })
 
   -- ---- a signal
 
@@ -202,43 +241,22 @@ module _ (u : ClockUnfolding) (names : HaveNames u) (s : TextState) (m : ClockSt
           let own : v.acting a ≡ y = acts_own a (record ((signals a p s).acting a) { rest = d }) (signals a p s) ∙ ap (λ (z : Acting). record z { rest = d }) (acts_own a signalled w) in
           let other : (b : Activity) → b ≢ a → v.acting b ≡ s.acting b =
           λ b n. acts_other a (record ((signals a p s).acting a) { rest = d }) (signals a p s) b n ∙ acts_other a signalled w b n in
-          let n = going t ms (signalling t (made_in u p) m) in
-          let told = tells_signal v y refl refl refl own other (λ q. refl) in
-          changed u names s m h a there v n
-          (record {
-            tells = record {
-              phase = told.phase;
-              enrolled = told.enrolled;
-              unsignalled = told.unsignalled;
-              open_set = told.open_set;
-              remembers = told.remembers;
-              started = told.started;
+          moves_by v y (resumes (made_in u p)) ms (signalling t (made_in u p) m) refl own other refl (tells_signal v y refl refl refl own other (λ q. refl))
+          (lists_signal v y refl refl own other (omega arith) (bottoms ∙ ap (bottom u) (sym rest_is))) (left_is ∙ move) (omega arith) (omega arith)
+          (inr (record {
+            point = at;
+            names = ns;
+            standing = with_pending (made_in u p) true standing;
+            fits = fits;
+            makes = makes;
+            knows = record {
+              named = knows.named;
+              clocks = knows.clocks;
+              members = λ q is. knows.members q is ∙ sym (still_registered v refl q);
+              pending = λ q is differs. by q is (is_made p q) refl;
+              finishes = finishes;
             };
-            same_there = refl;
-            other_acts = other;
-            other_left = λ b is k. left_other u names a b ms m inside is k;
-            lists = lists_signal v y refl refl own other (omega arith) (bottoms ∙ ap (bottom u) (sym rest_is));
-            started = omega (arith, ap (λ (z : Acting). z.started) own);
-            own =
-                subst (λ z. ActsAs u t z (n.left t) (registered u v a)) (sym own)
-                (subst (λ zs. ActsAs u t y zs (registered u v a)) (sym (left_own u a ms m))
-                (done_more u t x y (m.left t) (resumes (made_in u p) ∷ []) ms (registered u s a) (registered u v a) (h.acts a there) (left_is ∙ move) (omega arith)
-                (omega arith)
-                (inr (record {
-                  point = at;
-                  names = ns;
-                  standing = with_pending (made_in u p) true standing;
-                  fits = fits;
-                  makes = makes;
-                  knows = record {
-                    named = knows.named;
-                    clocks = knows.clocks;
-                    members = λ q is. knows.members q is ∙ sym (still_registered v refl q);
-                    pending = λ q is differs. by q is (is_made p q) refl;
-                    finishes = finishes;
-                  };
-                }))));
-          })
+          }))
         where
           by : (q : Made) → IsClock u q → (b : Bool) → is_made p q ≡ b →
               (if made_in u q == made_in u p then true else standing.pending (made_in u q)) ≡ is_some (if is_made p q then signal else x.remembers q)

@@ -12,7 +12,7 @@ use Rattle.clock_text.specs.calls.ProgramPoints.{ProgramPoint}
 use Rattle.clock_text.specs.TextMachine.{Acting, Activity, Continuation, Made, TextState, TextStep, and_clocks, clock_here, clock_or_kind, clocks_go_on, clocks_here, goes, goes_on, goes_to, is_there, or_fails, over, then_clocks}
 use Rattle.clock_text.specs.TextNumbers.{made_by, number_in, started_by}
 use Rattle.clock_text.proofs.AddsMoves.{made-append, started-append}
-use Rattle.clock_text.proofs.Changing.{ListsChange, acts_other, acts_own, agrees_same, changed, remember_same}
+use Rattle.clock_text.proofs.Changing.{ListsChange, acts_other, acts_own, changed, tells_acting}
 use Rattle.clock_text.proofs.Corresponding.{ActsAs, Corresponds, Finishes, Fits, IsSteady, Knows, Stands, bottom, corresponds_on, registered, steady_behind, target_at}
 use Rattle.clock_text.proofs.Makes.{Makes}
 use Rattle.clock_text.proofs.Tables.{HaveNames, is_in, same_bytes}
@@ -153,16 +153,7 @@ module _ (u : ClockUnfolding) (names : HaveNames u) (s : TextState) (m : ClockSt
         let own : v.acting a ≡ y = acts_own a y s in
         changed u names s m h a there v m
         (record {
-          tells = record {
-            phase = h.tells.phase;
-            enrolled = h.tells.enrolled;
-            unsignalled = h.tells.unsignalled;
-            open_set = h.tells.open_set;
-            remembers =
-                agrees_same u (λ p b. (s.acting b).remembers p) (λ p b. (v.acting b).remembers p) m.remembered
-                (remember_same s v a y own (acts_other a y s) (λ q. refl)) h.tells.remembers;
-            started = h.tells.started;
-          };
+          tells = tells_acting u names s m h a there v.acting y own (acts_other a y s) (λ q. refl);
           same_there = refl;
           other_acts = acts_other a y s;
           other_left = λ b is n. refl;

@@ -17,6 +17,7 @@ use Rattle.pl_syntax.specs.declared.token.Keyword.{Keyword}
 use Rattle.pl_syntax.specs.declared.token.Sign.{Sign}
 use Rattle.pl_syntax.specs.calls.Words.{IsNameIn}
 use Rattle.pl_syntax.specs.Words.{begins_with, keyword_in, has_name_form, number_of, is_digit, is_word_byte}
+use Rattle.pl_syntax.specs.calls.Spacing.{is_a_word}
 use Rattle.pl_syntax.specs.inside.Seen.{front_seen, token_of, HasForm}
 use Rattle.pl_syntax.specs.Tokens.{Token, the_end, sign, word, name, number, front, token_here, after_gap, placed, word_token, letters_token, digits_token, name_token, sign_token, sign_of, after_comment, is_blank}
 
@@ -55,6 +56,31 @@ name_of_word l w v e =
     elim (chosen (list_any is_digit (take 1 w)) _ _ (Found (name v)) e) [
       | inl p ↦ absurd (no_name (number_of w) v p.1)
       | inr p ↦ name_of_letters l w v (keyword_in l w) refl p.1
+    ]
+
+-- a word that begins with no digit is a keyword or a name
+pub letters_found : (Holds : Token → Bool) → ((k : Keyword) → Holds (word k) ≡ true) → ((x : List ℕ) → Holds (name x) ≡ true) →
+    (w : List ℕ) (o : Option Keyword) (t : Token) → letters_token w o ≡ Found t → Holds t ≡ true
+letters_found Holds of_word of_name w (Some c) t e = let q : Found (word c) ≡ Found t = e in let same : word c ≡ t = cc in ap Holds (sym same) ∙ of_word c
+letters_found Holds of_word of_name w None t e =
+    elim (chosen (has_name_form w) _ _ (Found t) e) [
+      | inr p ↦ absurd (let q : Err NO_TOKEN ≡ Found t = p.1 in cc)
+      | inl p ↦ elim (chosen (nat_le (length w) MAX_NAME_BYTES) _ _ (Found t) p.1) [
+        | inr q ↦ absurd (let r : Err TOO_LONG ≡ Found t = q.1 in cc)
+        | inl q ↦ (let r : Found (name w) ≡ Found t = q.1 in let same : name w ≡ t = cc in ap Holds (sym same) ∙ of_name w)
+      ]
+    ]
+
+digits_word : (o : Option ℕ) (t : Token) → digits_token o ≡ Found t → is_a_word t ≡ true
+digits_word None t e = absurd (let q : Err NO_NUMBER ≡ Found t = e in cc)
+digits_word (Some n) t e = let q : Found (number n) ≡ Found t = e in let same : number n ≡ t = cc in ap is_a_word (sym same)
+
+-- what a word is is a word
+pub word_is_word : (l : Language) (w : List ℕ) (t : Token) → word_token l w ≡ Found t → is_a_word t ≡ true
+word_is_word l w t e =
+    elim (chosen (list_any is_digit (take 1 w)) _ _ (Found t) e) [
+      | inl p ↦ digits_word (number_of w) t p.1
+      | inr p ↦ letters_found is_a_word (λ k. refl) (λ x. refl) w (keyword_in l w) t p.1
     ]
 
 no_sign : (o : Option Sign) (v : List ℕ) → sign_token o ≡ Found (name v) → ⊥

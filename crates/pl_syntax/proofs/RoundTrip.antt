@@ -1,8 +1,8 @@
 -- The printed form of a program is a text of it.
-use Rattle.std.proofs.Common.{◌≡◌, ℕ, zero, suc, ◌+◌, ◌-◌, ◌*◌, ◌<◌, ◌≤◌, ◌==◌, ◌&&◌, ◌/◌, ◌%◌, ◌^◌, get_or, Bool, true, false, cond, List, [], ◌∷◌, ◌++◌, length, take, drop, replicate, codes, decimal, Some, None, Result, Ok, refl, sym, ap, subst, ◌∙◌, append_assoc, arith, nat_le, inl, inr}
+use Rattle.std.proofs.Common.{◌≡◌, ℕ, zero, suc, ◌+◌, ◌-◌, ◌*◌, ◌<◌, ◌≤◌, ◌==◌, ◌/◌, ◌%◌, ◌^◌, get_or, Bool, true, false, cond, List, [], ◌∷◌, ◌++◌, length, take, drop, replicate, codes, decimal, Some, None, Result, Ok, refl, sym, ap, subst, ◌∙◌, append_assoc, arith, nat_le, inl, inr}
 use Rattle.std.specs.List.{list_any, list_all, prefix_len}
 use Rattle.std.proofs.lemmas.Bool.Decides.{nat_tests}
-use Rattle.std.proofs.lemmas.Bool.{cases_Bool}
+use Rattle.std.proofs.lemmas.Bool.{and_from, and_parts, cases_Bool}
 use Rattle.std.proofs.lemmas.List.{append-nil, take_at, drop_at, length-append}
 use Rattle.std.proofs.lemmas.List.Folds.{list_all-append}
 use Rattle.std.proofs.lemmas.Fmt.{decimal_by_steps, decimal_digit, decimal_nonempty, first_decimal, length-decimal-le}
@@ -14,15 +14,15 @@ use Rattle.armus_base.specs.declared.offset.Offset.{Offset}
 use Rattle.armus_base.specs.declared.offset.Offset.TheVariants.{Ahead, Back, Here}
 use Rattle.pl_syntax.specs.declared.tree.Program.{Program}
 use Rattle.pl_syntax.specs.declared.token.Keyword.TheVariants as k
-use Rattle.pl_syntax.specs.declared.token.Sign.TheVariants.{Equals, OpenParen, CloseParen, Comma, Semicolon, OpenBrace, CloseBrace, Plus, Minus}
+use Rattle.pl_syntax.specs.declared.token.Sign.TheVariants.{Equals, OpenParen, CloseParen, Semicolon, OpenBrace, CloseBrace, Plus, Minus}
 use Rattle.pl_syntax.specs.calls.Words.{IsName, IsNameIn}
 use Rattle.pl_syntax.specs.Words.{keyword_in, keyword_of, is_word_byte, is_name_byte, is_lower, is_digit, value_from, has_no_leading_zero, is_number, number_of}
 use Rattle.pl_syntax.specs.Tokens.{Token, the_end, sign, word, name, number, front, Leads, after_gap, is_blank, token_here, placed, word_token, letters_token, name_token, sign_token, sign_of, digits_token}
 use Rattle.pl_syntax.specs.Tree.{Tree, done, plain, fork, loop, Plain, new_task, new_phaser, reg, dereg, adv, await, skip, height}
-use Rattle.pl_syntax.specs.calls.Tree.{AllHere}
+use Rattle.pl_syntax.specs.calls.Tree.{AllHere, PlainIsHere}
 use Rattle.pl_syntax.specs.Grammar.{tokens, plain_tokens, sentence, IsText}
-use Rattle.pl_syntax.specs.Printed.{header_text, indented_line, printed_at, printed_of}
-use Rattle.pl_syntax.specs.calls.Printed.{IsWritable, TreeIsWritable}
+use Rattle.pl_syntax.specs.Printed.{header_text, plain_text, printed_at, printed_of}
+use Rattle.pl_syntax.specs.calls.Printed.{IsWritable, PlainIsWritable, TreeIsWritable}
 
 -- ---- blanks
 
@@ -36,13 +36,6 @@ spaces scan n t = ap (token_here scan) (gap_spaces n t)
 
 -- ---- names
 
-and_parts : (a b : Bool) → (a && b) ≡ true → (a ≡ true) × (b ≡ true)
-and_parts true b e = (refl, e)
-and_parts false b e = absurd cc
-
-and_both : (a b : Bool) → a ≡ true → b ≡ true → (a && b) ≡ true
-and_both a b p q = rw (p, q) refl
-
 name_word : (b : ℕ) → is_name_byte b ≡ true → is_word_byte b ≡ true
 name_word b e = grind (arith, nat_tests)
 
@@ -50,7 +43,7 @@ words_of_names : (x : List ℕ) → list_all is_name_byte x ≡ true → list_al
 words_of_names [] e = refl
 words_of_names (b ∷ bs) e =
     let h = and_parts (is_name_byte b) (list_all is_name_byte bs) e in
-    and_both (is_word_byte b) (list_all is_word_byte bs) (name_word b h.0) (words_of_names bs h.1)
+    and_from (is_word_byte b) (list_all is_word_byte bs) (name_word b h.0) (words_of_names bs h.1)
 
 word_prefix : (x : List ℕ) (c : ℕ) (r : List ℕ) → list_all is_word_byte x ≡ true → is_word_byte c ≡ false → prefix_len is_word_byte (x ++ c ∷ r) ≡ length x
 word_prefix [] c r e f = rw f refl
@@ -120,7 +113,7 @@ one_digit n h = record { digits = grind (arith, nat_tests); value = omega arith;
 more_digits : (n : ℕ) (ds : List ℕ) → 10 ≤ n → IsNumeral (n / 10) ds → IsNumeral n (ds ++ ((48 + n % 10) ∷ []))
 more_digits n ds h i = record {
   digits = list_all-append is_digit ds ((48 + n % 10) ∷ []) ∙
-      and_both (list_all is_digit ds) (list_all is_digit ((48 + n % 10) ∷ [])) i.digits (let p : n % 10 < 10 = omega arith in grind (arith, nat_tests));
+      and_from (list_all is_digit ds) (list_all is_digit ((48 + n % 10) ∷ [])) i.digits (let p : n % 10 < 10 = omega arith in grind (arith, nat_tests));
   value = (let v = value_more 0 ds (48 + n % 10) in let w = i.value in omega arith);
   some = (let l = length-append ds ((48 + n % 10) ∷ []) in omega arith);
 }
@@ -135,7 +128,7 @@ words_of_digits : (x : List ℕ) → list_all is_digit x ≡ true → list_all i
 words_of_digits [] e = refl
 words_of_digits (b ∷ bs) e =
     let h = and_parts (is_digit b) (list_all is_digit bs) e in
-    and_both (is_word_byte b) (list_all is_word_byte bs) (digit_word b h.0) (words_of_digits bs h.1)
+    and_from (is_word_byte b) (list_all is_word_byte bs) (digit_word b h.0) (words_of_digits bs h.1)
 
 -- no 0 leads, or it stands alone
 leads_well : (n : ℕ) (w : List ℕ) → n ≤ MAX_NUMBER → decimal n ≡ w → has_no_leading_zero w ≡ true
@@ -155,8 +148,8 @@ number_word l n b bs h e i =
     let s : nat_le (length (b ∷ bs)) MAX_DIGITS ≡ true = grind (arith, nat_tests) in
     let v : nat_le (value_from 0 (b ∷ bs)) MAX_NUMBER ≡ true = (let q = i.value in grind (arith, nat_tests)) in
     let good : is_number (b ∷ bs) ≡ true =
-    and_both (list_all is_digit (b ∷ bs)) _ i.digits (and_both (has_no_leading_zero (b ∷ bs)) _ (leads_well n (b ∷ bs) h e)
-    (and_both (nat_le (length (b ∷ bs)) MAX_DIGITS) (nat_le (value_from 0 (b ∷ bs)) MAX_NUMBER) s v)) in
+    and_from (list_all is_digit (b ∷ bs)) _ i.digits (and_from (has_no_leading_zero (b ∷ bs)) _ (leads_well n (b ∷ bs) h e)
+    (and_from (nat_le (length (b ∷ bs)) MAX_DIGITS) (nat_le (value_from 0 (b ∷ bs)) MAX_NUMBER) s v)) in
     let some : number_of (b ∷ bs) ≡ Some n = ap (λ v. cond v (Some (value_from 0 (b ∷ bs))) None) good ∙ ap (λ (m : ℕ). Some m) i.value in
     let any : list_any is_digit (take 1 (b ∷ bs)) ≡ true = rw d.0 refl in
     ap (λ v. cond v (digits_token (number_of (b ∷ bs))) (letters_token (b ∷ bs) (keyword_in l (b ∷ bs)))) any ∙ ap digits_token some
@@ -173,104 +166,16 @@ number_front scan n c r h ends = by_cases (decimal n) refl (numeral n (omega ari
         ap (token_here scan) (no_gap b (bs ++ c ∷ r) low) ∙ word_here scan b bs c r (number n) (words_of_digits (b ∷ bs) i.digits) ends (number_word scan.language n b bs h e i)
 
 -- the line of an await, and what follows it
-regroup : (d : ℕ) (x off more rest : List ℕ)
-    → (indented_line d (codes "await(" ++ x ++ off ++ codes ");") ++ more) ++ rest ≡ replicate (2 * d) 32 ++ (codes "await(" ++ (x ++ (off ++ (41 ∷ 59 ∷ 10 ∷ (more ++ rest)))))
-regroup d x off more rest = simp append_assoc
+regroup : (n : ℕ) (x off t : List ℕ) → replicate n 32 ++ ((codes "await(" ++ x ++ off ++ codes ");") ++ 10 ∷ t) ≡ replicate n 32 ++
+    (codes "await(" ++ (x ++ (off ++ (41 ∷ 59 ∷ 10 ∷ t))))
+regroup n x off t = simp append_assoc
 
--- ---- fixed tokens
+-- ---- lines
 
 module _ (total : ℕ) (offsets : Bool) where
   -- a text of PL is read
   abbrev scan : Scan
   scan = record { total = total; offsets = offsets; language = Phasers }
-
-  fork_front : (t : List ℕ) → front scan (codes "fork(" ++ t) ≡ Ok (word k.Fork, 40 ∷ t)
-  unfolding front keyword_of
-  fork_front t = refl
-
-  reg_front : (t : List ℕ) → front scan (codes "reg(" ++ t) ≡ Ok (word k.Reg, 40 ∷ t)
-  unfolding front keyword_of
-  reg_front t = refl
-
-  dereg_front : (t : List ℕ) → front scan (codes "dereg(" ++ t) ≡ Ok (word k.Dereg, 40 ∷ t)
-  unfolding front keyword_of
-  dereg_front t = refl
-
-  adv_front : (t : List ℕ) → front scan (codes "adv(" ++ t) ≡ Ok (word k.Adv, 40 ∷ t)
-  unfolding front keyword_of
-  adv_front t = refl
-
-  await_front : (t : List ℕ) → front scan (codes "await(" ++ t) ≡ Ok (word k.Await, 40 ∷ t)
-  unfolding front keyword_of
-  await_front t = refl
-
-  skip_front : (t : List ℕ) → front scan (codes "skip;" ++ t) ≡ Ok (word k.Skip, 59 ∷ t)
-  unfolding front keyword_of
-  skip_front t = refl
-
-  loop_front : (t : List ℕ) → front scan (codes "loop " ++ t) ≡ Ok (word k.Loop, 32 ∷ t)
-  unfolding front keyword_of
-  loop_front t = refl
-
-  tid_front : (t : List ℕ) → front scan (codes " newTid(" ++ t) ≡ Ok (word k.NewTid, 40 ∷ t)
-  unfolding front keyword_of
-  tid_front t = refl
-
-  phaser_front : (t : List ℕ) → front scan (codes " newPhaser(" ++ t) ≡ Ok (word k.NewPhaser, 40 ∷ t)
-  unfolding front keyword_of
-  phaser_front t = refl
-
-  open_front : (t : List ℕ) → front scan (40 ∷ t) ≡ Ok (sign OpenParen, t)
-  unfolding front
-  open_front t = refl
-
-  close_front : (t : List ℕ) → front scan (41 ∷ t) ≡ Ok (sign CloseParen, t)
-  unfolding front
-  close_front t = refl
-
-  comma_front : (t : List ℕ) → front scan (44 ∷ t) ≡ Ok (sign Comma, t)
-  unfolding front
-  comma_front t = refl
-
-  semicolon_front : (t : List ℕ) → front scan (59 ∷ t) ≡ Ok (sign Semicolon, t)
-  unfolding front
-  semicolon_front t = refl
-
-  equals_front : (t : List ℕ) → front scan (32 ∷ 61 ∷ t) ≡ Ok (sign Equals, t)
-  unfolding front
-  equals_front t = refl
-
-  brace_front : (t : List ℕ) → front scan (32 ∷ 123 ∷ t) ≡ Ok (sign OpenBrace, t)
-  unfolding front
-  brace_front t = refl
-
-  shut_front : (t : List ℕ) → front scan (125 ∷ t) ≡ Ok (sign CloseBrace, t)
-  unfolding front
-  shut_front t = refl
-
-  line_front : (t : List ℕ) → front scan (10 ∷ t) ≡ front scan t
-  unfolding front
-  line_front t = refl
-
-  space_front : (t : List ℕ) → front scan (32 ∷ t) ≡ front scan t
-  unfolding front
-  space_front t = refl
-
-  plus_front : scan.offsets ≡ true → (t : List ℕ) → front scan (32 ∷ 43 ∷ t) ≡ Ok (sign Plus, t)
-  unfolding front
-  plus_front on t = rw on refl
-
-  minus_front : scan.offsets ≡ true → (t : List ℕ) → front scan (32 ∷ 45 ∷ t) ≡ Ok (sign Minus, t)
-  unfolding front
-  minus_front on t = rw on refl
-
-  pl_front : (t : List ℕ) → front scan (codes "pl " ++ t) ≡ Ok (name (codes "pl"), 32 ∷ t)
-  unfolding front keyword_of
-  pl_front t = refl
-
-  two_front : (t : List ℕ) → front scan (codes " 2;" ++ t) ≡ Ok (number 2, 59 ∷ t)
-  unfolding front
-  two_front t = refl
 
   -- a line's end before tokens
   IsSome : List Token → Type 0
@@ -286,9 +191,9 @@ module _ (total : ℕ) (offsets : Bool) where
   some_end = tt
 
   new_line : (t : List ℕ) (us : List Token) (end : List ℕ) → IsSome us → Leads scan t us end → Leads scan (10 ∷ t) us end
-  unfolding IsSome
+  unfolding IsSome front
   new_line t [] end n h = absurd n
-  new_line t (u ∷ us) end n h = (h.0, line_front t ∙ h.1, h.2)
+  new_line t (u ∷ us) end n h = h
 
   some_plain : (c : Plain) (us : List Token) → IsSome (plain_tokens c us)
   unfolding IsSome
@@ -307,46 +212,32 @@ module _ (total : ℕ) (offsets : Bool) where
   some_tree (fork x b p) us n = tt
   some_tree (loop m b p) us n = tt
 
-  -- ---- lines
-
   indented : (n : ℕ) (t : List ℕ) (u : Token) (mid : List ℕ) → front scan t ≡ Ok (u, mid) → front scan (replicate n 32 ++ t) ≡ Ok (u, mid)
   indented n t u mid e = spaces scan n t ∙ e
 
   named_line : (n : ℕ) (kw : List ℕ) (w : Token) (x : List ℕ) (t : List ℕ) (us : List Token) (end : List ℕ) →
       ((r : List ℕ) → front scan (kw ++ r) ≡ Ok (w, 40 ∷ r)) → IsName x → Leads scan t us end
       → Leads scan (replicate n 32 ++ (kw ++ (x ++ (41 ∷ 59 ∷ t)))) (w ∷ sign OpenParen ∷ name x ∷ sign CloseParen ∷ sign Semicolon ∷ us) end
-  named_line n kw w x t us end f i h = (
-    40 ∷ (x ++ (41 ∷ 59 ∷ t)),
-    indented n _ w _ (f (x ++ (41 ∷ 59 ∷ t))),
-    (x ++ (41 ∷ 59 ∷ t), open_front (x ++ (41 ∷ 59 ∷ t)), (41 ∷ 59 ∷ t, name_front scan x 41 (59 ∷ t) i refl, (59 ∷ t, close_front (59 ∷ t), (t, semicolon_front t, h)))),
-  )
+  unfolding front
+  named_line n kw w x t us end f i h =
+      let a : List ℕ = x ++ (41 ∷ 59 ∷ t) in
+      (40 ∷ a, indented n _ w _ (f a), (a, refl, (41 ∷ 59 ∷ t, name_front scan x 41 (59 ∷ t) i refl, (59 ∷ t, refl, (t, refl, h)))))
 
   far_line : (n : ℕ) (x : List ℕ) (c m : ℕ) (w : Token) (t : List ℕ) (us : List Token) (end : List ℕ) → ((r : List ℕ) → front scan (32 ∷ c ∷ r) ≡ Ok (w, r)) →
       IsName x → m ≤ MAX_NUMBER
       → Leads scan t us end
       → Leads scan (replicate n 32 ++ (codes "await(" ++ (x ++ (32 ∷ c ∷ 32 ∷ (decimal m ++ (41 ∷ 59 ∷ t))))))
       (word k.Await ∷ sign OpenParen ∷ name x ∷ w ∷ number m ∷ sign CloseParen ∷ sign Semicolon ∷ us) end
+  unfolding front keyword_of
   far_line n x c m w t us end f i small h =
       let b : List ℕ = 32 ∷ (decimal m ++ (41 ∷ 59 ∷ t)) in
       let a : List ℕ = x ++ (32 ∷ c ∷ b) in (
         40 ∷ a,
-        indented n _ (word k.Await) (40 ∷ a) (await_front a),
+        indented n _ (word k.Await) (40 ∷ a) refl,
         (
           a,
-          open_front a,
-          (
-            32 ∷ c ∷ b,
-            name_front scan x 32 (c ∷ b) i refl,
-            (
-              b,
-              f b,
-              (
-                41 ∷ 59 ∷ t,
-                space_front (decimal m ++ (41 ∷ 59 ∷ t)) ∙ number_front scan m 41 (59 ∷ t) small refl,
-                (59 ∷ t, close_front (59 ∷ t), (t, semicolon_front t, h)),
-              ),
-            ),
-          ),
+          refl,
+          (32 ∷ c ∷ b, name_front scan x 32 (c ∷ b) i refl, (b, f b, (41 ∷ 59 ∷ t, number_front scan m 41 (59 ∷ t) small refl, (59 ∷ t, refl, (t, refl, h))))),
         ),
       )
 
@@ -356,21 +247,22 @@ module _ (total : ℕ) (offsets : Bool) where
 
   reg_line : (n : ℕ) (x y : List ℕ) (t : List ℕ) (us : List Token) (end : List ℕ) → IsName x → IsName y → Leads scan t us end
       → Leads scan (replicate n 32 ++ (codes "reg(" ++ (x ++ (44 ∷ 32 ∷ (y ++ (41 ∷ 59 ∷ t)))))) (plain_tokens (reg x y) us) end
+  unfolding front keyword_of
   reg_line n x y t us end i j h =
       let b : List ℕ = y ++ (41 ∷ 59 ∷ t) in
       let a : List ℕ = x ++ (44 ∷ 32 ∷ b) in (
         40 ∷ a,
-        indented n _ (word k.Reg) (40 ∷ a) (reg_front a),
+        indented n _ (word k.Reg) (40 ∷ a) refl,
         (
           a,
-          open_front a,
+          refl,
           (
             44 ∷ 32 ∷ b,
             name_front scan x 44 (32 ∷ b) i refl,
             (
               32 ∷ b,
-              comma_front (32 ∷ b),
-              (41 ∷ 59 ∷ t, space_front b ∙ name_front scan y 41 (59 ∷ t) j refl, (59 ∷ t, close_front (59 ∷ t), (t, semicolon_front t, h))),
+              refl,
+              (41 ∷ 59 ∷ t, name_front scan y 41 (59 ∷ t) j refl, (59 ∷ t, refl, (t, refl, h))),
             ),
           ),
         ),
@@ -379,127 +271,113 @@ module _ (total : ℕ) (offsets : Bool) where
   drawn_line : (n : ℕ) (x : List ℕ) (kw : List ℕ) (w : Token) (t : List ℕ) (us : List Token) (end : List ℕ) →
       ((r : List ℕ) → front scan (kw ++ r) ≡ Ok (w, 40 ∷ r)) → IsName x → Leads scan t us end
       → Leads scan (replicate n 32 ++ (x ++ (32 ∷ 61 ∷ (kw ++ (41 ∷ 59 ∷ t))))) (name x ∷ sign Equals ∷ w ∷ sign OpenParen ∷ sign CloseParen ∷ sign Semicolon ∷ us) end
+  unfolding front
   drawn_line n x kw w t us end f i h =
       let a : List ℕ = kw ++ (41 ∷ 59 ∷ t) in (
         32 ∷ 61 ∷ a,
         indented n _ (name x) (32 ∷ 61 ∷ a) (name_front scan x 32 (61 ∷ a) i refl),
-        (
-          a,
-          equals_front a,
-          (
-            40 ∷ 41 ∷ 59 ∷ t,
-            f (41 ∷ 59 ∷ t),
-            (
-              41 ∷ 59 ∷ t,
-              open_front (41 ∷ 59 ∷ t),
-              (59 ∷ t, close_front (59 ∷ t), (t, semicolon_front t, h)),
-            ),
-          ),
-        ),
+        (a, refl, (40 ∷ 41 ∷ 59 ∷ t, f (41 ∷ 59 ∷ t), (41 ∷ 59 ∷ t, refl, (59 ∷ t, refl, (t, refl, h))))),
       )
-
-  skip_line : (n : ℕ) (t : List ℕ) (us : List Token) (end : List ℕ) → Leads scan t us end →
-      Leads scan (replicate n 32 ++ (codes "skip;" ++ t)) (word k.Skip ∷ sign Semicolon ∷ us) end
-  skip_line n t us end h = (59 ∷ t, indented n _ (word k.Skip) (59 ∷ t) (skip_front t), (t, semicolon_front t, h))
-
-  fork_line : (n : ℕ) (x : List ℕ) (t : List ℕ) (us : List Token) (end : List ℕ) → IsName x → Leads scan t us end
-      → Leads scan (replicate n 32 ++ (codes "fork(" ++ (x ++ (41 ∷ 32 ∷ 123 ∷ t)))) (word k.Fork ∷ sign OpenParen ∷ name x ∷ sign CloseParen ∷ sign OpenBrace ∷ us) end
-  fork_line n x t us end i h =
-      let b : List ℕ = 32 ∷ 123 ∷ t in
-      let a : List ℕ = x ++ (41 ∷ b) in
-      (40 ∷ a, indented n _ (word k.Fork) (40 ∷ a) (fork_front a), (a, open_front a, (41 ∷ b, name_front scan x 41 b i refl, (b, close_front b, (t, brace_front t, h)))))
-
-  loop_line : (n m : ℕ) (t : List ℕ) (us : List Token) (end : List ℕ) → m ≤ MAX_NUMBER → Leads scan t us end
-      → Leads scan (replicate n 32 ++ (codes "loop " ++ (decimal m ++ (32 ∷ 123 ∷ t)))) (word k.Loop ∷ number m ∷ sign OpenBrace ∷ us) end
-  loop_line n m t us end i h =
-      let a : List ℕ = decimal m ++ (32 ∷ 123 ∷ t) in
-      (32 ∷ a, indented n _ (word k.Loop) (32 ∷ a) (loop_front a), (32 ∷ 123 ∷ t, space_front a ∙ number_front scan m 32 (123 ∷ t) i refl, (t, brace_front t, h)))
-
-  shut_line : (n : ℕ) (t : List ℕ) (us : List Token) (end : List ℕ) → Leads scan t us end → Leads scan (replicate n 32 ++ (125 ∷ t)) (sign CloseBrace ∷ us) end
-  shut_line n t us end h = (t, indented n _ (sign CloseBrace) t (shut_front t), h)
-
-  -- ---- trees
 
   put : (a b : List ℕ) (us : List Token) (end : List ℕ) → a ≡ b → Leads scan b us end → Leads scan a us end
   put a b us end e h = subst (λ (t : List ℕ). Leads scan t us end) (sym e) h
 
+  -- the line of a statement without a body
+  plain_line : (n : ℕ) (c : Plain) (t : List ℕ) (us : List Token) (end : List ℕ) → PlainIsWritable c → (scan.offsets ≡ false → PlainIsHere c) →
+      Leads scan (10 ∷ t) us end →
+      Leads scan (replicate n 32 ++ (plain_text c ++ 10 ∷ t)) (plain_tokens c us) end
+  unfolding front keyword_of
+  plain_line n (new_task x) t us end w g l =
+      put (replicate n 32 ++ (plain_text (new_task x) ++ 10 ∷ t)) (replicate n 32 ++ (x ++ (32 ∷ 61 ∷ (codes " newTid(" ++ (41 ∷ 59 ∷ 10 ∷ t)))))
+      (plain_tokens (new_task x) us) end
+      (simp append_assoc) (drawn_line n x (codes " newTid(") (word k.NewTid) (10 ∷ t) us end (λ r. refl) w l)
+  plain_line n (new_phaser x) t us end w g l =
+      put (replicate n 32 ++ (plain_text (new_phaser x) ++ 10 ∷ t)) (replicate n 32 ++ (x ++ (32 ∷ 61 ∷ (codes " newPhaser(" ++ (41 ∷ 59 ∷ 10 ∷ t)))))
+      (plain_tokens (new_phaser x) us) end
+      (simp append_assoc) (drawn_line n x (codes " newPhaser(") (word k.NewPhaser) (10 ∷ t) us end (λ r. refl) w l)
+  plain_line n (reg x y) t us end w g l =
+      put (replicate n 32 ++ (plain_text (reg x y) ++ 10 ∷ t)) (replicate n 32 ++ (codes "reg(" ++ (x ++ (44 ∷ 32 ∷ (y ++ (41 ∷ 59 ∷ 10 ∷ t))))))
+      (plain_tokens (reg x y) us) end
+      (simp append_assoc) (reg_line n x y (10 ∷ t) us end w.0 w.1 l)
+  plain_line n (dereg x) t us end w g l =
+      put (replicate n 32 ++ (plain_text (dereg x) ++ 10 ∷ t)) (replicate n 32 ++ (codes "dereg(" ++ (x ++ (41 ∷ 59 ∷ 10 ∷ t)))) (plain_tokens (dereg x) us) end
+      (simp append_assoc) (named_line n (codes "dereg(") (word k.Dereg) x (10 ∷ t) us end (λ r. refl) w l)
+  plain_line n (adv x) t us end w g l =
+      put (replicate n 32 ++ (plain_text (adv x) ++ 10 ∷ t)) (replicate n 32 ++ (codes "adv(" ++ (x ++ (41 ∷ 59 ∷ 10 ∷ t)))) (plain_tokens (adv x) us) end
+      (simp append_assoc) (named_line n (codes "adv(") (word k.Adv) x (10 ∷ t) us end (λ r. refl) w l)
+  plain_line n (await x Here) t us end w g l =
+      put (replicate n 32 ++ (plain_text (await x Here) ++ 10 ∷ t)) (replicate n 32 ++ (codes "await(" ++ (x ++ (41 ∷ 59 ∷ 10 ∷ t))))
+      (plain_tokens (await x Here) us) end
+      (simp append_assoc) (named_line n (codes "await(") (word k.Await) x (10 ∷ t) us end (λ r. refl) w.0 l)
+  plain_line n (await x (Back m)) t us end w g l =
+      put (replicate n 32 ++ (plain_text (await x (Back m)) ++ 10 ∷ t))
+      (replicate n 32 ++ (codes "await(" ++ (x ++ (32 ∷ 45 ∷ 32 ∷ (decimal m ++ (41 ∷ 59 ∷ 10 ∷ t))))))
+      (plain_tokens (await x (Back m)) us) end
+      (regroup n x (codes " - " ++ decimal m) t) (far_line n x 45 m (sign Minus) (10 ∷ t) us end (λ r. rw (looks (Back m) g (λ e. absurd cc)) refl) w.0 w.1 l)
+  plain_line n (await x (Ahead m)) t us end w g l =
+      put (replicate n 32 ++ (plain_text (await x (Ahead m)) ++ 10 ∷ t))
+      (replicate n 32 ++ (codes "await(" ++ (x ++ (32 ∷ 43 ∷ 32 ∷ (decimal m ++ (41 ∷ 59 ∷ 10 ∷ t))))))
+      (plain_tokens (await x (Ahead m)) us) end
+      (regroup n x (codes " + " ++ decimal m) t) (far_line n x 43 m (sign Plus) (10 ∷ t) us end (λ r. rw (looks (Ahead m) g (λ e. absurd cc)) refl) w.0 w.1 l)
+  plain_line n skip t us end w g l = (59 ∷ 10 ∷ t, indented n _ (word k.Skip) (59 ∷ 10 ∷ t) refl, (10 ∷ t, refl, l))
+
+  fork_line : (n : ℕ) (x : List ℕ) (t : List ℕ) (us : List Token) (end : List ℕ) → IsName x → Leads scan t us end
+      → Leads scan (replicate n 32 ++ (codes "fork(" ++ (x ++ (41 ∷ 32 ∷ 123 ∷ t)))) (word k.Fork ∷ sign OpenParen ∷ name x ∷ sign CloseParen ∷ sign OpenBrace ∷ us) end
+  unfolding front keyword_of
+  fork_line n x t us end i h =
+      let b : List ℕ = 32 ∷ 123 ∷ t in
+      let a : List ℕ = x ++ (41 ∷ b) in
+      (40 ∷ a, indented n _ (word k.Fork) (40 ∷ a) refl, (a, refl, (41 ∷ b, name_front scan x 41 b i refl, (b, refl, (t, refl, h)))))
+
+  loop_line : (n m : ℕ) (t : List ℕ) (us : List Token) (end : List ℕ) → m ≤ MAX_NUMBER → Leads scan t us end
+      → Leads scan (replicate n 32 ++ (codes "loop " ++ (decimal m ++ (32 ∷ 123 ∷ t)))) (word k.Loop ∷ number m ∷ sign OpenBrace ∷ us) end
+  unfolding front keyword_of
+  loop_line n m t us end i h =
+      let a : List ℕ = decimal m ++ (32 ∷ 123 ∷ t) in
+      (32 ∷ a, indented n _ (word k.Loop) (32 ∷ a) refl, (32 ∷ 123 ∷ t, number_front scan m 32 (123 ∷ t) i refl, (t, refl, h)))
+
+  -- the line that ends a body, and what follows it
+  closing : ℕ → List ℕ → List ℕ
+  closing d t = replicate (2 * d) 32 ++ (125 ∷ 10 ∷ t)
+
+  -- a body and its end
+  in_braces : (b p : Tree) (d : ℕ) (rest : List ℕ) (us : List Token) (end : List ℕ) → IsSome us → Leads scan (printed_at d p ++ rest) (tokens p us) end →
+      (IsSome (sign CloseBrace ∷ tokens p us) → Leads scan (closing d (printed_at d p ++ rest)) (sign CloseBrace ∷ tokens p us) end →
+      Leads scan (printed_at (d + 1) b ++ closing d (printed_at d p ++ rest)) (tokens b (sign CloseBrace ∷ tokens p us)) end) →
+      Leads scan (10 ∷ (printed_at (d + 1) b ++ closing d (printed_at d p ++ rest))) (tokens b (sign CloseBrace ∷ tokens p us)) end
+  unfolding front closing
+  in_braces b p d rest us end i after body =
+      let t : List ℕ = printed_at d p ++ rest in
+      let l = new_line t (tokens p us) end (some_tree p us i) after in
+      new_line (printed_at (d + 1) b ++ closing d t) (tokens b (sign CloseBrace ∷ tokens p us)) end
+      (some_tree b (sign CloseBrace ∷ tokens p us) (some_sign (tokens p us)))
+      (body (some_sign (tokens p us)) (10 ∷ t, indented (2 * d) _ (sign CloseBrace) (10 ∷ t) refl, l))
+
+  -- ---- trees
+
   reads : (p : Tree) (d : ℕ) (rest : List ℕ) (us : List Token) (end : List ℕ) → TreeIsWritable p → (scan.offsets ≡ false → AllHere p) → IsSome us →
       Leads scan rest us end → Leads scan (printed_at d p ++ rest) (tokens p us) end
+  unfolding closing
   reads done d rest us end n g i h = h
-  reads (plain (new_task x) p) d rest us end n g i h =
+  reads (plain c p) d rest us end n g i h =
       let t : List ℕ = printed_at d p ++ rest in
-      let l = new_line t (tokens p us) end (some_tree p us i) (reads p d rest us end n.1 (λ e. (g e).1) i h) in
-      put (printed_at d (plain (new_task x) p) ++ rest)
-      (replicate (2 * d) 32 ++ (x ++ (32 ∷ 61 ∷ (codes " newTid(" ++ (41 ∷ 59 ∷ 10 ∷ t))))) (tokens (plain (new_task x) p) us) end (simp append_assoc)
-      (drawn_line (2 * d) x (codes " newTid(") (word k.NewTid) (10 ∷ t) (tokens p us) end tid_front n.0 l)
-  reads (plain (new_phaser x) p) d rest us end n g i h =
-      let t : List ℕ = printed_at d p ++ rest in
-      let l = new_line t (tokens p us) end (some_tree p us i) (reads p d rest us end n.1 (λ e. (g e).1) i h) in
-      put (printed_at d (plain (new_phaser x) p) ++ rest)
-      (replicate (2 * d) 32 ++ (x ++ (32 ∷ 61 ∷ (codes " newPhaser(" ++ (41 ∷ 59 ∷ 10 ∷ t))))) (tokens (plain (new_phaser x) p) us) end (simp append_assoc)
-      (drawn_line (2 * d) x (codes " newPhaser(") (word k.NewPhaser) (10 ∷ t) (tokens p us) end phaser_front n.0 l)
-  reads (plain (reg x y) p) d rest us end n g i h =
-      let t : List ℕ = printed_at d p ++ rest in
-      let l = new_line t (tokens p us) end (some_tree p us i) (reads p d rest us end n.1 (λ e. (g e).1) i h) in
-      put (printed_at d (plain (reg x y) p) ++ rest) (replicate (2 * d) 32 ++ (codes "reg(" ++ (x ++ (44 ∷ 32 ∷ (y ++ (41 ∷ 59 ∷ 10 ∷ t))))))
-      (tokens (plain (reg x y) p) us) end (simp append_assoc) (reg_line (2 * d) x y (10 ∷ t) (tokens p us) end n.0.0 n.0.1 l)
-  reads (plain (dereg x) p) d rest us end n g i h =
-      let t : List ℕ = printed_at d p ++ rest in
-      let l = new_line t (tokens p us) end (some_tree p us i) (reads p d rest us end n.1 (λ e. (g e).1) i h) in
-      put (printed_at d (plain (dereg x) p) ++ rest) (replicate (2 * d) 32 ++ (codes "dereg(" ++ (x ++ (41 ∷ 59 ∷ 10 ∷ t)))) (tokens (plain (dereg x) p) us) end
-      (simp append_assoc) (named_line (2 * d) (codes "dereg(") (word k.Dereg) x (10 ∷ t) (tokens p us) end dereg_front n.0 l)
-  reads (plain (adv x) p) d rest us end n g i h =
-      let t : List ℕ = printed_at d p ++ rest in
-      let l = new_line t (tokens p us) end (some_tree p us i) (reads p d rest us end n.1 (λ e. (g e).1) i h) in
-      put (printed_at d (plain (adv x) p) ++ rest) (replicate (2 * d) 32 ++ (codes "adv(" ++ (x ++ (41 ∷ 59 ∷ 10 ∷ t)))) (tokens (plain (adv x) p) us) end
-      (simp append_assoc) (named_line (2 * d) (codes "adv(") (word k.Adv) x (10 ∷ t) (tokens p us) end adv_front n.0 l)
-  reads (plain (await x Here) p) d rest us end n g i h =
-      let t : List ℕ = printed_at d p ++ rest in
-      let l = new_line t (tokens p us) end (some_tree p us i) (reads p d rest us end n.1 (λ e. (g e).1) i h) in
-      put (printed_at d (plain (await x Here) p) ++ rest)
-      (replicate (2 * d) 32 ++ (codes "await(" ++ (x ++ (41 ∷ 59 ∷ 10 ∷ t)))) (tokens (plain (await x Here) p) us) end (simp append_assoc)
-      (named_line (2 * d) (codes "await(") (word k.Await) x (10 ∷ t) (tokens p us) end await_front n.0.0 l)
-  reads (plain (await x (Back m)) p) d rest us end n g i h =
-      let t : List ℕ = printed_at d p ++ rest in
-      let l = new_line t (tokens p us) end (some_tree p us i) (reads p d rest us end n.1 (λ e. (g e).1) i h) in
-      let on = looks (Back m) (λ e. (g e).0) (λ e. absurd cc) in
-      put (printed_at d (plain (await x (Back m)) p) ++ rest)
-      (replicate (2 * d) 32 ++ (codes "await(" ++ (x ++ (32 ∷ 45 ∷ 32 ∷ (decimal m ++ (41 ∷ 59 ∷ 10 ∷ t)))))) (tokens (plain (await x (Back m)) p) us) end
-      (regroup d x (codes " - " ++ decimal m) (printed_at d p) rest)
-      (far_line (2 * d) x 45 m (sign Minus) (10 ∷ t) (tokens p us) end (minus_front on) n.0.0 n.0.1 l)
-  reads (plain (await x (Ahead m)) p) d rest us end n g i h =
-      let t : List ℕ = printed_at d p ++ rest in
-      let l = new_line t (tokens p us) end (some_tree p us i) (reads p d rest us end n.1 (λ e. (g e).1) i h) in
-      let on = looks (Ahead m) (λ e. (g e).0) (λ e. absurd cc) in
-      put (printed_at d (plain (await x (Ahead m)) p) ++ rest)
-      (replicate (2 * d) 32 ++ (codes "await(" ++ (x ++ (32 ∷ 43 ∷ 32 ∷ (decimal m ++ (41 ∷ 59 ∷ 10 ∷ t)))))) (tokens (plain (await x (Ahead m)) p) us) end
-      (regroup d x (codes " + " ++ decimal m) (printed_at d p) rest)
-      (far_line (2 * d) x 43 m (sign Plus) (10 ∷ t) (tokens p us) end (plus_front on) n.0.0 n.0.1 l)
-  reads (plain skip p) d rest us end n g i h =
-      let t : List ℕ = printed_at d p ++ rest in
-      let l = new_line t (tokens p us) end (some_tree p us i) (reads p d rest us end n.1 (λ e. (g e).1) i h) in
-      put (printed_at d (plain skip p) ++ rest) (replicate (2 * d) 32 ++ (codes "skip;" ++ (10 ∷ t))) (tokens (plain skip p) us) end (simp append_assoc)
-      (skip_line (2 * d) (10 ∷ t) (tokens p us) end l)
+      put (printed_at d (plain c p) ++ rest) (replicate (2 * d) 32 ++ (plain_text c ++ 10 ∷ t)) (tokens (plain c p) us) end (simp append_assoc)
+      (plain_line (2 * d) c t (tokens p us) end n.0 (λ e. (g e).0) (new_line t (tokens p us) end (some_tree p us i)
+      (reads p d rest us end n.1 (λ e. (g e).1) i h)))
   reads (fork x b p) d rest us end n g i h =
-      let t : List ℕ = printed_at d p ++ rest in
-      let after_body : List ℕ = replicate (2 * d) 32 ++ (125 ∷ 10 ∷ t) in
-      let l = shut_line (2 * d) (10 ∷ t) (tokens p us) end (new_line t (tokens p us) end (some_tree p us i) (reads p d rest us end n.2 (λ e. (g e).1) i h)) in
-      let inner = new_line (printed_at (d + 1) b ++ after_body) (tokens b (sign CloseBrace ∷ tokens p us)) end
-      (some_tree b (sign CloseBrace ∷ tokens p us) (some_sign (tokens p us)))
-      (reads b (d + 1) after_body (sign CloseBrace ∷ tokens p us) end n.1 (λ e. (g e).0) (some_sign (tokens p us)) l) in
-      put (printed_at d (fork x b p) ++ rest) (replicate (2 * d) 32 ++ (codes "fork(" ++ (x ++ (41 ∷ 32 ∷ 123 ∷ 10 ∷ (printed_at (d + 1) b ++ after_body)))))
+      let close : List ℕ = closing d (printed_at d p ++ rest) in
+      let vs : List Token = sign CloseBrace ∷ tokens p us in
+      put (printed_at d (fork x b p) ++ rest) (replicate (2 * d) 32 ++ (codes "fork(" ++ (x ++ (41 ∷ 32 ∷ 123 ∷ 10 ∷ (printed_at (d + 1) b ++ close)))))
       (tokens (fork x b p) us) end (simp append_assoc)
-      (fork_line (2 * d) x (10 ∷ (printed_at (d + 1) b ++ after_body)) (tokens b (sign CloseBrace ∷ tokens p us)) end n.0 inner)
+      (fork_line (2 * d) x (10 ∷ (printed_at (d + 1) b ++ close)) (tokens b vs) end n.0
+      (in_braces b p d rest us end i (reads p d rest us end n.2 (λ e. (g e).1) i h) (reads b (d + 1) close vs end n.1 (λ e. (g e).0))))
   reads (loop m b p) d rest us end n g i h =
-      let t : List ℕ = printed_at d p ++ rest in
-      let after_body : List ℕ = replicate (2 * d) 32 ++ (125 ∷ 10 ∷ t) in
-      let l = shut_line (2 * d) (10 ∷ t) (tokens p us) end (new_line t (tokens p us) end (some_tree p us i) (reads p d rest us end n.2 (λ e. (g e).1) i h)) in
-      let inner = new_line (printed_at (d + 1) b ++ after_body) (tokens b (sign CloseBrace ∷ tokens p us)) end
-      (some_tree b (sign CloseBrace ∷ tokens p us) (some_sign (tokens p us)))
-      (reads b (d + 1) after_body (sign CloseBrace ∷ tokens p us) end n.1 (λ e. (g e).0) (some_sign (tokens p us)) l) in
-      put (printed_at d (loop m b p) ++ rest) (replicate (2 * d) 32 ++ (codes "loop " ++ (decimal m ++ (32 ∷ 123 ∷ 10 ∷ (printed_at (d + 1) b ++ after_body)))))
+      let close : List ℕ = closing d (printed_at d p ++ rest) in
+      let vs : List Token = sign CloseBrace ∷ tokens p us in
+      put (printed_at d (loop m b p) ++ rest) (replicate (2 * d) 32 ++ (codes "loop " ++ (decimal m ++ (32 ∷ 123 ∷ 10 ∷ (printed_at (d + 1) b ++ close)))))
       (tokens (loop m b p) us) end (simp append_assoc)
-      (loop_line (2 * d) m (10 ∷ (printed_at (d + 1) b ++ after_body)) (tokens b (sign CloseBrace ∷ tokens p us)) end n.0 inner)
+      (loop_line (2 * d) m (10 ∷ (printed_at (d + 1) b ++ close)) (tokens b vs) end n.0
+      (in_braces b p d rest us end i (reads p d rest us end n.2 (λ e. (g e).1) i h) (reads b (d + 1) close vs end n.1 (λ e. (g e).0))))
 
 -- the printed statements are read as themselves
 statements : (total : ℕ) (offsets : Bool) (p : Tree) → TreeIsWritable p → (offsets ≡ false → AllHere p) → Leads (scan total offsets) (printed_at 0 p) (sentence p) []
@@ -510,6 +388,7 @@ statements total offsets p n here =
 
 in_form : (two : Bool) (p : Tree) → TreeIsWritable p → (two ≡ false → AllHere p) → height p ≤ MAX_OPEN_BRACES
     → IsText (header_text two ++ printed_at 0 p) (record { two = two; body = p })
+unfolding front keyword_of
 in_form false p n here h = record { reads = statements (length (printed_at 0 p)) false p n here; shallow = h }
 in_form true p n here h =
     let rest : List ℕ = 10 ∷ printed_at 0 p in
@@ -518,7 +397,7 @@ in_form true p n here h =
     record {
       reads = (
         rest,
-        (32 ∷ 50 ∷ 59 ∷ rest, pl_front total false (50 ∷ 59 ∷ rest), (59 ∷ rest, two_front total false rest, (rest, semicolon_front total false rest, refl))),
+        (32 ∷ 50 ∷ 59 ∷ rest, refl, (59 ∷ rest, refl, (rest, refl, refl))),
         new_line total true (printed_at 0 p) (sentence p) [] (some_tree total true p (the_end ∷ []) (some_end total true)) (statements total true p n here),
       );
       shallow = h;

@@ -1,25 +1,23 @@
 -- The texts of a program are its tokens, spaced in any way.
-use Rattle.std.proofs.Common.{◌≡◌, ℕ, suc, ◌+◌, ◌-◌, ◌==◌, ◌&&◌, ◌⊎◌, Bool, true, false, not, cond, List, [], ◌∷◌, ◌++◌, length, take, drop, Option, Some, None, Result, Ok, Err, refl, sym, ap, subst, ◌∙◌, append_assoc, arith, nat_le, inl, inr}
-use Rattle.std.specs.List.{list_all, list_any, prefix_len}
-use Rattle.std.proofs.lemmas.Bool.{eqb-true, false≢true}
+use Rattle.std.proofs.Common.{◌≡◌, ℕ, suc, ◌+◌, ◌-◌, ◌==◌, ◌&&◌, ◌⊎◌, Bool, true, false, not, cond, List, [], ◌∷◌, ◌++◌, length, take, drop, Option, Some, None, Result, Ok, Err, refl, sym, ap, subst, ◌∙◌, append_assoc, arith, inl, inr}
+use Rattle.std.specs.List.{list_all, prefix_len}
+use Rattle.std.proofs.lemmas.Bool.{and_parts, eqb-true, false≢true}
 use Rattle.std.proofs.lemmas.Bool.Decides.{nat_tests}
 use Rattle.std.proofs.lemmas.List.{append-nil, drop_at, take_at, take-append-drop}
 use Rattle.pl_syntax.specs.declared.scan.Language.{Language}
 use Rattle.pl_syntax.specs.declared.scan.Language.TheVariants.{Phasers}
 use Rattle.pl_syntax.specs.declared.scan.Scan.{Scan}
-use Rattle.pl_syntax.specs.declared.limits.TheConstants.{MAX_NAME_BYTES}
 use Rattle.armus_base.specs.declared.offset.Offset.TheVariants.{Ahead, Back, Here}
-use Rattle.pl_syntax.specs.declared.token.Keyword.{Keyword}
 use Rattle.pl_syntax.specs.declared.token.Sign.{Sign}
-use Rattle.pl_syntax.specs.declared.token.Sign.TheVariants.{CloseBrace, Minus, Plus}
-use Rattle.pl_syntax.specs.Words.{begins_with, has_name_form, is_digit, is_word_byte, keyword_in, number_of}
-use Rattle.pl_syntax.specs.Tokens.{Token, the_end, sign, word, name, number, front, Leads, after_gap, after_comment, is_blank, token_here, placed, word_token, letters_token, digits_token, sign_token, sign_of, word_of, after_word, kind_no_token, kind_no_number, kind_too_long}
+use Rattle.pl_syntax.specs.declared.token.Sign.TheVariants.{CloseBrace, CloseParen, Comma, Equals, Minus, OpenBrace, OpenParen, Plus, Semicolon}
+use Rattle.pl_syntax.specs.Words.{begins_with, is_word_byte}
+use Rattle.pl_syntax.specs.Tokens.{Token, the_end, sign, front, Leads, after_gap, after_comment, is_blank, token_here, placed, word_token, sign_token, sign_if, sign_of, word_of, after_word, kind_no_token}
 use Rattle.pl_syntax.specs.Tree.{Tree, done, plain, fork, loop, Plain, new_task, new_phaser, reg, dereg, adv, await, skip}
 use Rattle.pl_syntax.specs.calls.Tree.{AllHere, PlainIsHere}
 use Rattle.pl_syntax.specs.Grammar.{ReadsTokens, header, scan_of, tokens, plain_tokens, sentence}
 use Rattle.pl_syntax.specs.calls.Spacing.{IsGap, empty, blank, comment, left_open, IsSpelling, a_sign, a_word, IsSpaced, all_tokens, is_a_word, is_no_feed}
 use Rattle.pl_syntax.specs.calls.Laws.{TextsAreSpaced}
-use Rattle.pl_syntax.proofs.Fronts.{chosen, ok_pair, was_found}
+use Rattle.pl_syntax.proofs.Fronts.{chosen, ok_pair, was_found, word_is_word}
 use Rattle.pl_syntax.proofs.LineFeeds.{is_real, tokens_append}
 use Rattle.pl_syntax.proofs.Leaves.{Leads-append}
 use Rattle.pl_syntax.proofs.Writable.{text_is_writable}
@@ -35,10 +33,6 @@ data Commented (text : List ℕ) : Type 0 where
   ends : (body : List ℕ) (gap : List ℕ) → list_all is_no_feed body ≡ true → IsGap false gap → text ≡ body ++ (10 ∷ (gap ++ after_comment text)) → Commented text
   ends_last : (body : List ℕ) (gap : List ℕ) → list_all is_no_feed body ≡ true → IsGap true gap → text ≡ body ++ (10 ∷ gap) → after_comment text ≡ [] → Commented text
   stays_open : list_all is_no_feed text ≡ true → after_comment text ≡ [] → Commented text
-
-and_is : (a b : Bool) → (a && b) ≡ true → (a ≡ true) × (b ≡ true)
-and_is true b e = (refl, e)
-and_is false b e = absurd (false≢true e)
 
 -- what begins so goes on beginning so
 begins_front : (body rest text : List ℕ) → text ≡ body ++ (10 ∷ rest) → begins_with 47 text ≡ true → begins_with 47 body ≡ true
@@ -59,10 +53,10 @@ comment_split :
 comment_split b bs not_blank begins rest = by rest
   where
     slash : b ≡ 47
-    slash = eqb-true b 47 (and_is (b == 47) (begins_with 47 bs) begins).0
+    slash = eqb-true b 47 (and_parts (b == 47) (begins_with 47 bs) begins).0
 
     second : begins_with 47 bs ≡ true
-    second = (and_is (b == 47) (begins_with 47 bs) begins).1
+    second = (and_parts (b == 47) (begins_with 47 bs) begins).1
 
     is : after_gap (b ∷ bs) ≡ after_comment bs
     is =
@@ -143,13 +137,13 @@ no_feed false e = refl
 behind_comment : (text rest : List ℕ) → list_all is_no_feed text ≡ true → after_comment (text ++ (10 ∷ rest)) ≡ after_gap rest
 behind_comment [] rest free = refl
 behind_comment (b ∷ bs) rest free =
-    let a = and_is (not (b == 10)) (list_all is_no_feed bs) free in
+    let a = and_parts (not (b == 10)) (list_all is_no_feed bs) free in
     ap (λ v. cond v (after_gap (bs ++ (10 ∷ rest))) (after_comment (bs ++ (10 ∷ rest)))) (no_feed (b == 10) a.0) ∙ behind_comment bs rest a.1
 
 open_comment : (text : List ℕ) → list_all is_no_feed text ≡ true → after_comment text ≡ []
 open_comment [] free = refl
 open_comment (b ∷ bs) free =
-    let a = and_is (not (b == 10)) (list_all is_no_feed bs) free in
+    let a = and_parts (not (b == 10)) (list_all is_no_feed bs) free in
     ap (λ v. cond v (after_gap bs) (after_comment bs)) (no_feed (b == 10) a.0) ∙ open_comment bs a.1
 
 begins_more : (text rest : List ℕ) → begins_with 47 text ≡ true → begins_with 47 (text ++ rest) ≡ true
@@ -198,7 +192,7 @@ word_run : (w rest : List ℕ) → list_all is_word_byte w ≡ true → Stops re
 word_run [] [] all stops = refl
 word_run [] (b ∷ bs) all stops = ap (λ v. cond v (1 + prefix_len is_word_byte bs) 0) stops
 word_run (b ∷ bs) rest all stops =
-    let a = and_is (is_word_byte b) (list_all is_word_byte bs) all in
+    let a = and_parts (is_word_byte b) (list_all is_word_byte bs) all in
     ap (λ v. cond v (1 + prefix_len is_word_byte (bs ++ rest)) 0) a.0 ∙ (let more = word_run bs rest a.1 stops in omega arith)
 
 -- a run of word bytes takes its first one
@@ -233,66 +227,20 @@ run_is (b ∷ bs) = let rest = run_is bs in run_by b bs rest.0 rest.1 (is_word_b
 abbrev Found : Token → Result Token ℕ
 Found t = Ok t
 
--- what a word is is a word
-digits_word : (o : Option ℕ) (t : Token) → digits_token o ≡ Found t → is_a_word t ≡ true
-digits_word None t e = absurd (let q : Err kind_no_number ≡ Found t = e in cc)
-digits_word (Some n) t e = let q : Found (number n) ≡ Found t = e in let same : number n ≡ t = cc in ap is_a_word (sym same)
-
-letters_word : (w : List ℕ) (o : Option Keyword) (t : Token) → letters_token w o ≡ Found t → is_a_word t ≡ true
-letters_word w (Some c) t e = let q : Found (word c) ≡ Found t = e in let same : word c ≡ t = cc in ap is_a_word (sym same)
-letters_word w None t e =
-    elim (chosen (has_name_form w) _ _ (Found t) e) [
-      | inr p ↦ absurd (let q : Err kind_no_token ≡ Found t = p.1 in cc)
-      | inl p ↦ elim (chosen (nat_le (length w) MAX_NAME_BYTES) _ _ (Found t) p.1) [
-        | inr q ↦ absurd (let r : Err kind_too_long ≡ Found t = q.1 in cc)
-        | inl q ↦ (let r : Found (name w) ≡ Found t = q.1 in let same : name w ≡ t = cc in ap is_a_word (sym same))
-      ]
-    ]
-
-word_is_word : (l : Language) (w : List ℕ) (t : Token) → word_token l w ≡ Found t → is_a_word t ≡ true
-word_is_word l w t e =
-    elim (chosen (list_any is_digit (take 1 w)) _ _ (Found t) e) [
-      | inl p ↦ digits_word (number_of w) t p.1
-      | inr p ↦ letters_word w (keyword_in l w) t p.1
-    ]
-
 -- a sign's byte is of no word, no blank and no slash
 abbrev IsSignByte : ℕ → Type 0
 IsSignByte b = (is_word_byte b ≡ false) × (is_blank b ≡ false) × ((b == 47) ≡ false)
 
-at_byte : (b c : ℕ) → (b == c) ≡ true → IsSignByte c → IsSignByte b
-at_byte b c e h = subst IsSignByte (sym (eqb-true b c e)) h
+-- where what a byte is comes from a test of it, or from the tests that follow
+by_test : (b c : ℕ) (a x : Option Sign) (s : Sign) → IsSignByte c → (x ≡ Some s → IsSignByte b) → cond (b == c) a x ≡ Some s → IsSignByte b
+by_test b c a x s here more e = elim (chosen (b == c) a x (Some s) e) [ inl p ↦ subst IsSignByte (sym (eqb-true b c p.0)) here | inr p ↦ more p.1 ]
 
 sign_byte : (b : ℕ) (s : Sign) → sign_of true b ≡ Some s → IsSignByte b
-sign_byte b s e =
-    elim (chosen (b == 61) _ _ _ e) [
-      | inl p ↦ at_byte b 61 p.0 (refl, refl, refl)
-      | inr p ↦ elim (chosen (b == 40) _ _ _ p.1) [
-        | inl p ↦ at_byte b 40 p.0 (refl, refl, refl)
-        | inr p ↦ elim (chosen (b == 41) _ _ _ p.1) [
-          | inl p ↦ at_byte b 41 p.0 (refl, refl, refl)
-          | inr p ↦ elim (chosen (b == 44) _ _ _ p.1) [
-            | inl p ↦ at_byte b 44 p.0 (refl, refl, refl)
-            | inr p ↦ elim (chosen (b == 59) _ _ _ p.1) [
-              | inl p ↦ at_byte b 59 p.0 (refl, refl, refl)
-              | inr p ↦ elim (chosen (b == 123) _ _ _ p.1) [
-                | inl p ↦ at_byte b 123 p.0 (refl, refl, refl)
-                | inr p ↦ elim (chosen (b == 125) _ _ _ p.1) [
-                  | inl p ↦ at_byte b 125 p.0 (refl, refl, refl)
-                  | inr p ↦ elim (chosen (b == 43) _ _ _ p.1) [
-                    | inl p ↦ at_byte b 43 p.0 (refl, refl, refl)
-                    | inr p ↦ elim (chosen (b == 45) _ _ _ p.1) [
-                      | inl p ↦ at_byte b 45 p.0 (refl, refl, refl)
-                      | inr p ↦ absurd (let none : None ≡ Some s = p.1 in cc)
-                    ]
-                  ]
-                ]
-              ]
-            ]
-          ]
-        ]
-      ]
-    ]
+sign_byte b s =
+    by_test b 61 _ _ s (refl, refl, refl) (by_test b 40 _ _ s (refl, refl, refl) (by_test b 41 _ _ s (refl, refl, refl) (by_test b 44 _ _ s (refl, refl, refl)
+    (by_test b 59 _ _ s (refl, refl, refl) (by_test b 123 _ _ s (refl, refl, refl)
+    (by_test b 125 _ _ s (refl, refl, refl) (by_test b 43 _ _ s (refl, refl, refl)
+    (by_test b 45 _ _ s (refl, refl, refl) (λ e. absurd (let none : None ≡ Some s = e in cc))))))))))
 
 -- where no gap begins, none goes
 stays : (b : ℕ) (bs : List ℕ) → is_blank b ≡ false → (b == 47) ≡ false → after_gap (b ∷ bs) ≡ b ∷ bs
@@ -317,35 +265,35 @@ is_near (sign Plus) = false
 is_near (sign Minus) = false
 is_near t = true
 
+-- the tests for the signs of both languages, which come first
+abbrev sign_before : ℕ → Option Sign → Option Sign
+sign_before b x =
+    cond (b == 61) (Some Equals) (cond (b == 40) (Some OpenParen) (cond (b == 41) (Some CloseParen) (cond (b == 44) (Some Comma)
+    (cond (b == 59) (Some Semicolon) (cond (b == 123) (Some OpenBrace) (cond (b == 125) (Some CloseBrace) x))))))
+
+-- what follows a test, or the tests, makes the difference
+cond_or : (c : Bool) (a x y : Option Sign) (s : Sign) → (x ≡ Some s → y ≡ Some s) → cond c a x ≡ Some s → cond c a y ≡ Some s
+cond_or true a x y s more e = e
+cond_or false a x y s more e = more e
+
+sign_or : (b : ℕ) (x y : Option Sign) (s : Sign) → (x ≡ Some s → y ≡ Some s) → sign_before b x ≡ Some s → sign_before b y ≡ Some s
+sign_or b x y s more =
+    cond_or (b == 61) _ _ _ s (cond_or (b == 40) _ _ _ s (cond_or (b == 41) _ _ _ s (cond_or (b == 44) _ _ _ s
+    (cond_or (b == 59) _ _ _ s (cond_or (b == 123) _ _ _ s (cond_or (b == 125) _ x y s more))))))
+
+-- the signs of a byte that follow, where + and - are signs
+abbrev far_sign : Bool → ℕ → Option Sign
+far_sign offsets b = cond (b == 43) (sign_if offsets Plus) (cond (b == 45) (sign_if offsets Minus) None)
+
 -- the sign of a byte, where + and - are signs, is its sign where they are not, or it is one of these
 same_sign_of : (offsets : Bool) (b : ℕ) (s : Sign) → (offsets ≡ false → is_near (sign s) ≡ true) → sign_of true b ≡ Some s → sign_of offsets b ≡ Some s
 same_sign_of true b s near e = e
 same_sign_of false b s near e =
-    elim (chosen (b == 61) _ _ _ e) [
-      | inl p ↦ rw p.0 p.1
-      | inr p ↦ rw p.0 (elim (chosen (b == 40) _ _ _ p.1) [
-        | inl p ↦ rw p.0 p.1
-        | inr p ↦ rw p.0 (elim (chosen (b == 41) _ _ _ p.1) [
-          | inl p ↦ rw p.0 p.1
-          | inr p ↦ rw p.0 (elim (chosen (b == 44) _ _ _ p.1) [
-            | inl p ↦ rw p.0 p.1
-            | inr p ↦ rw p.0 (elim (chosen (b == 59) _ _ _ p.1) [
-              | inl p ↦ rw p.0 p.1
-              | inr p ↦ rw p.0 (elim (chosen (b == 123) _ _ _ p.1) [
-                | inl p ↦ rw p.0 p.1
-                | inr p ↦ rw p.0 (elim (chosen (b == 125) _ _ _ p.1) [
-                  | inl p ↦ rw p.0 p.1
-                  | inr p ↦ absurd (elim (chosen (b == 43) _ _ _ p.1) [
-                    | inl p ↦ far Plus p.1 refl
-                    | inr p ↦ elim (chosen (b == 45) _ _ _ p.1) [ inl p ↦ far Minus p.1 refl | inr p ↦ (let none : None ≡ Some s = p.1 in cc) ]
-                  ])
-                ])
-              ])
-            ])
-          ])
-        ])
-      ])
-    ]
+    sign_or b (far_sign true b) (far_sign false b) s
+    (λ e. absurd (elim (chosen (b == 43) _ _ _ e) [
+      | inl p ↦ far Plus p.1 refl
+      | inr p ↦ elim (chosen (b == 45) _ _ _ p.1) [ inl p ↦ far Minus p.1 refl | inr p ↦ (let none : None ≡ Some s = p.1 in cc) ]
+    ])) e
   where
     far : (r : Sign) → ◌≡◌ {A = Option Sign} (Some r) (Some s) → is_near (sign r) ≡ false → ⊥
     far r same not_near = (let is : r ≡ s = cc in let q : false ≡ true = sym not_near ∙ ap (λ (x : Sign). is_near (sign x)) is ∙ near refl in cc)
@@ -359,7 +307,7 @@ spelled_here scan pl t w rest near (a_sign {s} {b} is) stops =
     ∙ ap (λ v. cond v (placed at (word_token scan.language (word_of (b ∷ rest))) (after_word (b ∷ rest))) (placed at (sign_token (sign_of scan.offsets b)) rest)) h.0
     ∙ ap (λ o. placed at (sign_token o) rest) (same_sign_of scan.offsets b s near is)
 spelled_here scan pl t w rest near (a_word {b = b} {bs = bs} all is) stops =
-    let first = (and_is (is_word_byte b) (list_all is_word_byte bs) all).0 in
+    let first = (and_parts (is_word_byte b) (list_all is_word_byte bs) all).0 in
     let whole = b ∷ (bs ++ rest) in
     let at = scan.total - length whole in
     let run : length (b ∷ bs) ≡ prefix_len is_word_byte whole = sym (word_run (b ∷ bs) rest all (stops (word_is_word Phasers (b ∷ bs) t is))) in
@@ -407,12 +355,12 @@ spaced_part : (scan : Scan) → scan.language ≡ Phasers → (ts us : List Toke
     IsSpaced behind (ts ++ us) text → (mid : List ℕ) × Leads scan text ts mid × IsSpaced (after_tokens behind ts) us mid
 spaced_part scan pl [] us behind text near h = (text, refl, h)
 spaced_part scan pl (t ∷ ts) us behind text near h =
-    let rest = spaced_part scan pl ts us (is_a_word t) h.2 (λ off. (and_is (is_near t) (list_all is_near ts) (near off)).1) h.7 in (
+    let rest = spaced_part scan pl ts us (is_a_word t) h.2 (λ off. (and_parts (is_near t) (list_all is_near ts) (near off)).1) h.7 in (
       rest.0,
       (
         h.2,
         ap (front scan) h.3
-            ∙ spelled_front scan pl t h.0 h.1 h.2 (λ off. (and_is (is_near t) (list_all is_near ts) (near off)).0) h.4 h.5
+            ∙ spelled_front scan pl t h.0 h.1 h.2 (λ off. (and_parts (is_near t) (list_all is_near ts) (near off)).0) h.4 h.5
             (λ is. spaced_stops (ts ++ us) h.2 (subst (λ v. IsSpaced v (ts ++ us) h.2) is h.7)),
         rest.1,
       ),
@@ -479,31 +427,12 @@ record Spelled (t : Token) (text mid : List ℕ) : Type 0 where
 more_signs : (offsets : Bool) (b : ℕ) (s : Sign) → sign_of offsets b ≡ Some s → sign_of true b ≡ Some s
 more_signs true b s e = e
 more_signs false b s e =
-    elim (chosen (b == 61) _ _ _ e) [
-      | inl p ↦ rw p.0 p.1
-      | inr p ↦ rw p.0 (elim (chosen (b == 40) _ _ _ p.1) [
-        | inl p ↦ rw p.0 p.1
-        | inr p ↦ rw p.0 (elim (chosen (b == 41) _ _ _ p.1) [
-          | inl p ↦ rw p.0 p.1
-          | inr p ↦ rw p.0 (elim (chosen (b == 44) _ _ _ p.1) [
-            | inl p ↦ rw p.0 p.1
-            | inr p ↦ rw p.0 (elim (chosen (b == 59) _ _ _ p.1) [
-              | inl p ↦ rw p.0 p.1
-              | inr p ↦ rw p.0 (elim (chosen (b == 123) _ _ _ p.1) [
-                | inl p ↦ rw p.0 p.1
-                | inr p ↦ rw p.0 (elim (chosen (b == 125) _ _ _ p.1) [
-                  | inl p ↦ rw p.0 p.1
-                  | inr p ↦ absurd (elim (chosen (b == 43) _ _ _ p.1) [
-                    | inl p ↦ (let none : None ≡ Some s = p.1 in cc)
-                    | inr p ↦ elim (chosen (b == 45) _ _ _ p.1) [ inl p ↦ (let none : None ≡ Some s = p.1 in cc) | inr p ↦ (let none : None ≡ Some s = p.1 in cc) ]
-                  ])
-                ])
-              ])
-            ])
-          ])
-        ])
-      ])
-    ]
+    sign_or b (far_sign false b) (far_sign true b) s (λ e. absurd (let none : None ≡ Some s = sym (no_sign (b == 43) (b == 45)) ∙ e in cc)) e
+  where
+    no_sign : (c d : Bool) → ◌≡◌ {A = Option Sign} (cond c None (cond d None None)) None
+    no_sign true d = refl
+    no_sign false true = refl
+    no_sign false false = refl
 
 sign_spelled : (offsets : Bool) (o : Option Sign) (b : ℕ) (bs mid : List ℕ) (t : Token) → sign_of offsets b ≡ o → sign_token o ≡ Found t → bs ≡ mid → Spelled t (b ∷ bs) mid
 sign_spelled offsets None b bs mid t is e rest = absurd (let q : Err kind_no_token ≡ Found t = e in cc)
@@ -584,7 +513,7 @@ leads_before : (scan : Scan) → scan.language ≡ Phasers → (ts us : List Tok
 leads_before scan pl [] us behind text mid real stops h rest =
     subst (λ (m : List ℕ). IsSpaced behind us m) (sym h) (rest (λ is. subst Stops h (stops is)))
 leads_before scan pl (t ∷ ts) us behind text mid real stops h rest =
-    let all = and_is (is_real t) (list_all is_real ts) real in
+    let all = and_parts (is_real t) (list_all is_real ts) real in
     let at = placed_in scan pl text h.0 t all.0 h.1 in
     let sp = at.spelled in (
       at.gap,

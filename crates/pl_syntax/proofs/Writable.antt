@@ -1,25 +1,26 @@
 -- The tree of a text can be printed: its names are names, and its numbers are numbers.
 use Rattle.std.proofs.Common.{cond, subst, sym, ◌==◌, ◌∙◌, ◌≡◌, ℕ, ◌≤◌, ◌&&◌, Bool, true, false, List, [], ◌∷◌, length, take, Option, Some, None, Result, Ok, Err, refl, ap, arith, nat_le, inl, inr}
 use Rattle.std.specs.List.{list_any, list_all}
+use Rattle.std.proofs.lemmas.Bool.{and_parts, false≢true}
 use Rattle.std.proofs.lemmas.Bool.Decides.{nat_tests}
 use Rattle.pl_syntax.specs.declared.scan.Language.{Language}
 use Rattle.pl_syntax.specs.declared.scan.Language.TheVariants.{Phasers}
 use Rattle.pl_syntax.specs.declared.scan.Scan.{Scan}
-use Rattle.pl_syntax.specs.declared.limits.TheConstants.{MAX_NAME_BYTES, MAX_DIGITS, MAX_NUMBER}
-use Rattle.pl_syntax.specs.declared.fault.TheConstants.{NO_TOKEN, NO_NUMBER, TOO_LONG}
+use Rattle.pl_syntax.specs.declared.limits.TheConstants.{MAX_DIGITS, MAX_NUMBER}
+use Rattle.pl_syntax.specs.declared.fault.TheConstants.{NO_TOKEN, NO_NUMBER}
 use Rattle.armus_base.specs.declared.offset.Offset.TheVariants.{Ahead, Back, Here}
 use Rattle.pl_syntax.specs.declared.tree.Program.{Program}
 use Rattle.pl_syntax.specs.declared.token.Keyword.{Keyword}
 use Rattle.pl_syntax.specs.declared.token.Sign.{Sign}
 use Rattle.pl_syntax.specs.declared.token.Sign.TheVariants.{CloseBrace, Minus, Plus}
 use Rattle.pl_syntax.specs.calls.Words.{IsName, IsNameIn}
-use Rattle.pl_syntax.specs.Words.{is_word_byte, is_digit, keyword_in, has_name_form, has_no_leading_zero, is_number, number_of, value_from}
+use Rattle.pl_syntax.specs.Words.{is_word_byte, is_digit, keyword_in, has_no_leading_zero, is_number, number_of, value_from}
 use Rattle.pl_syntax.specs.Tokens.{Token, the_end, sign, word, name, number, front, after_gap, token_here, word_token, letters_token, digits_token, sign_token, sign_of, word_of, Leads}
 use Rattle.pl_syntax.specs.Tree.{Tree, done, plain, fork, loop, Plain, new_task, new_phaser, reg, dereg, adv, await, skip}
 use Rattle.pl_syntax.specs.calls.Tree.{AllHere, PlainIsHere}
 use Rattle.pl_syntax.specs.Grammar.{tokens, plain_tokens, sentence, scan_of, ReadsTokens, IsText}
 use Rattle.pl_syntax.specs.calls.Printed.{PlainIsWritable, TreeIsWritable, IsWritable}
-use Rattle.pl_syntax.proofs.Fronts.{chosen, ok_pair, was_found, name_in_front}
+use Rattle.pl_syntax.proofs.Fronts.{chosen, letters_found, name_in_front, ok_pair, was_found, word_is_word}
 
 -- ---- numbers
 
@@ -32,20 +33,14 @@ some n = Some n
 abbrev none : Option ℕ
 none = None
 
-and_parts : (a b : Bool) → (a && b) ≡ true → (a ≡ true) × (b ≡ true)
-and_parts true b e = (refl, e)
-and_parts false b e = absurd cc
+-- the token is of letters
+abbrev is_letters : Token → Bool
+is_letters (word k) = true
+is_letters (name x) = true
+is_letters t = false
 
 letters_no_number : (w : List ℕ) (o : Option Keyword) (n : ℕ) → letters_token w o ≡ Found (number n) → ⊥
-letters_no_number w (Some k) n e = let q : Found (word k) ≡ Found (number n) = e in cc
-letters_no_number w None n e =
-    elim (chosen (has_name_form w) _ _ (Found (number n)) e) [
-      | inr p ↦ (let q : Err NO_TOKEN ≡ Found (number n) = p.1 in cc)
-      | inl p ↦ elim (chosen (nat_le (length w) MAX_NAME_BYTES) _ _ (Found (number n)) p.1) [
-        | inr q ↦ (let r : Err TOO_LONG ≡ Found (number n) = q.1 in cc)
-        | inl q ↦ (let r : Found (name w) ≡ Found (number n) = q.1 in cc)
-      ]
-    ]
+letters_no_number w o n e = false≢true (letters_found is_letters (λ k. refl) (λ x. refl) w o (number n) e)
 
 digits_number : (o : Option ℕ) (n : ℕ) → digits_token o ≡ Found (number n) → o ≡ some n
 digits_number None n e = absurd (let q : Err NO_NUMBER ≡ Found (number n) = e in cc)
@@ -90,28 +85,6 @@ number_in_front scan text n rest e = number_here scan (after_gap text) n rest e
 
 -- ---- signs of PL 2
 
-letters_no_sign : (w : List ℕ) (o : Option Keyword) (s : Sign) → letters_token w o ≡ Found (sign s) → ⊥
-letters_no_sign w (Some k) s e = let q : Found (word k) ≡ Found (sign s) = e in cc
-letters_no_sign w None s e =
-    elim (chosen (has_name_form w) _ _ (Found (sign s)) e) [
-      | inr p ↦ (let q : Err NO_TOKEN ≡ Found (sign s) = p.1 in cc)
-      | inl p ↦ elim (chosen (nat_le (length w) MAX_NAME_BYTES) _ _ (Found (sign s)) p.1) [
-        | inr q ↦ (let r : Err TOO_LONG ≡ Found (sign s) = q.1 in cc)
-        | inl q ↦ (let r : Found (name w) ≡ Found (sign s) = q.1 in cc)
-      ]
-    ]
-
-digits_no_sign : (o : Option ℕ) (s : Sign) → digits_token o ≡ Found (sign s) → ⊥
-digits_no_sign None s e = let q : Err NO_NUMBER ≡ Found (sign s) = e in cc
-digits_no_sign (Some m) s e = let q : Found (number m) ≡ Found (sign s) = e in cc
-
-word_no_sign : (l : Language) (w : List ℕ) (s : Sign) → word_token l w ≡ Found (sign s) → ⊥
-word_no_sign l w s e =
-    elim (chosen (list_any is_digit (take 1 w)) _ _ (Found (sign s)) e) [
-      | inl p ↦ digits_no_sign (number_of w) s p.1
-      | inr p ↦ letters_no_sign w (keyword_in l w) s p.1
-    ]
-
 -- + or -
 abbrev is_far : Option Sign → Bool
 is_far (Some Plus) = true
@@ -136,7 +109,7 @@ near_here : (scan : Scan) (text : List ℕ) (s : Sign) (rest : List ℕ) → sca
 near_here scan [] s rest off e = let h : the_end ≡ sign s = (ok_pair (the_end, []) (sign s, rest) e).0 in absurd cc
 near_here scan (b ∷ bs) s rest off e =
     elim (chosen (is_word_byte b) _ _ _ e) [
-      | inl p ↦ absurd (word_no_sign scan.language (word_of (b ∷ bs)) s (was_found _ _ _ (sign s) rest p.1).0)
+      | inl p ↦ absurd (false≢true (word_is_word scan.language (word_of (b ∷ bs)) (sign s) (was_found _ _ _ (sign s) rest p.1).0))
       | inr p ↦
           let is = sign_token_is (sign_of scan.offsets b) s (was_found _ _ _ (sign s) rest p.1).0 in
           ap is_far (sym is) ∙ ap (λ (o : Bool). is_far (sign_of o b)) off ∙ near_sign b
@@ -152,6 +125,21 @@ near_in_front scan text s rest off e = near_here scan (after_gap text) s rest of
 -- a token of PL that is a name is a name of PL
 pl_name : (scan : Scan) → scan.language ≡ Phasers → (text w rest : List ℕ) → front scan text ≡ Ok (name w, rest) → IsName w
 pl_name scan pl text w rest e = subst (λ (l : Language). IsNameIn l w) pl (name_in_front scan text w rest e)
+
+-- an await that looks back or ahead
+far_is_writable : (scan : Scan) → scan.language ≡ Phasers → (x : List ℕ) (s : Sign) (k : ℕ) (text : List ℕ) (a b c d : Token) (us : List Token) (end : List ℕ) →
+    is_far (Some s) ≡ true → Leads scan text (a ∷ b ∷ name x ∷ sign s ∷ number k ∷ c ∷ d ∷ us) end →
+    (IsName x × (k ≤ MAX_NUMBER)) × (scan.offsets ≡ false → ⊥) × (mid : List ℕ) × Leads scan mid us end
+far_is_writable scan pl x s k text a b c d us end far h =
+    let u = h.2.2 in
+    let v = u.2 in
+    let w = v.2 in
+    let z = w.2.2 in (
+      (pl_name scan pl h.2.0 x u.0 u.1, number_in_front scan v.0 k w.0 w.1),
+      λ off. false≢true (sym (near_in_front scan u.0 s v.0 off v.1) ∙ far),
+      z.0,
+      z.2,
+    )
 
 plain_is_writable : (scan : Scan) → scan.language ≡ Phasers → (c : Plain) (text : List ℕ) (us : List Token) (end : List ℕ) → Leads scan text (plain_tokens c us) end
     → PlainIsWritable c × (scan.offsets ≡ false → PlainIsHere c) × (mid : List ℕ) × Leads scan mid us end
@@ -169,27 +157,9 @@ plain_is_writable scan pl (adv x) text us end h = let a = h.2 in let b = a.2 in 
 plain_is_writable scan pl (await x Here) text us end h =
     let a = h.2 in let b = a.2 in let z = b.2.2 in ((pl_name scan pl a.0 x b.0 b.1, tt), λ off. refl, z.0, z.2)
 plain_is_writable scan pl (await x (Back k)) text us end h =
-    let a = h.2 in
-    let b = a.2 in
-    let s = b.2 in
-    let n = s.2 in
-    let z = n.2.2 in (
-      (pl_name scan pl a.0 x b.0 b.1, number_in_front scan s.0 k n.0 n.1),
-      λ off. absurd (let near : true ≡ false = near_in_front scan b.0 Minus s.0 off s.1 in cc),
-      z.0,
-      z.2,
-    )
+    let w = far_is_writable scan pl x Minus k text _ _ _ _ us end refl h in (w.0, λ off. absurd (w.1 off), w.2, w.3)
 plain_is_writable scan pl (await x (Ahead k)) text us end h =
-    let a = h.2 in
-    let b = a.2 in
-    let s = b.2 in
-    let n = s.2 in
-    let z = n.2.2 in (
-      (pl_name scan pl a.0 x b.0 b.1, number_in_front scan s.0 k n.0 n.1),
-      λ off. absurd (let near : true ≡ false = near_in_front scan b.0 Plus s.0 off s.1 in cc),
-      z.0,
-      z.2,
-    )
+    let w = far_is_writable scan pl x Plus k text _ _ _ _ us end refl h in (w.0, λ off. absurd (w.1 off), w.2, w.3)
 plain_is_writable scan pl skip text us end h = let z = h.2 in (tt, λ off. tt, z.0, z.2)
 
 pub is_writable : (scan : Scan) → scan.language ≡ Phasers → (p : Tree) (text : List ℕ) (us : List Token) (end : List ℕ) → Leads scan text (tokens p us) end

@@ -1,7 +1,8 @@
 use Rattle.std.proofs.Common.{◌+◌, ◌*◌}
 use Rattle.clock_syntax.specs.Trees.{clock_count, done}
 use Rattle.clock_syntax.specs.calls.Bodies.{clock_followed_by}
-use Rattle.clock_origins.proofs.NotingOps.{OpsNotedSoFar, TurnOpsNoted}
+use Rattle.clock_origins.proofs.NotedInTurn.{NotedSoFar, TurnsNoted}
+use Rattle.clock_origins.proofs.NotingOps.{all_ops}
 use Rattle.clock_origins.proofs.op_walk.+note.Given as goal
 
 abbrev pub decreases-note_body : goal.decreases-note_body
@@ -14,7 +15,7 @@ abbrev pub decreases-note_statement : goal.decreases-note_statement
 decreases-note_statement l = 3 * clock_count (clock_followed_by l.stmt.now done)
 
 abbrev pub invariant-note_body-loop-stmt : goal.invariant-note_body-loop-stmt
-invariant-note_body-loop-stmt l = OpsNotedSoFar l.stmt-items l.stmt-index l.fn.body l.fn.n l.at l.fn.notes l.notes
+invariant-note_body-loop-stmt l = NotedSoFar all_ops l.stmt-items l.stmt-index l.fn.body l.fn.n l.at l.fn.notes l.notes
 
 abbrev pub invariant-note_turns-loop : goal.invariant-note_turns-loop
-invariant-note_turns-loop l = TurnOpsNoted l.fn.n l.fn.body l.fn.notes l.counter l.notes
+invariant-note_turns-loop l = TurnsNoted all_ops l.fn.n l.fn.body l.fn.notes l.counter l.notes

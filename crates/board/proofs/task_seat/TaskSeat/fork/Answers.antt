@@ -1,4 +1,4 @@
-use Rattle.std.proofs.Common.{◌≡◌, Some, sym, ap, ◌∙◌, subst, subst₂, arith}
+use Rattle.std.proofs.Common.{◌≡◌, Some, sym, ap, ◌∙◌, subst, arith}
 use Rattle.atomic_table.specs.Table.{Splits}
 use Rattle.armus_base.specs.Plans.{Forks}
 use Rattle.armus_base.specs.Runs.{first_place}
@@ -6,19 +6,19 @@ use Rattle.armus_base.specs.calls.Seats.{seen_by_child}
 use Rattle.board.specs.declared.view.View.{View}
 use Rattle.board.specs.calls.Rule.{IsKept}
 use Rattle.board.specs.calls.Views.{next_action, place_in, seen}
-use Rattle.board.specs.calls.Seats.{IsNewSeat, IsOf, Known, MakesStep}
+use Rattle.board.specs.calls.Seats.{IsNewSeat, IsOf, Known}
 use Rattle.board.specs.calls.Steps.{child, next_view}
 use Rattle.board.proofs.Forking.{forks, unforked}
 use Rattle.board.proofs.Seated.{acts_sitting, child_apart, child_first, child_new, child_sitting, makes_step, task_inside}
+use Rattle.board.proofs.Called.{next_here, of_board}
 use Rattle.board.proofs.task_seat.TaskSeat.fork.Goals as goal
 use Rattle.board.proofs.task_seat.TaskSeat.fork.Goals.{After-split_seat-place}
 
 pub load-requires : goal.load-requires
 load-requires c =
-    let b = c.board.view_is in
     let s = c.self.view_is in
     let i = c.self.invariant.sitting in
-    let o = subst₂ IsOf (sym s) (sym b) c.requires.made in
+    let o = of_board s c.board.view_is c.requires.made in
     let key = c.board.inside.cells.shared.key in (
       o.table,
       (let n = c.board.invariant.words in omega arith),
@@ -27,10 +27,9 @@ load-requires c =
 
 pub split_seat-place-requires : goal.split_seat-place-requires
 split_seat-place-requires c =
-    let b = c.board.view_is in
     let s = c.self.view_is in
     let i = c.self.invariant.sitting in
-    let o = subst₂ IsOf (sym s) (sym b) c.requires.made in
+    let o = of_board s c.board.view_is c.requires.made in
     let key = c.board.inside.cells.shared.key in
     let same = sym c.load.ensures.2.0 in (
       c.load.ensures.0 ∙ o.table,
@@ -38,7 +37,7 @@ split_seat-place-requires c =
       subst (λ (v : View). Splits (IsKept key) c.load.new.seat.id v (next_view v) (child v)) same
           (forks key.plan.value key.mode c.load.new.seat.id c.self.inside.place.me.0 c.self.inside.task.0 c.args.c.0 i.task i.seat.live
           (ap (λ (k : Known). k.view.holds) s ∙ c.requires.unlocked)
-          (ap (λ (k : Known). next_action k.view) s ∙ c.requires.next)),
+          (next_here s c.requires.next)),
     )
 
 -- what the load and the split told
@@ -52,7 +51,7 @@ record Told (c : After-split_seat-place) : Type 0 where
 
 told : (c : After-split_seat-place) → Told c
 told c =
-    let next = ap (λ (k : Known). next_action k.view) c.self.view_is ∙ c.requires.next in
+    let next = next_here c.self.view_is c.requires.next in
     let e = c.split_seat-place.ensures in record {
       next = next;
       unseen = c.load.ensures.2.2 c.args.c.0 next;
@@ -76,18 +75,13 @@ pub invariant_of-self : goal.invariant_of-self
 invariant_of-self c =
     let t = told c in record {
       no_slot = ap (λ m. m.1) c.split_seat-place.ensures.2 ∙ c.load.ensures.2.1 ∙ c.self.invariant.no_slot;
-      sitting = acts_sitting c.self.inside.place.table_id c.split_seat-place.new.seat.table_id c.self.inside.place.me.0 c.split_seat-place.new.seat.me.0 _ _ _
-          (Forks c.args.c.0) c.self.invariant.sitting
-          t.next (λ q e. cc) (λ q e. cc) (λ q e. cc) t.parent;
+      sitting = acts_sitting (Forks c.args.c.0) c.self.invariant.sitting t.next (λ q e. cc) (λ q e. cc) (λ q e. cc) t.parent;
     }
 
 pub returns-clause-step : goal.returns-clause-step
 returns-clause-step c =
     let t = told c in
-    let i = c.self.invariant.sitting in
-    subst (λ (k : Known). MakesStep (Forks c.args.c.0) k (record { table = c.split_seat-place.new.seat.table_id; view = c.split_seat-place.new.seat.me.0 })) c.self.view_is
-    (makes_step c.self.inside.place.table_id c.split_seat-place.new.seat.table_id c.self.inside.place.me.0 c.split_seat-place.new.seat.me.0 (Forks c.args.c.0)
-    (task_inside _ _ i.seat i.task) t.next t.parent t.table i.seat)
+    makes_step (Forks c.args.c.0) c.self.view_is c.self.invariant.sitting t.next t.parent t.table
 
 pub returns-clause-child : goal.returns-clause-child
 returns-clause-child c =

@@ -1,36 +1,31 @@
-use Rattle.std.proofs.Common.{ℕ, ◌<◌, length, sym, ap, ◌∙◌, subst, subst₂}
+use Rattle.std.proofs.Common.{ℕ, ◌<◌, length, sym, ap, ◌∙◌, subst}
 use mathlib.Core.Option.{none}
 use Rattle.atomic_table.specs.Table.{Allows, step}
 use Rattle.armus_base.specs.Plans.{Plan}
 use Rattle.board.specs.calls.Rule.{IsKept}
-use Rattle.board.specs.calls.Words.{phase_index}
-use Rattle.board.specs.calls.Seats.{Frame, IsOf, Known}
+use Rattle.board.specs.calls.Seats.{IsOf, Known}
 use Rattle.board.specs.calls.Steps.{Recalled, own_phase}
 use Rattle.board.proofs.Loading.{recalls}
-use Rattle.board.proofs.Seated.{own_index, own_small}
+use Rattle.board.proofs.Seated.{own_index}
+use Rattle.board.proofs.Called.{of_board, own_small, phase_word}
 use Rattle.board.proofs.task_seat.TaskSeat.phase.Goals as goal
 
 pub phase_index-index-requires : goal.phase_index-index-requires
-phase_index-index-requires c =
-    let i = c.self.invariant.sitting in
-    (own_small _ _ _ i.seat (subst (λ k. IsOf k c.args.board.now) (sym c.self.view_is) c.requires.made) i.task, c.requires.phaser)
+phase_index-index-requires c = (own_small c.self.invariant.sitting c.self.view_is c.requires.made, c.requires.phaser)
 
 pub load-word-requires : goal.load-word-requires
 load-word-requires c =
-    let b = c.board.view_is in
     let i = c.self.invariant.sitting in
-    let o = subst₂ IsOf (sym c.self.view_is) (sym b) c.requires.made in
-    let key = c.board.inside.cells.shared.key in
+    let o = of_board c.self.view_is c.board.view_is c.requires.made in
+    let e = c.phase_index-index.ensures in
+    let w = phase_word c.self.inside.task.0 c.args.p.0 c.board.view_is c.requires.phaser e.inside e.index in
     let slots = c.board.inside.cells.shared.table_id.slots in
-    let id = c.self.inside.place.id in
-    let me = c.self.inside.place.me in
-    let t = c.self.inside.task.0 in
-    let p = c.args.p.0 in (
+    let me = c.self.inside.place.me in (
       o.table,
-      subst (λ (f : Frame). c.phase_index-index.result < f.table.words) (sym b) c.phase_index-index.ensures.inside,
-      subst (λ (n : ℕ). Allows (IsKept key) slots id me n (λ n. n) (Recalled (step slots n 0 0 none) me))
-          (sym (c.phase_index-index.ensures.index ∙ ap (λ (f : Frame). phase_index f.plan t p) (sym b)))
-          (recalls key.plan.value key.mode slots id me t p i.task i.seat.live o.plan (subst (λ (f : Frame). p < length f.plan.makers) (sym b) c.requires.phaser)),
+      w.inside,
+      subst (λ (n : ℕ). Allows (IsKept c.board.inside.cells.shared.key) slots c.self.inside.place.id me n (λ n. n) (Recalled (step slots n 0 0 none) me))
+          (sym w.is)
+          (recalls _ _ _ _ _ _ _ i.task i.seat.live o.plan w.few),
     )
 
 pub phase_of-requires : goal.phase_of-requires

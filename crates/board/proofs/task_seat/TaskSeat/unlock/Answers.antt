@@ -1,17 +1,17 @@
-use Rattle.std.proofs.Common.{false, sym, ap, ◌∙◌, subst, subst₂, arith}
+use Rattle.std.proofs.Common.{false, ap, ◌∙◌, subst, arith}
 use Rattle.std.proofs.lemmas.Bool.{false≢true}
-use Rattle.board.specs.calls.Seats.{IsOf, Known}
+use Rattle.board.specs.calls.Seats.{Known}
 use Rattle.board.specs.calls.Locking.{FreesLock}
 use Rattle.board.proofs.Locking.{frees}
 use Rattle.board.proofs.Holding.{frees_lock, locked_sitting}
+use Rattle.board.proofs.Called.{of_board}
 use Rattle.board.proofs.task_seat.TaskSeat.unlock.Goals as goal
 
 pub store-requires : goal.store-requires
 store-requires c =
-    let b = c.board.view_is in
     let s = c.self.view_is in
     let i = c.self.invariant.sitting in
-    let o = subst₂ IsOf (sym s) (sym b) c.requires.made in
+    let o = of_board s c.board.view_is c.requires.made in
     let key = c.board.inside.cells.shared.key in (
       o.table,
       (let w = c.board.invariant.words in omega arith),

@@ -1,9 +1,8 @@
-use Rattle.std.proofs.Common.{◌≡◌, ◌+◌, ◌*◌, ◌<◌, length, get_or, sym, ap, ◌∙◌, subst}
-use Rattle.std.specs.Mem.Slots.{slots_items}
+use Rattle.std.proofs.Common.{◌<◌, length, get_or, sym, ap, ◌∙◌, subst}
 use Rattle.armus_base.specs.Places.{state_at}
 use Rattle.board.specs.calls.Words.{phase_index, phase_number}
 use Rattle.board.specs.calls.Ended.{Ended}
-use Rattle.board.proofs.Reading.{number_small, read_at}
+use Rattle.board.proofs.Reading.{number_small, read_phase}
 use Rattle.board.proofs.Ranges.{phases_small}
 use Rattle.board.proofs.words.Words.phase_of.Goals as goal
 
@@ -14,9 +13,7 @@ phase_of-requires c =
     let p = c.args.p.0 in
     let small = subst (λ (e : Ended). t < length e.plan.parents) (sym c.self.view_is) c.requires.task in
     let few = subst (λ (e : Ended). p < length e.plan.makers) (sym c.self.view_is) c.requires.phaser in
-    let at : 1 + c.self.inside.tasks + p * c.self.inside.tasks + t ≡ phase_index c.self.inside.setting.plan.value t p = λ j. 1 + i.tasks j + p * i.tasks j + t in
-    let word = sym (read_at (slots_items c.self.inside.closed.words) (1 + c.self.inside.tasks + p * c.self.inside.tasks + t) _ 0 c.word.ensures) ∙
-    ap (λ n. get_or (slots_items c.self.inside.closed.words) n 0) at in
+    let word = read_phase _ c.self.inside.setting.plan.value t p i.tasks c.word.ensures in
     subst (λ n. n < 4294967296) (sym (word ∙ i.lawful.shown.phases t p small few))
     (number_small ((state_at c.self.inside.setting.plan.value i.lawful.places).phases t p)
     (phases_small c.self.inside.setting.plan.value i.checked i.lawful.places t p))
@@ -28,9 +25,7 @@ returns-clause-number c =
     let p = c.args.p.0 in
     let small = subst (λ (e : Ended). t < length e.plan.parents) (sym c.self.view_is) c.requires.task in
     let few = subst (λ (e : Ended). p < length e.plan.makers) (sym c.self.view_is) c.requires.phaser in
-    let at : 1 + c.self.inside.tasks + p * c.self.inside.tasks + t ≡ phase_index c.self.inside.setting.plan.value t p = λ j. 1 + i.tasks j + p * i.tasks j + t in
-    let word = sym (read_at (slots_items c.self.inside.closed.words) (1 + c.self.inside.tasks + p * c.self.inside.tasks + t) _ 0 c.word.ensures) ∙
-    ap (λ n. get_or (slots_items c.self.inside.closed.words) n 0) at in
+    let word = read_phase _ c.self.inside.setting.plan.value t p i.tasks c.word.ensures in
     ap phase_number (c.phase_of.ensures ((state_at c.self.inside.setting.plan.value i.lawful.places).phases t p) (word ∙ i.lawful.shown.phases t p small few))
     ∙ sym (i.lawful.shown.phases t p small few) ∙ ap (λ (e : Ended). get_or e.words (phase_index e.plan t p) 0) c.self.view_is
 
@@ -39,8 +34,6 @@ returns-clause-meaning c = λ l.
     let i = c.self.invariant in
     let t = c.args.t.0 in
     let p = c.args.p.0 in
-    let at : 1 + c.self.inside.tasks + p * c.self.inside.tasks + t ≡ phase_index c.self.inside.setting.plan.value t p = λ j. 1 + i.tasks j + p * i.tasks j + t in
-    let word = sym (read_at (slots_items c.self.inside.closed.words) (1 + c.self.inside.tasks + p * c.self.inside.tasks + t) _ 0 c.word.ensures) ∙
-    ap (λ n. get_or (slots_items c.self.inside.closed.words) n 0) at
+    let word = read_phase _ c.self.inside.setting.plan.value t p i.tasks c.word.ensures
     ∙ ap (λ (e : Ended). get_or e.words (phase_index e.plan t p) 0) c.self.view_is in
     c.phase_of.ensures ((state_at c.args.self.now.plan l.places).phases t p) (word ∙ l.shown.phases t p c.requires.task c.requires.phaser)
