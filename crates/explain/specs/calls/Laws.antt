@@ -14,30 +14,34 @@ IsOneOutput Answers =
 abbrev pub EachHasOutput : (Option Text → Text → ℕ → Text → Type 0) → Type 0
 EachHasOutput Answers = (file : Option Text) (text : Text) → (status : ℕ) × (lines : Text) × Answers file text status lines
 
--- so it is with the explanation of its run
+-- a text has one explanation of its run at most
 abbrev pub OneOutput : Type 0
 OneOutput = IsOneOutput AnswersText
 
+-- and each text has one
 abbrev pub EachTextIsMet : Type 0
 EachTextIsMet = EachHasOutput AnswersText
 
--- with the steps of its run, of a text of either language
+-- a text of either language has one output with the steps of its run at most
 abbrev pub OneStepsOutput : Type 0
 OneStepsOutput = IsOneOutput AnswersStepsOf
 
+-- and each text has one
 abbrev pub EachTextHasSteps : Type 0
 EachTextHasSteps = EachHasOutput AnswersStepsOf
 
--- with the explanation of its run that avoids deadlock
+-- a text has one explanation of its run that avoids deadlock at most
 abbrev pub OneAvoidedOutput : Type 0
 OneAvoidedOutput = IsOneOutput AnswersAvoided
 
+-- and each text has one
 abbrev pub EachTextIsAvoided : Type 0
 EachTextIsAvoided = EachHasOutput AnswersAvoided
 
--- and with that of a clock text
+-- a clock text has one explanation at most
 abbrev pub OneClockOutput : Type 0
 OneClockOutput = IsOneOutput AnswersClock
 
+-- and each clock text has one
 abbrev pub EachClockTextIsMet : Type 0
 EachClockTextIsMet = EachHasOutput AnswersClock
