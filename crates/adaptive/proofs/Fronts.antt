@@ -7,7 +7,7 @@ use Rattle.armus_base.specs.declared.event.Event.{Event}
 use Rattle.armus_base.specs.declared.ids.PhaserId.{PhaserId}
 use Rattle.armus_base.specs.declared.status.Status.{Status}
 use Rattle.adaptive.specs.declared.standings.Standing.{Standing}
-use Rattle.adaptive.specs.inside.Standings.{AreStandingsOf, IsBelow, IsFirstOnPhaser, IsFront, IsRemainingImpeder, IsStop, IsUnimpeded, StandingsNeverFall, remains_at}
+use Rattle.adaptive.specs.inside.Standings.{AreStandingsOf, IsStandingBelow, IsFirstOnPhaser, IsFront, IsRemainingImpeder, IsStop, IsUnimpeded, StandingsNeverFall, remains_at}
 
 -- a standing as its parts
 standing : ℕ → ℕ → ℕ → Standing
@@ -22,7 +22,7 @@ phaser_is p q e = ap phaser_of e
 
 module _ (ss : List Status) (xs : List Standing) (remains : List Bool) (are : AreStandingsOf ss xs) (ordered : StandingsNeverFall xs) (e : Event) (i : ℕ)
     (front : IsFront xs remains e.p.0 i) (stop : IsStop xs remains e.p.0 i) where
-  pub impeded_below : IsBelow xs i e → (j : ℕ) × IsRemainingImpeder ss remains e j
+  pub impeded_below : IsStandingBelow xs i e → (j : ℕ) × IsRemainingImpeder ss remains e j
   unfolding standing
   impeded_below below =
       let d = standing 0 0 0 in
@@ -40,7 +40,7 @@ module _ (ss : List Status) (xs : List Standing) (remains : List Bool) (are : Ar
         ),
       )
 
-  pub unimpeded_else : (IsBelow xs i e → ⊥) → IsUnimpeded ss remains e
+  pub unimpeded_else : (IsStandingBelow xs i e → ⊥) → IsUnimpeded ss remains e
   unfolding standing
   unimpeded_else not_below k n stands low =
       let listed = (are.exact k e.p.0 n).1 stands in

@@ -1,6 +1,6 @@
 // The first standing on a phaser whose task remains.
 ghost use Rattle.std.specs.Prelude.{◌<◌, All, MatchBool, length};
-ghost use Rattle.adaptive.specs.inside.Standings.{IsBelow, IsFront, IsPassed, IsStop};
+ghost use Rattle.adaptive.specs.inside.Standings.{IsStandingBelow, IsFront, IsPassed, IsStop};
 
 use crate::standings::Standing;
 use armus_base::{Event, PhaserId};
@@ -34,7 +34,7 @@ pub(crate) fn front_from(
 
 /// Whether some task that remains stands on the event's phaser at a phase below, by the first one that does.
 pub(crate) fn is_impeded_at(standings: &[Standing], front: usize, event: Event) -> bool
-    ensures { MatchBool result (IsBelow standings.now front event) (IsBelow standings.now front event → ⊥) }
+    ensures { MatchBool result (IsStandingBelow standings.now front event) (IsStandingBelow standings.now front event → ⊥) }
 {
     front < standings.len() && standings[front].at.p == event.p && standings[front].at.n < event.n
 }

@@ -7,12 +7,13 @@ use Rattle.armus_base.specs.declared.op.Op.{Op}
 use Rattle.armus_base.specs.declared.op.Op.TheVariants as op
 use Rattle.armus_base.specs.Limits.{max_ops, max_phasers, max_tasks}
 use Rattle.armus_base.specs.Places.{first_phases, first_phases_by, own_phases, phases_after, registered}
+use Rattle.armus_base.specs.Numbers.{phaser}
 use Rattle.armus_base.specs.Plans.{Plan, action_at, actions, actions_of, code_of, number_or_zero, parent_of}
 use Rattle.armus_base.proofs.Lists.{slice_get-append}
 use Rattle.pl_syntax.specs.declared.tree.Program.{Program}
 use Rattle.pl_syntax.specs.calls.Tree.{AreNear}
 use Rattle.pl_syntax.specs.Tree.{Tree}
-use Rattle.pl_plan.specs.Unfolding.{Start, UnfoldingState, Visit, add_op, fault_unless, leave, leave_below, make_visits, opening_state, phaser, plan_of, too_many_ops}
+use Rattle.pl_plan.specs.Unfolding.{Start, UnfoldingState, Visit, add_op, fault_unless, leave, leave_below, make_visits, opening_state, plan_of, too_many_ops}
 use Rattle.pl_plan.specs.Unfolding.{unfold_task, unfold_tasks, visits_of, with_member, with_members, with_names, with_op, with_pieces}
 use Rattle.pl_plan.proofs.Growth.{last_phases}
 use Rattle.pl_plan.proofs.Sound.{IsActing, IsSound, NearStart, is_begun}

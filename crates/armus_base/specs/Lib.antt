@@ -1,6 +1,7 @@
 pub mod Limits
 pub mod Pieces
 pub mod Offsets
+pub mod Numbers
 pub mod Plans
 pub mod States
 pub mod Runs

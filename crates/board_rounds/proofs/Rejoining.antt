@@ -11,7 +11,7 @@ use Rattle.armus_base.specs.CheckedPlans.{IsCheckedPlan}
 use Rattle.armus_base.specs.calls.Seats.{seen_by_child}
 use Rattle.armus_base.proofs.Elements.{Contains-cons_cases, nothing_in_nil}
 use Rattle.board.specs.calls.Seats.{Frame, IsNewSeat, IsOf, Known, nothing_seen}
-use Rattle.board_rounds.specs.calls.Turns.{ActsNoMore, EachActs, MayTakeTurn, Working, in_32_bits, loads_between, loads_of}
+use Rattle.board_rounds.specs.calls.Turns.{ActsNoMore, EachActs, MayTakeTurn, Working, in_32_bits, loads_between, loads_made_by}
 use Rattle.board_rounds.specs.declared.board_tasks.Rounded.{Rounded}
 use Rattle.board_rounds.specs.calls.TaskSeats.{AreTasksOf, AreTaskSeatsOf, Tasks, all_of, all_steps, left_to, number, progress_of}
 use Rattle.board_rounds.specs.calls.Rounds.{HasTakenTurn, HaveEnded, MakesRound, all_forked, emptied, fresh_of}
@@ -77,7 +77,7 @@ zeros [] = refl
 zeros (w ∷ ws) = (let r = zeros ws in let s = sum_by-cons (length {A = Action}) (no_steps w) (map no_steps ws) in omega arith)
 
 -- taking the children's seats out makes no load
-emptied_loads : (ws : List Working) → loads_of (map emptied ws) ≡ loads_of ws
+emptied_loads : (ws : List Working) → loads_made_by (map emptied ws) ≡ loads_made_by ws
 emptied_loads [] = refl
 emptied_loads (w ∷ ws) =
     let x = sum_by-cons loads_in (emptied w) (map emptied ws) in

@@ -4,7 +4,7 @@ use Rattle.std.proofs.lemmas.List.{map-append, map-id}
 use Rattle.std.proofs.lemmas.List.Sums.{sum_by-append, sum_by-cons}
 use Rattle.armus_base.specs.Plans.{Action}
 use Rattle.board.specs.calls.Seats.{Frame, Known}
-use Rattle.board_rounds.specs.calls.Turns.{Acts, EachActs, EachEndsTurn, EndsTurnWithin, MayTakeTurn, TakesInOrder, TakesTurns, Working, by_one_worker, by_several, in_32_bits, in_64_bits, loads_between, loads_of, no_task, no_turn, one_task, one_turn}
+use Rattle.board_rounds.specs.calls.Turns.{Acts, EachActs, EachEndsTurn, EndsTurnWithin, MayTakeTurn, TakesInOrder, TakesTurns, Working, by_one_worker, by_several, in_32_bits, in_64_bits, loads_between, loads_made_by, no_task, no_turn, one_task, one_turn}
 use Rattle.board_rounds.proofs.Goings.{acts_itself}
 
 -- what is read and written in a list, through a function
@@ -146,7 +146,7 @@ abbrev pub loads_in : Working → ℕ
 loads_in w = w.seat.view.loads
 
 -- no load is lost
-order_grows : {bound loads : ℕ} {olds news : List Working} → TakesInOrder bound loads olds news → loads_of olds ≤ loads_of news
+order_grows : {bound loads : ℕ} {olds news : List Working} → TakesInOrder bound loads olds news → loads_made_by olds ≤ loads_made_by news
 order_grows no_turn = omega arith
 order_grows (one_turn {before = before} {now = now} {befores = befores} {nows = nows} made more ends p) =
     let x = sum_by-cons loads_in before befores in
@@ -154,7 +154,7 @@ order_grows (one_turn {before = before} {now = now} {befores = befores} {nows = 
     let r = order_grows p in
     omega arith
 
-turns_grow : {bound : ℕ} {olds news : List Working} → EachEndsTurn bound olds news → loads_of olds ≤ loads_of news
+turns_grow : {bound : ℕ} {olds news : List Working} → EachEndsTurn bound olds news → loads_made_by olds ≤ loads_made_by news
 turns_grow (by_one_worker p) = order_grows p
 turns_grow (by_several {front = a} {behind = b} {front_now = x} {behind_now = y} p q) =
     let s = sum_by-append loads_in a b in

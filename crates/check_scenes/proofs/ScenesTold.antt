@@ -3,7 +3,8 @@ use Rattle.std.proofs.Common.{◌≡◌, ℕ, ◌+◌, ◌-◌, ◌*◌, ◌<◌
 use Rattle.std.specs.Prelude.{◌&&◌, ◌||◌, ◌==◌, if◌then◌else◌, map, nat_le, nat_lt, slice_index_or, sum_by}
 use Rattle.armus_base.specs.declared.ids.TaskId.{TaskId}
 use Rattle.pl_syntax.specs.Tree.{Tree, done, plain, fork, loop, count, reg}
-use Rattle.pl_plan.specs.Unfolding.{Coming, UnfoldingState, Visit, a_plain, already_forked, already_member, not_drawn_here, not_member, opening_state, other_kind, phaser, task, unknown_name}
+use Rattle.armus_base.specs.Numbers.{phaser, task}
+use Rattle.pl_plan.specs.Unfolding.{Coming, UnfoldingState, Visit, a_plain, already_forked, already_member, not_drawn_here, not_member, opening_state, other_kind, unknown_name}
 use Rattle.pl_plan.specs.Stages.{FailsAt, Stage, at_visit, comes, leaves}
 use Rattle.pl_plan.specs.Tests.{first_thing, is_task, phaser_wanted, table, task_number}
 use Rattle.pl_plan.specs.declared.fault.CheckFault.{CheckFault}

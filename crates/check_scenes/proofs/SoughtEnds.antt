@@ -6,7 +6,8 @@ use Rattle.std.proofs.lemmas.List.{append-nil}
 use Rattle.armus_base.specs.declared.ids.PhaserId.{PhaserId}
 use Rattle.armus_base.specs.declared.ids.TaskId.{TaskId}
 use Rattle.armus_base.specs.declared.op.Op.TheVariants as op
-use Rattle.pl_plan.specs.Unfolding.{Outcome, Start, UnfoldingState, add_op, fault_unless, leave, opening_state, phaser, too_many_ops, with_member, with_members, ◌>>=◌}
+use Rattle.armus_base.specs.Numbers.{phaser}
+use Rattle.pl_plan.specs.Unfolding.{Outcome, Start, UnfoldingState, add_op, fault_unless, leave, opening_state, too_many_ops, with_member, with_members, ◌>>=◌}
 use Rattle.pl_plan.specs.Stages.{FailsAt, IsNextStage, Stage, StagePasses, after_stage, at_end, begins, has_op_left, leaves, leaves_below, with_code}
 use Rattle.pl_plan.specs.declared.fault.CheckFault.{CheckFault}
 use Rattle.pl_plan.specs.declared.step.Step.{Step}

@@ -3,7 +3,8 @@ use Rattle.std.specs.Prelude.{◌≡◌, ℕ, ◌+◌, ◌==◌, ◌||◌, if◌
 use Rattle.armus_base.specs.declared.ids.TaskId.{TaskId}
 use Rattle.pl_syntax.specs.declared.tree.Program.{Program}
 use Rattle.pl_syntax.specs.Tree.{adv, await, dereg, new_task, reg}
-use Rattle.pl_plan.specs.Unfolding.{Coming, Thing, UnfoldingState, a_fork, a_phaser, a_plain, a_task, already_forked, already_member, not_drawn_here, not_member, opening_state, other_kind, phaser, task, too_many_cells, too_many_ops, too_many_phasers, too_many_tasks, unknown_name}
+use Rattle.armus_base.specs.Numbers.{phaser, task}
+use Rattle.pl_plan.specs.Unfolding.{Coming, Thing, UnfoldingState, a_fork, a_phaser, a_plain, a_task, already_forked, already_member, not_drawn_here, not_member, opening_state, other_kind, too_many_cells, too_many_ops, too_many_phasers, too_many_tasks, unknown_name}
 use Rattle.pl_plan.specs.Tests.{first_thing, is_task, phaser_wanted, task_number}
 use Rattle.pl_plan.specs.Stages.{IsFirstCheckFault, Stage, begins, comes, leaves}
 use Rattle.check_scenes.specs.declared.scene.LoopTurn.{LoopTurn}

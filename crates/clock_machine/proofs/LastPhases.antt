@@ -7,11 +7,11 @@ use Rattle.std.proofs.lemmas.List.{append_assoc, append-nil}
 use Rattle.armus_base.specs.declared.op.Op.{Op}
 use Rattle.armus_base.specs.declared.op.Op.TheVariants as op
 use Rattle.armus_base.specs.declared.offset.Offset.TheVariants.{Here}
+use Rattle.armus_base.specs.Numbers.{phaser, task}
 use Rattle.armus_base.specs.Plans.{Action, Plan, action_at, actions, actions_of, code_of}
 use Rattle.armus_base.specs.States.{Phases, next_phase, updated}
 use Rattle.armus_base.specs.Places.{first_phases, own_phases, own_step, phases_after}
 use Rattle.armus_base.proofs.Steps.{updated_other, updated_same}
-use Rattle.pl_plan.specs.Unfolding.{phaser, task}
 use Rattle.pl_plan.proofs.Growth.{own_steps}
 use Rattle.clock_moves.specs.Moves.{Move, Standing, after_move, code_from, no_standing, opens, starts, advances, resumes, drops, begins, ends, stops}
 use Rattle.clock_machine.proofs.Lawful.{AreLawfulMoves, ClockKinds}

@@ -9,11 +9,12 @@ use Rattle.std.proofs.lemmas.Option.{get_or_from_slice_get, slice_get_past, slic
 use Rattle.armus_base.specs.declared.ids.TaskId.{TaskId}
 use Rattle.armus_base.specs.Limits.{max_tasks}
 use Rattle.armus_base.specs.Pieces.{times}
+use Rattle.armus_base.specs.Numbers.{task}
 use Rattle.armus_base.specs.Plans.{action_at, actions, maker_of, parent_of}
 use Rattle.armus_base.specs.CheckedPlans.{HasFork, IsCheckedPlan}
 use Rattle.armus_base.proofs.Codes.{maker_is}
 use Rattle.armus_base.proofs.Lists.{slice_get-append}
-use Rattle.pl_plan.specs.Unfolding.{◌>>=◌, task}
+use Rattle.pl_plan.specs.Unfolding.{◌>>=◌}
 use Rattle.pl_plan.proofs.Places.{at_more}
 use Rattle.pl_plan.proofs.Tables.{slice_get-last}
 use Rattle.pl_plan.proofs.VisitsLeave.{bind_ok, ok_is}

@@ -7,6 +7,7 @@ use Rattle.armus_base.specs.declared.op.Op.{Op}
 use Rattle.armus_base.specs.declared.op.Op.TheVariants as op
 use Rattle.armus_base.specs.declared.offset.Offset.TheVariants.{Here}
 use Rattle.armus_base.specs.Offsets.{target}
+use Rattle.armus_base.specs.Numbers.{phaser}
 use Rattle.armus_base.specs.Plans.{Action, Advances, Blocks, Drops, Passes, Plan, actions, actions_of, maker_of}
 use Rattle.armus_base.specs.calls.Plans.{here}
 use Rattle.armus_base.specs.States.{IsReached, State, Step, awaited, event_at, event_on, next_phase}
@@ -18,7 +19,6 @@ use Rattle.armus_base.proofs.Members.{plain_undropped}
 use Rattle.armus_base.proofs.Steps.{updated_other, updated_same, with_phase_other, with_phase_same}
 use Rattle.armus_base.proofs.Stepping.{places_fix}
 use Rattle.armus_base.proofs.Tasks.{done_within_code, member_within}
-use Rattle.pl_plan.specs.Unfolding.{phaser}
 use Rattle.clock_machine.proofs.Lawful.{ClockKinds}
 use Rattle.clock_machine.specs.calls.Direct.{ClockState, forgetting, departing_all, with_column, with_entry}
 use Rattle.clock_machine.proofs.Acting.{actions_left, next_legal_here, step_of, unrefused}

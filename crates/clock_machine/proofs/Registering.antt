@@ -5,6 +5,7 @@ use Rattle.std.specs.Prelude.{◌==◌, ◌||◌, is_some, map, option_to_list}
 use Rattle.std.proofs.lemmas.Bool.{cases_eq, eq-eqb, ne_eqb, false≢true}
 use Rattle.armus_base.specs.declared.op.Op.{Op}
 use Rattle.armus_base.specs.declared.op.Op.TheVariants as op
+use Rattle.armus_base.specs.Numbers.{phaser, task}
 use Rattle.armus_base.specs.Plans.{Action, Forks, Plan, Registers, actions_of, maker_of}
 use Rattle.armus_base.specs.States.{Phases, State, Step, with_phase}
 use Rattle.armus_base.specs.Runs.{IsPlainRun, places, state_after}
@@ -14,7 +15,6 @@ use Rattle.armus_base.proofs.Fixed.{phases_forked}
 use Rattle.armus_base.proofs.Members.{other_step, plain_undropped}
 use Rattle.armus_base.proofs.Stepping.{places_fix, unforked_idle}
 use Rattle.armus_base.proofs.Steps.{updated_other, updated_same, with_phase_other, with_phase_same}
-use Rattle.pl_plan.specs.Unfolding.{phaser, task}
 use Rattle.clock_machine.specs.calls.Direct.{ClockState, enrolling, enrolling_all, joining, starting, with_entry}
 use Rattle.clock_machine.proofs.Lawful.{AreIdleClocks, ClockKinds, IsFinishIfAny}
 use Rattle.clock_machine.proofs.Acting.{step_of}

@@ -8,6 +8,7 @@ use Rattle.std.proofs.lemmas.Bool.{cases_Bool, cases_eq, eqb-true, false≢true,
 use Rattle.armus_base.specs.declared.op.Op.{Op}
 use Rattle.armus_base.specs.declared.op.Op.TheVariants as op
 use Rattle.armus_base.specs.declared.offset.Offset.TheVariants.{Here}
+use Rattle.armus_base.specs.Numbers.{phaser, task}
 use Rattle.armus_base.specs.Plans.{Action, Advances, Blocks, Drops, Forks, Passes, Plan, actions, actions_of, code_of, maker_of}
 use Rattle.armus_base.specs.calls.Plans.{here}
 use Rattle.armus_base.specs.States.{Step, updated}
@@ -15,7 +16,6 @@ use Rattle.armus_base.specs.Runs.{state_after}
 use Rattle.armus_base.specs.Places.{first_phases, phases_after, some_before}
 use Rattle.armus_base.specs.CheckedPlans.{HasFork, IsCheckedPlan}
 use Rattle.armus_base.proofs.Steps.{updated_other, updated_same}
-use Rattle.pl_plan.specs.Unfolding.{phaser, task}
 use Rattle.clock_moves.specs.Moves.{Move, Standing, after_move, code_from, no_standing, with_pending, opens, starts, advances, resumes, drops, begins, ends, stops}
 use Rattle.clock_machine.specs.calls.Direct.{ClockState, advance_of, direct_opening, clock_run, clock_step, enrolling, enrolling_all, forgetting, going, joining, departing, departing_all, move_of, opening_clock, settled, signalling, starting, step_from, with_entry}
 use Rattle.clock_machine.proofs.Lawful.{AreLawfulMoves, ClockKinds}

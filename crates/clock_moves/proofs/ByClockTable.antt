@@ -10,7 +10,8 @@ use Rattle.armus_base.specs.Limits.{max_ops}
 use Rattle.armus_base.specs.declared.offset.Offset.TheVariants.{Here}
 use Rattle.armus_base.specs.declared.op.Op.{Op}
 use Rattle.armus_base.specs.declared.op.Op.TheVariants as op
-use Rattle.pl_plan.specs.Unfolding.{Outcome, ◌>>=◌, fault, fault_unless, phaser, task}
+use Rattle.armus_base.specs.Numbers.{phaser, task}
+use Rattle.pl_plan.specs.Unfolding.{Outcome, ◌>>=◌, fault, fault_unless}
 use Rattle.pl_plan.specs.declared.fault.CheckFault.{CheckFault}
 use Rattle.pl_plan.proofs.FirstRows.{answer, first_in, first_of, first_of-append, kind_or, kind_some, none_kind, passes_in, step}
 use Rattle.clock_syntax.specs.Trees.{ClockPlain, ClockTree, advance, clock, drop, resume, skip}

@@ -8,7 +8,7 @@ use Rattle.armus_base.specs.CheckedPlans.{IsCheckedPlan}
 use Rattle.armus_base.proofs.CheckedByCodes.{checked_by_codes}
 use Rattle.armus_base.specs.declared.op.Op.TheVariants as op
 use Rattle.pl_syntax.specs.Tree.{done}
-use Rattle.pl_plan.specs.Unfolding.{phaser}
+use Rattle.armus_base.specs.Numbers.{phaser}
 use Rattle.pl_plan.proofs.Sound.{IsSound}
 use Rattle.pl_plan.proofs.SoundSteps.{state_of}
 use Rattle.pl_plan.proofs.UnfoldedIsChecked.{next_sound, sound_opening}

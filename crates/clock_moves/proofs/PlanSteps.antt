@@ -5,12 +5,13 @@ use Rattle.std.proofs.lemmas.Bool.{false≢true}
 use Rattle.std.proofs.lemmas.Bool.Decides.{nat_tests}
 use Rattle.std.proofs.lemmas.List.{append_assoc, append-nil, get_or-set_same, length-append, length-map, length-set, set-get_or, set-set}
 use Rattle.armus_base.specs.Limits.{max_cells, max_ops, max_phasers, max_tasks}
+use Rattle.armus_base.specs.Numbers.{phaser, task}
 use Rattle.armus_base.specs.Plans.{Plan}
 use Rattle.armus_base.specs.declared.offset.Offset.TheVariants.{Here}
 use Rattle.armus_base.specs.declared.op.Op.{Op}
 use Rattle.armus_base.specs.declared.op.Op.TheVariants as op
 use Rattle.pl_syntax.specs.Tree.{done}
-use Rattle.pl_plan.specs.Unfolding.{Names, ◌>>=◌, Start, UnfoldingState, add_op, fault_unless, is_parent, phaser, task, too_many_ops, with_member, with_op}
+use Rattle.pl_plan.specs.Unfolding.{Names, ◌>>=◌, Start, UnfoldingState, add_op, fault_unless, is_parent, too_many_ops, with_member, with_op}
 use Rattle.pl_plan.proofs.Sound.{IsActing}
 use Rattle.pl_plan.proofs.SoundSteps.{OnState, adv_acts, await_acts, dereg_acts, fork_acts, make_acts, member_elsewhere, member_other, reg_acts, state_of, task_acts}
 use Rattle.pl_plan.proofs.Tables.{one_more_op, with_maker, with_task}

@@ -10,7 +10,8 @@ use Rattle.std.proofs.lemmas.Option.{get_or_from_slice_get, slice_get_past}
 use Rattle.std.proofs.lemmas.Slice.Eq.{bytes_eq-Decides}
 use Rattle.armus_base.specs.declared.op.Op.TheVariants as op
 use Rattle.armus_base.proofs.Lists.{slice_get-append}
-use Rattle.pl_plan.specs.Unfolding.{is_parent, phaser, task, with_member}
+use Rattle.armus_base.specs.Numbers.{phaser, task}
+use Rattle.pl_plan.specs.Unfolding.{is_parent, with_member}
 use Rattle.pl_plan.proofs.Places.{at_more}
 use Rattle.pl_plan.proofs.SoundSteps.{member_elsewhere, member_here, member_other}
 use Rattle.pl_plan.proofs.Tables.{slice_get-last, with_task}

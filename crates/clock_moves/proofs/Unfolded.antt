@@ -8,7 +8,8 @@ use Rattle.armus_base.specs.declared.offset.Offset.TheVariants.{Here}
 use Rattle.armus_base.specs.declared.op.Op.{Op}
 use Rattle.armus_base.specs.declared.op.Op.TheVariants as op
 use Rattle.pl_syntax.specs.Tree.{done}
-use Rattle.pl_plan.specs.Unfolding.{Start, phaser, task, with_member}
+use Rattle.armus_base.specs.Numbers.{phaser, task}
+use Rattle.pl_plan.specs.Unfolding.{Start, with_member}
 use Rattle.pl_plan.proofs.SoundSteps.{member_other}
 use Rattle.clock_moves.specs.Moves.{Move, advances, after_move, begins, code_of_moves, drops, ends, no_standing, opens, ops_of, resumes}
 use Rattle.clock_moves.specs.Unfolding.{ClockStart, ClockUnfolding, governed_by, naming, with_clock_made, with_move}

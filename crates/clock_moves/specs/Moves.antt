@@ -4,7 +4,7 @@ use Rattle.armus_base.specs.declared.offset.Offset.TheVariants.{Here}
 use Rattle.armus_base.specs.declared.op.Op.{Op}
 use Rattle.armus_base.specs.declared.op.Op.TheVariants.{Make, Reg, Fork, Adv, Drop, Await}
 use Rattle.armus_base.specs.States.{updated}
-use Rattle.pl_plan.specs.Unfolding.{task, phaser}
+use Rattle.armus_base.specs.Numbers.{phaser, task}
 
 -- one move of an activity; clocks and finishes share one row of numbers
 pub data Move : Type 0 where

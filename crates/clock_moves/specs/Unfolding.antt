@@ -7,12 +7,13 @@ use Rattle.std.specs.Str.{bytes_eq}
 use Rattle.armus_base.specs.Finals.{given_below}
 use Rattle.armus_base.specs.Limits.{max_tasks, max_phasers, max_ops}
 use Rattle.armus_base.specs.Pieces.{times}
+use Rattle.armus_base.specs.Numbers.{task}
 use Rattle.armus_base.specs.Plans.{Plan, straight_plan}
 use Rattle.armus_base.specs.declared.ids.TaskId.{TaskId}
 use Rattle.clock_syntax.specs.Trees.{ClockPlain, ClockTree, clock, advance, resume, drop, skip, done, plain, async, finish, loop, clock_count}
 use Rattle.clock_moves.specs.Moves.{Move, Standing, advances, after_move, begins, code_of_moves, drops, ends, no_standing, opens, ops_of, resumes, starts, stops}
 use Rattle.pl_plan.specs.Limits.{max_visits}
-use Rattle.pl_plan.specs.Unfolding.{Outcome, ◌>>=◌, fault, fault_unless, has_cells, task}
+use Rattle.pl_plan.specs.Unfolding.{Outcome, ◌>>=◌, fault, fault_unless, has_cells}
 
 -- ---- what an activity comes to
 

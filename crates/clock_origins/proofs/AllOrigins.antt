@@ -12,7 +12,7 @@ use Rattle.clock_moves.specs.Unfolding.{ClockUnfolding, clock_plan_of, clock_unf
 use Rattle.pl_plan.proofs.VisitsLeave.{bind_ok, ok_is}
 use Rattle.clock_origins.specs.ClockOps.{all_op_origins, moving_comings, op_origins_of}
 use Rattle.clock_origins.specs.ClockOrigins.{StartedActivity, MadeThing, all_begun, all_things, begun_by, comings_by, things_in, waits_in}
-use Rattle.clock_origins.specs.calls.Begun.{begun_in}
+use Rattle.clock_origins.specs.calls.Begun.{activities_started_in}
 use Rattle.clock_origins.specs.calls.Laws.{AreMovesAt, MovesComeFromStatements, OpsHaveStatements, TasksAndPhasersHaveStatements}
 use Rattle.clock_origins.specs.inside.OpNotes.{code_noted}
 use Rattle.clock_origins.proofs.MovesOf.{moves_come, moves_many, starts_many}
@@ -54,10 +54,10 @@ module _ (p : ClockTree) (u : ClockUnfolding) (is : clock_unfolded p ≡ Ok u) w
       let few = walked_few p u t begun things waits is walked in
       walked_made u t begun things waits walked (let l = few.0 in omega arith)
   things_many (suc n) t begun things waits walked enough =
-      by (slice_get begun t) refl (λ b. things_many n (t + 1) (begun ++ begun_in (comings_by b)) (things ++ things_in (comings_by b)) (waits ++ waits_in (comings_by b) ∷ []))
+      by (slice_get begun t) refl (λ b. things_many n (t + 1) (begun ++ activities_started_in (comings_by b)) (things ++ things_in (comings_by b)) (waits ++ waits_in (comings_by b) ∷ []))
     where
       by : (o : Option StartedActivity) → slice_get begun t ≡ o →
-          ((b : StartedActivity) → Walked u (t + 1) (begun ++ begun_in (comings_by b)) (things ++ things_in (comings_by b)) (waits ++ waits_in (comings_by b) ∷ []) →
+          ((b : StartedActivity) → Walked u (t + 1) (begun ++ activities_started_in (comings_by b)) (things ++ things_in (comings_by b)) (waits ++ waits_in (comings_by b) ∷ []) →
           max_tasks ≤ t + 1 + n → length (all_things u) ≡ length u.makers) → length (all_things u) ≡ length u.makers
       by None none rest = walked_made u t begun things waits walked (past_end begun t none)
       by (Some b) some rest = rest b (walked_next u t begun _ things _ waits _ b walked some refl refl refl) (omega (arith, enough))

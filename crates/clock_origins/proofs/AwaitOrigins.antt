@@ -11,9 +11,9 @@ use Rattle.armus_base.specs.declared.offset.Offset.{Offset}
 use Rattle.armus_base.specs.declared.offset.Offset.TheVariants.{Here}
 use Rattle.armus_base.specs.declared.op.Op.{Op}
 use Rattle.armus_base.specs.declared.op.Op.TheVariants as op
+use Rattle.armus_base.specs.Numbers.{phaser, task}
 use Rattle.armus_base.specs.Plans.{code_of}
 use Rattle.armus_base.proofs.Lists.{some_at}
-use Rattle.pl_plan.specs.Unfolding.{phaser, task}
 use Rattle.clock_syntax.specs.Trees.{advance, clock, drop, resume, skip}
 use Rattle.clock_moves.specs.Moves.{Move, Standing, advances, after_move, begins, code_from, code_of_moves, drops, ends, no_standing, opens, ops_of, resumes, starts, stops}
 use Rattle.clock_moves.specs.Unfolding.{ClockComing, ClockPart, a_close, a_finish, a_loop, a_plain, a_turn, an_async, plan_of_moves}

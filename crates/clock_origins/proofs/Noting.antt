@@ -9,7 +9,7 @@ use Rattle.clock_syntax.specs.Trees.{ClockTree, done}
 use Rattle.clock_syntax.specs.calls.Bodies.{clock_followed_by}
 use Rattle.clock_moves.specs.Unfolding.{ClockComing, a_close, a_finish, a_turn, an_async, coming, comings_of}
 use Rattle.clock_origins.specs.ClockOrigins.{StartedActivity, MadeThing, made_thing_at, things_in, wait_at, waits_in}
-use Rattle.clock_origins.specs.calls.Begun.{begun_at, begun_in}
+use Rattle.clock_origins.specs.calls.Begun.{activity_started_at, activities_started_in}
 use Rattle.clock_origins.specs.inside.Notes.{NotesValue, noted, noted_all}
 use Rattle.clock_origins.proofs.NotedInTurn.{InTurn}
 
@@ -22,9 +22,9 @@ same_notes a a' b b' c c' x y z = cc
 
 pub noted_all-append : (ms ns : List ClockComing) (k : NotesValue) → noted_all (ms ++ ns) k ≡ noted_all ns (noted_all ms k)
 noted_all-append ms ns k =
-    same_notes (k.begun ++ begun_in (ms ++ ns)) ((k.begun ++ begun_in ms) ++ begun_in ns) (k.things ++ things_in (ms ++ ns)) ((k.things ++ things_in ms) ++ things_in ns)
+    same_notes (k.begun ++ activities_started_in (ms ++ ns)) ((k.begun ++ activities_started_in ms) ++ activities_started_in ns) (k.things ++ things_in (ms ++ ns)) ((k.things ++ things_in ms) ++ things_in ns)
     (k.waits ++ waits_in (ms ++ ns)) ((k.waits ++ waits_in ms) ++ waits_in ns)
-    (ap (λ z. k.begun ++ z) (flat_map-append (λ (m : ClockComing). begun_at m.statement m.part) ms ns) ∙ sym (append_assoc k.begun (begun_in ms) (begun_in ns)))
+    (ap (λ z. k.begun ++ z) (flat_map-append (λ (m : ClockComing). activity_started_at m.statement m.part) ms ns) ∙ sym (append_assoc k.begun (activities_started_in ms) (activities_started_in ns)))
     (ap (λ z. k.things ++ z) (flat_map-append (λ (m : ClockComing). made_thing_at m.statement m.part) ms ns) ∙ sym (append_assoc k.things (things_in ms) (things_in ns)))
     (ap (λ z. k.waits ++ z) (flat_map-append (λ (m : ClockComing). wait_at m.statement m.part) ms ns) ∙ sym (append_assoc k.waits (waits_in ms) (waits_in ns)))
 
@@ -34,8 +34,8 @@ noted_none k =
 
 pub noted_one : (m : ClockComing) (k : NotesValue) → noted_all (m ∷ []) k ≡ noted m k
 noted_one m k =
-    same_notes (k.begun ++ begun_in (m ∷ [])) (k.begun ++ begun_at m.statement m.part) (k.things ++ things_in (m ∷ [])) (k.things ++ made_thing_at m.statement m.part)
-    (k.waits ++ waits_in (m ∷ [])) (k.waits ++ wait_at m.statement m.part) (ap (λ z. k.begun ++ z) (append-nil (begun_at m.statement m.part)))
+    same_notes (k.begun ++ activities_started_in (m ∷ [])) (k.begun ++ activity_started_at m.statement m.part) (k.things ++ things_in (m ∷ [])) (k.things ++ made_thing_at m.statement m.part)
+    (k.waits ++ waits_in (m ∷ [])) (k.waits ++ wait_at m.statement m.part) (ap (λ z. k.begun ++ z) (append-nil (activity_started_at m.statement m.part)))
     (ap (λ z. k.things ++ z) (append-nil (made_thing_at m.statement m.part))) (ap (λ z. k.waits ++ z) (append-nil (wait_at m.statement m.part)))
 
 -- ---- one statement

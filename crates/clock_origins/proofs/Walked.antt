@@ -18,32 +18,32 @@ use Rattle.clock_text.specs.calls.ProgramPoints.{ProgramPoint, behind, first_poi
 use Rattle.clock_text.proofs.PointComings.{comings_at, first_left, none_left, whole_body}
 use Rattle.clock_text.proofs.UnfoldsByPoints.{unfolding_is_unfolded}
 use Rattle.clock_origins.specs.ClockOrigins.{StartedActivity, MadeThing, all_begun, all_things, begun_by, comings_by, made_thing_at, things_in, waits_in}
-use Rattle.clock_origins.specs.calls.Begun.{begun_at, begun_in}
+use Rattle.clock_origins.specs.calls.Begun.{activity_started_at, activities_started_in}
 use Rattle.clock_origins.specs.calls.Values.{AreOriginsOf}
 
 -- ---- what comings add
 
 -- from u to w these comings start and make what they do
 record Adds (u w : ClockUnfolding) (ms : List ClockComing) : Type 0 where
-  begun : all_begun w ≡ all_begun u ++ begun_in ms
-  parents : length w.parents ≡ length u.parents + length (begun_in ms)
+  begun : all_begun w ≡ all_begun u ++ activities_started_in ms
+  parents : length w.parents ≡ length u.parents + length (activities_started_in ms)
   makers : length w.makers ≡ length u.makers + length (things_in ms)
 
 adds_both : (u v w : ClockUnfolding) (ms ns : List ClockComing) → Adds u v ms → Adds v w ns → Adds u w (ms ++ ns)
 adds_both u v w ms ns a b =
-    let begins : begun_in (ms ++ ns) ≡ begun_in ms ++ begun_in ns = flat_map-append (λ (m : ClockComing). begun_at m.statement m.part) ms ns in
+    let begins : activities_started_in (ms ++ ns) ≡ activities_started_in ms ++ activities_started_in ns = flat_map-append (λ (m : ClockComing). activity_started_at m.statement m.part) ms ns in
     let makes : things_in (ms ++ ns) ≡ things_in ms ++ things_in ns = flat_map-append (λ (m : ClockComing). made_thing_at m.statement m.part) ms ns in
     record {
-      begun = b.begun ∙ ap (λ z. z ++ begun_in ns) a.begun ∙ append_assoc (all_begun u) (begun_in ms) (begun_in ns) ∙ ap (λ z. all_begun u ++ z) (sym begins);
-      parents = omega (arith, a.parents, b.parents, ap length begins, length-append (begun_in ms) (begun_in ns));
+      begun = b.begun ∙ ap (λ z. z ++ activities_started_in ns) a.begun ∙ append_assoc (all_begun u) (activities_started_in ms) (activities_started_in ns) ∙ ap (λ z. all_begun u ++ z) (sym begins);
+      parents = omega (arith, a.parents, b.parents, ap length begins, length-append (activities_started_in ms) (activities_started_in ns));
       makers = omega (arith, a.makers, b.makers, ap length makes, length-append (things_in ms) (things_in ns));
     }
 
 -- a part that starts nobody and makes nothing
 quiet : (u w : ClockUnfolding) (m : ClockComing) → w.starts ≡ u.starts → length w.parents ≡ length u.parents → length w.makers ≡ length u.makers →
-    begun_at m.statement m.part ≡ [] → made_thing_at m.statement m.part ≡ [] → Adds u w (m ∷ [])
+    activity_started_at m.statement m.part ≡ [] → made_thing_at m.statement m.part ≡ [] → Adds u w (m ∷ [])
 quiet u w m starts parents makers none nothing =
-    let nobody : begun_in (m ∷ []) ≡ [] = append-nil (begun_at m.statement m.part) ∙ none in
+    let nobody : activities_started_in (m ∷ []) ≡ [] = append-nil (activity_started_at m.statement m.part) ∙ none in
     let no_thing : things_in (m ∷ []) ≡ [] = append-nil (made_thing_at m.statement m.part) ∙ nothing in
     record {
       begun = ap (map begun_by) starts ∙ sym (append-nil (all_begun u)) ∙ ap (λ z. all_begun u ++ z) (sym nobody);
@@ -154,7 +154,7 @@ some_within (x ∷ xs) (suc t) start is = (let h = some_within xs t start is in 
 -- one activity more
 pub walked_next :
     (u : ClockUnfolding) (t : ℕ) (begun next : List StartedActivity) (things more : List MadeThing) (waits others : List (List ℕ)) (b : StartedActivity) →
-    Walked u t begun things waits → slice_get begun t ≡ Some b → next ≡ begun ++ begun_in (comings_by b) → more ≡ things ++ things_in (comings_by b) →
+    Walked u t begun things waits → slice_get begun t ≡ Some b → next ≡ begun ++ activities_started_in (comings_by b) → more ≡ things ++ things_in (comings_by b) →
     others ≡ waits ++ waits_in (comings_by b) ∷ [] → Walked u (t + 1) next more others
 walked_next u t begun next things more waits others b h is next_is more_is others_are =
     let there : slice_get (all_begun h.so_far) t ≡ Some b = ap (λ z. slice_get z t) (sym h.begun_are) ∙ is in
@@ -163,7 +163,7 @@ walked_next u t begun next things more waits others b h is next_is more_is other
     taken : take (t + 1) next ≡ take t begun ++ b ∷ []
     taken =
         ap (λ k. take k next) (let e : t + 1 ≡ suc t = omega arith in e) ∙ ap (take (suc t)) next_is
-        ∙ take_one begun (begun_in (comings_by b)) t b is
+        ∙ take_one begun (activities_started_in (comings_by b)) t b is
 
     things_so : more ≡ flat_map (λ c. things_in (comings_by c)) (take (t + 1) next)
     things_so =
@@ -187,10 +187,10 @@ walked_next u t begun next things more waits others b h is next_is more_is other
         record {
           so_far = w;
           goes = rest;
-          begun_are = next_is ∙ ap (λ z. z ++ begun_in (comings_by b)) are ∙ sym adds.begun;
+          begun_are = next_is ∙ ap (λ z. z ++ activities_started_in (comings_by b)) are ∙ sym adds.begun;
           things_are = things_so;
           waits_are = waits_so;
-          parents_many = omega (arith, adds.parents, parents, ap length next_is, length-append begun (begun_in (comings_by b)));
+          parents_many = omega (arith, adds.parents, parents, ap length next_is, length-append begun (activities_started_in (comings_by b)));
           makers_many = omega (arith, adds.makers, makers, ap length more_is, length-append things (things_in (comings_by b)));
         }
 

@@ -13,7 +13,8 @@ use Rattle.clock_syntax.specs.Trees.{ClockTree}
 use Rattle.clock_moves.specs.Moves.{ops_of, starts, Standing}
 use Rattle.clock_moves.specs.Unfolding.{Current, as_clock, clock_of, clocks_of, innermost, listed_twice, not_registered, still_pending}
 use Rattle.clock_moves.proofs.ByClockTable.{bind_assoc}
-use Rattle.pl_plan.specs.Unfolding.{Outcome, ◌>>=◌, fault_unless, phaser}
+use Rattle.armus_base.specs.Numbers.{phaser}
+use Rattle.pl_plan.specs.Unfolding.{Outcome, ◌>>=◌, fault_unless}
 use Rattle.pl_plan.specs.declared.fault.CheckFault.{CheckFault}
 use Rattle.clock_pl.specs.declared.fault.ClockEnd.{ClockEnd}
 use Rattle.clock_pl.specs.declared.fault.ClockEnd.TheVariants as ends_by

@@ -13,7 +13,7 @@ use Rattle.clock_moves.specs.Moves.{Move, advances, after_move, begins, code_of_
 use Rattle.clock_moves.specs.Unfolding.{ClockStart, ClockUnfolding, Current, governed_by, innermost, naming, start_at, with_activity, with_clock_made, with_known, with_move}
 use Rattle.clock_moves.proofs.MoveCodes.{SamePending, code_more, pending_more, stood}
 use Rattle.pl_plan.specs.calls.MemberRows.{marked}
-use Rattle.pl_plan.specs.Unfolding.{phaser, task}
+use Rattle.armus_base.specs.Numbers.{phaser, task}
 use Rattle.pl_plan.proofs.MemberRows.{marked_same, marked_other}
 use Rattle.pl_plan.proofs.Places.{same_or, at_more}
 use Rattle.clock_pl.specs.inside.ClockChecker.{ClockChecker, KeptKnown, KeptStart, clock_by_name, current, current_of, marked_all, names_with, standing_by_rows, start_kept}

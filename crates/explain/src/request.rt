@@ -1,7 +1,7 @@
 // What the words ask for.
 ghost use Rattle.std.specs.Prelude.{◌≡◌, [], ◌∷◌, map, string_bytes};
 ghost use Rattle.explain.specs.Requests.{asked, file_asked, names_file, word_asked};
-ghost use Rattle.explain.specs.calls.Requested.{asked_for, file_bytes, requested, wanted_by};
+ghost use Rattle.explain.specs.calls.Requested.{asked_for, file_bytes, requested, wanted_by_word};
 
 use crate::answer::Wanted;
 
@@ -72,8 +72,8 @@ fn names_file(word: &str) -> bool
 }
 
 // What a word asks for of a text, if it does.
-fn wanted_by(word: &str) -> Option<Wanted>
-    ensures { result ≡ wanted_by word.now }
+fn wanted_by_word(word: &str) -> Option<Wanted>
+    ensures { result ≡ wanted_by_word word.now }
 {
     if word == RUN {
         return Some(Wanted::Explanation);
@@ -94,7 +94,7 @@ fn wanted_by(word: &str) -> Option<Wanted>
 fn word_request(word: &str) -> Request<'_>
     ensures { requested result ≡ word_asked word.now }
 {
-    if let Some(wanted) = wanted_by(word) {
+    if let Some(wanted) = wanted_by_word(word) {
         return Request::of_text(wanted, None);
     }
     if word == HELP {
@@ -110,7 +110,7 @@ fn word_request(word: &str) -> Request<'_>
 fn words_request<'w>(word: &'w str, file: &'w str) -> Request<'w>
     ensures { requested result ≡ asked (word.now ∷ file.now ∷ []) }
 {
-    match wanted_by(word) {
+    match wanted_by_word(word) {
         Some(wanted) => Request::of_file(wanted, file),
         None => Request::Usage,
     }

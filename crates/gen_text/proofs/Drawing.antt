@@ -6,7 +6,8 @@ use Rattle.std.proofs.lemmas.List.{length-append, get_or-set_other}
 use Rattle.std.proofs.Math.Seq.{get_or-append_seam}
 use Rattle.armus_base.specs.Limits.{max_cells, max_tasks, max_ops}
 use Rattle.armus_base.specs.Pieces.{times}
-use Rattle.pl_plan.specs.Unfolding.{Names, a_phaser, UnfoldingState, Start, task, with_member, make_visits, visits_of, visit, a_turn}
+use Rattle.armus_base.specs.Numbers.{task}
+use Rattle.pl_plan.specs.Unfolding.{Names, a_phaser, UnfoldingState, Start, with_member, make_visits, visits_of, visit, a_turn}
 use Rattle.pl_plan.proofs.Places.{at_set, at_more}
 use Rattle.gen_text.proofs.GeneratedProgram.{pc, pb, child, worker, draws}
 use Rattle.gen_text.proofs.Succeeding.{Succeeds, so, Parts, Has, has_more, comes, no_visit, turns}

@@ -8,7 +8,8 @@ use Rattle.armus_base.specs.Limits.{max_cells, max_tasks, max_ops}
 use Rattle.armus_base.specs.declared.op.Op.TheVariants as op
 use Rattle.armus_base.specs.declared.offset.Offset.TheVariants.{Here}
 use Rattle.pl_syntax.specs.Tree.{Tree, new_task, reg, dereg, adv, await}
-use Rattle.pl_plan.specs.Unfolding.{a_plain, a_fork, a_loop, a_turn, visit, make_visit, UnfoldingState, Start, a_task, a_phaser, task, phaser, add_op, act, act_fork, assigned, with_member, not_member, already_member, has_cells, too_many_cells, too_many_tasks}
+use Rattle.armus_base.specs.Numbers.{phaser, task}
+use Rattle.pl_plan.specs.Unfolding.{a_plain, a_fork, a_loop, a_turn, visit, make_visit, UnfoldingState, Start, a_task, a_phaser, add_op, act, act_fork, assigned, with_member, not_member, already_member, has_cells, too_many_cells, too_many_tasks}
 use Rattle.gen_text.proofs.Succeeding.{Succeeds, holds, names_task, names_phaser, is_member, is_own_child, Parts, parts_of, Has, op_fits, visit_fits}
 
 -- ---- changes

@@ -10,7 +10,8 @@ use Rattle.armus_base.specs.declared.op.Op.{Op}
 use Rattle.armus_base.specs.Limits.{max_ops}
 use Rattle.pl_plan.specs.Limits.{max_visits}
 use Rattle.armus_base.specs.Pieces.{times}
-use Rattle.pl_plan.specs.Unfolding.{Coming, Visit, visit, come_to, make_visit, make_visits, count_visit, UnfoldingState, Start, Names, Thing, a_task, a_phaser, Outcome, ◌>>=◌, fault_unless, as_task, as_phaser, unforked_child, unforked_child_by, member_of, task, add_op, with_op, not_member, too_many_ops, too_many_visits}
+use Rattle.armus_base.specs.Numbers.{task}
+use Rattle.pl_plan.specs.Unfolding.{Coming, Visit, visit, come_to, make_visit, make_visits, count_visit, UnfoldingState, Start, Names, Thing, a_task, a_phaser, Outcome, ◌>>=◌, fault_unless, as_task, as_phaser, unforked_child, unforked_child_by, member_of, add_op, with_op, not_member, too_many_ops, too_many_visits}
 use Rattle.pl_plan.proofs.Walks.{make_visits-append}
 
 -- there is no fault, and this holds of the state

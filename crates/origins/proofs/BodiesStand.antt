@@ -2,6 +2,7 @@
 use Rattle.std.proofs.Common.{◌≡◌, ℕ, zero, suc, ◌+◌, ◌-◌, ◌≤◌, Bool, true, false, if◌then◌else◌, Option, Some, None, Ok, Err, List, [], ◌∷◌, ◌++◌, length, refl, sym, ap, subst, ◌∙◌, arith}
 use Rattle.std.specs.Prelude.{slice_index_or, nat_lt, sum_by, not}
 use Rattle.std.proofs.lemmas.Bool.{ne_eqb}
+use Rattle.armus_base.specs.Numbers.{phaser, task}
 use Rattle.armus_base.specs.Limits.{max_ops, max_phasers, max_tasks}
 use Rattle.armus_base.specs.Pieces.{times}
 use Rattle.armus_base.specs.declared.op.Op.{Op}
@@ -12,7 +13,7 @@ use Rattle.pl_plan.specs.Forks.{starts_in, starts_of}
 use Rattle.pl_plan.specs.Limits.{max_visits}
 use Rattle.pl_plan.specs.Unfolding.{Coming, Outcome, Start, UnfoldingState, Visit}
 use Rattle.pl_plan.specs.Unfolding.{a_fork, a_loop, a_plain, a_turn, act, act_fork, add_op, already_member, as_phaser, as_task, come_to, count_visit, ended}
-use Rattle.pl_plan.specs.Unfolding.{fault_unless, has_cells, leave, leave_below, make_visit, make_visits, member_of, not_member, opening_state, phaser, task}
+use Rattle.pl_plan.specs.Unfolding.{fault_unless, has_cells, leave, leave_below, make_visit, make_visits, member_of, not_member, opening_state}
 use Rattle.pl_plan.specs.Unfolding.{too_many_cells, too_many_ops, too_many_phasers, too_many_tasks, too_many_visits, unfold_task, unfold_tasks, unforked_child}
 use Rattle.pl_plan.specs.Unfolding.{visit, visits_of, with_member, with_members, with_names, with_new_phaser, with_new_task, with_op, with_start}
 use Rattle.pl_plan.proofs.Places.{at_more, at_set}

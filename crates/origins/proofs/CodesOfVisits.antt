@@ -6,6 +6,7 @@ use Rattle.std.proofs.lemmas.Bool.{cases_eq, cases_lt, false≢true}
 use Rattle.std.proofs.lemmas.List.{get_or_append_left, get_or_past, map-append}
 use Rattle.std.proofs.lemmas.List.Elements.{All-contains, All-contains_itself, All-filter, filter-append}
 use Rattle.armus_base.specs.Limits.{max_phasers, max_tasks}
+use Rattle.armus_base.specs.Numbers.{phaser, task}
 use Rattle.armus_base.specs.Plans.{Plan}
 use Rattle.armus_base.specs.declared.op.Op.{Op}
 use Rattle.armus_base.specs.declared.op.Op.TheVariants as op
@@ -14,7 +15,7 @@ use Rattle.pl_syntax.specs.Tree.{Plain, Tree, adv, await, dereg, new_phaser, new
 use Rattle.pl_plan.specs.calls.Folding.{drops_of}
 use Rattle.pl_plan.specs.Unfolding.{◌>>=◌, Coming, Start, UnfoldingState, Visit}
 use Rattle.pl_plan.specs.Unfolding.{a_fork, a_loop, a_plain, a_turn, act, act_fork, add_op, already_member, as_phaser, as_task, come_to, ended, fault_unless}
-use Rattle.pl_plan.specs.Unfolding.{has_cells, leave_below, make_visit, make_visits, member_of, not_member, opening_state, phaser, plan_of, task}
+use Rattle.pl_plan.specs.Unfolding.{has_cells, leave_below, make_visit, make_visits, member_of, not_member, opening_state, plan_of}
 use Rattle.pl_plan.specs.Unfolding.{too_many_cells, too_many_phasers, too_many_tasks, unfold_task, unfold_tasks, unforked_child}
 use Rattle.pl_plan.specs.Unfolding.{visit, visits_of, with_member, with_members, with_names, with_new_phaser, with_new_task, with_pieces, with_start}
 use Rattle.pl_plan.specs.Forks.{starts_of}

@@ -3,13 +3,14 @@ use Rattle.std.proofs.Common.{◌≡◌, ◌⊎◌, ℕ, zero, suc, ◌+◌, ◌
 use Rattle.std.specs.Prelude.{nat_lt, not, slice_index_or, sum_by}
 use Rattle.std.proofs.lemmas.Bool.{cases_lt}
 use Rattle.std.proofs.lemmas.List.{get_or_past, length-take-le, map-append, take_all, take_more}
+use Rattle.armus_base.specs.Numbers.{phaser, task}
 use Rattle.armus_base.specs.Limits.{max_ops, max_phasers, max_tasks}
 use Rattle.armus_base.specs.declared.op.Op.{Op}
 use Rattle.armus_base.specs.declared.op.Op.TheVariants as op
 use Rattle.pl_syntax.specs.Tree.{Plain, Tree, adv, await, dereg, new_phaser, new_task, reg, skip}
 use Rattle.pl_plan.specs.Unfolding.{Coming, Start, UnfoldingState, Visit}
 use Rattle.pl_plan.specs.Unfolding.{a_fork, a_loop, a_plain, a_turn, act, act_fork, add_op, already_member, as_phaser, as_task, come_to, ended, fault_unless}
-use Rattle.pl_plan.specs.Unfolding.{has_cells, leave, leave_below, make_visit, make_visits, member_of, not_member, phaser, task}
+use Rattle.pl_plan.specs.Unfolding.{has_cells, leave, leave_below, make_visit, make_visits, member_of, not_member}
 use Rattle.pl_plan.specs.Unfolding.{too_many_cells, too_many_ops, too_many_phasers, too_many_tasks, unforked_child}
 use Rattle.pl_plan.specs.Unfolding.{visit, with_member, with_members, with_new_phaser, with_new_task, with_op, with_start}
 use Rattle.pl_plan.proofs.VisitsLeave.{bind_ok, counted, first_visit, no_visit, ok_is}

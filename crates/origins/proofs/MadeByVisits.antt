@@ -7,7 +7,8 @@ use Rattle.std.proofs.lemmas.List.Elements.{All-contains, All-contains_itself, A
 use Rattle.armus_base.specs.declared.ids.TaskId.{TaskId}
 use Rattle.pl_syntax.specs.declared.tree.Program.{Program}
 use Rattle.pl_plan.specs.Forks.{starts_of}
-use Rattle.pl_plan.specs.Unfolding.{Coming, Start, Visit, task}
+use Rattle.armus_base.specs.Numbers.{task}
+use Rattle.pl_plan.specs.Unfolding.{Coming, Start, Visit}
 use Rattle.pl_plan.specs.Tests.{of_new_phaser, of_new_task}
 use Rattle.origins.specs.Origins.{phaser_origin, statements_where, visits_by}
 use Rattle.origins.specs.calls.OriginLaws.{IsOfVisit, PhasersHaveOrigins, TasksHaveOrigins, tasks_from, tasks_of_all}

@@ -9,7 +9,8 @@ use Rattle.armus_base.specs.declared.offset.Offset.{Offset}
 use Rattle.armus_base.specs.declared.op.Op.TheVariants.{Await, Drop}
 use Rattle.pl_syntax.specs.declared.tree.Program.{Program}
 use Rattle.pl_syntax.specs.Tree.{Plain, Tree, await, count, done, fork, loop, plain}
-use Rattle.pl_plan.specs.Unfolding.{Coming, Start, Visit, a_fork, a_loop, a_plain, a_turn, phaser, visit, visits_of}
+use Rattle.armus_base.specs.Numbers.{phaser}
+use Rattle.pl_plan.specs.Unfolding.{Coming, Start, Visit, a_fork, a_loop, a_plain, a_turn, visit, visits_of}
 use Rattle.origins.specs.Origins.{op_origin, start_of, visits_by, visits_of_task, written_statements}
 use Rattle.origins.specs.calls.OriginLaws.{AwaitsComeFromAwaits, ComesFrom, MakesOp, VisitsAreOfText, statement_of}
 use Rattle.origins.specs.calls.OriginLaws as law

@@ -4,7 +4,8 @@ use Rattle.std.specs.Prelude.{slice_index_or}
 use Rattle.std.proofs.lemmas.Bool.{cases_lt, cases_eq, eqb-true, false≢true}
 use Rattle.std.proofs.lemmas.List.{get_or_past, get_or_append_left, get_or-append_right, length-append}
 use Rattle.armus_base.specs.declared.ids.TaskId.{TaskId}
-use Rattle.pl_plan.specs.Unfolding.{is_parent, task}
+use Rattle.armus_base.specs.Numbers.{task}
+use Rattle.pl_plan.specs.Unfolding.{is_parent}
 
 pub drawn_more :
     (parents : List (Option TaskId)) (t : ℕ) → t < length parents → ((c u : ℕ) → is_parent u (slice_index_or parents c None) ≡ true → u < c) →

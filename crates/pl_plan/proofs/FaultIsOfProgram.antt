@@ -9,7 +9,8 @@ use Rattle.pl_syntax.specs.Tree.{Tree, done, plain, fork, loop, Plain, new_task,
 use Rattle.pl_plan.specs.Limits.{max_visits}
 use Rattle.pl_plan.specs.declared.fault.CheckFault.{CheckFault}
 use Rattle.armus_base.specs.Pieces.{times}
-use Rattle.pl_plan.specs.Unfolding.{Coming, a_plain, a_fork, a_loop, a_turn, Visit, visit, visits_of, UnfoldingState, Start, Thing, a_task, a_phaser, Outcome, ◌>>=◌, fault_unless, as_task, as_phaser, is_parent, unforked_child, member_of, task, phaser, add_op, act, act_fork, come_to, count_visit, make_visit, make_visits, with_names, with_op, with_member, with_members, with_new_task, with_new_phaser, with_pieces, with_start, unfold_task, unfold_tasks, opening_state, plan_of, not_member, already_member, not_drawn_here, already_forked, has_cells, too_many_cells, too_many_tasks, too_many_phasers, too_many_ops, too_many_visits, leave, leave_below, ended}
+use Rattle.armus_base.specs.Numbers.{phaser, task}
+use Rattle.pl_plan.specs.Unfolding.{Coming, a_plain, a_fork, a_loop, a_turn, Visit, visit, visits_of, UnfoldingState, Start, Thing, a_task, a_phaser, Outcome, ◌>>=◌, fault_unless, as_task, as_phaser, is_parent, unforked_child, member_of, add_op, act, act_fork, come_to, count_visit, make_visit, make_visits, with_names, with_op, with_member, with_members, with_new_task, with_new_phaser, with_pieces, with_start, unfold_task, unfold_tasks, opening_state, plan_of, not_member, already_member, not_drawn_here, already_forked, has_cells, too_many_cells, too_many_tasks, too_many_phasers, too_many_ops, too_many_visits, leave, leave_below, ended}
 use Rattle.pl_plan.specs.calls.Laws.{FaultIsOfProgram}
 use Rattle.pl_plan.proofs.Places.{at_set, at_more}
 

@@ -14,7 +14,8 @@ use Rattle.pl_plan.specs.declared.step.Thing.TheVariants as a_thing
 use Rattle.pl_plan.specs.inside.Steps.{IsSpelled, IsList}
 use Rattle.pl_plan.specs.inside.Checker.{Checker, CheckerStart, IsThingBelow, IsChecker, Keeps, slot_of, thing_at, with_task, with_maker, with_membership, started}
 use Rattle.pl_plan.specs.inside.CheckerSteps.{with_binding, thing_of, thing_named, member, checker_add, checker_new_task, checker_new_phaser, checker_unforked_child, checker_reg, checker_member, checker_dereg, checker_adv, checker_await, checker_fork, checker_count, checker_leave}
-use Rattle.pl_plan.specs.Unfolding.{UnfoldingState, Start, Thing, a_task, a_phaser, Outcome, ◌>>=◌, fault_unless, as_task, as_phaser, is_parent, unforked_child, member_of, task, phaser, add_op, act, act_fork, count_visit, with_member, with_members, assigned, not_member, already_member, not_drawn_here, already_forked, has_cells, too_many_cells, too_many_tasks, too_many_phasers, too_many_ops, too_many_visits, leave}
+use Rattle.armus_base.specs.Numbers.{phaser, task}
+use Rattle.pl_plan.specs.Unfolding.{UnfoldingState, Start, Thing, a_task, a_phaser, Outcome, ◌>>=◌, fault_unless, as_task, as_phaser, is_parent, unforked_child, member_of, add_op, act, act_fork, count_visit, with_member, with_members, assigned, not_member, already_member, not_drawn_here, already_forked, has_cells, too_many_cells, too_many_tasks, too_many_phasers, too_many_ops, too_many_visits, leave}
 use Rattle.pl_plan.specs.inside.Shows.{ShowsState, MaybeStartShows}
 use Rattle.pl_plan.specs.inside.Simulates.{Simulates, KeepsAll}
 use Rattle.pl_plan.proofs.Keeping.{fits_pushed, fits_marked, fits_started, fits_task, fits_maker, fits_binding, slotted_fits}

@@ -13,6 +13,7 @@ use Rattle.armus_base.specs.declared.offset.Offset.{Offset}
 use Rattle.armus_base.specs.Offsets.{IsNear}
 use Rattle.armus_base.specs.declared.op.Op.{Op}
 use Rattle.armus_base.specs.declared.op.Op.TheVariants as op
+use Rattle.armus_base.specs.Numbers.{phaser, task}
 use Rattle.armus_base.specs.Plans.{Action, Makes, Registers, Forks, Advances, Drops, Blocks, Passes, IsParentOf, Plan, action_at, actions, actions_of, parent_of, maker_of}
 use Rattle.armus_base.specs.States.{Phases, updated, next_phase}
 use Rattle.armus_base.specs.Places.{first_phases, phases_after, register_step, registered_by}
@@ -26,7 +27,7 @@ use Rattle.pl_plan.proofs.Places.{at_set, at_more}
 use Rattle.armus_base.specs.Pieces.{times}
 use Rattle.armus_base.proofs.PlanGrows.{own_at, fixed_own}
 use Rattle.armus_base.proofs.RunTests.{some_is}
-use Rattle.pl_plan.specs.Unfolding.{Coming, a_plain, a_fork, a_loop, a_turn, Visit, come_to, make_visit, make_visits, UnfoldingState, Start, Names, Thing, a_task, a_phaser, Outcome, ◌>>=◌, fault_unless, as_task, as_phaser, is_parent, unforked_child, member_of, task, phaser, add_op, act, act_fork, count_visit, with_op, with_member, assigned, not_member, already_member, not_drawn_here, already_forked, has_cells, too_many_cells, too_many_tasks, too_many_phasers, too_many_ops, too_many_visits, visit, visits_of, leave, leave_below, ended, with_members}
+use Rattle.pl_plan.specs.Unfolding.{Coming, a_plain, a_fork, a_loop, a_turn, Visit, come_to, make_visit, make_visits, UnfoldingState, Start, Names, Thing, a_task, a_phaser, Outcome, ◌>>=◌, fault_unless, as_task, as_phaser, is_parent, unforked_child, member_of, add_op, act, act_fork, count_visit, with_op, with_member, assigned, not_member, already_member, not_drawn_here, already_forked, has_cells, too_many_cells, too_many_tasks, too_many_phasers, too_many_ops, too_many_visits, visit, visits_of, leave, leave_below, ended, with_members}
 use Rattle.pl_plan.proofs.Growth.{own_steps, register_steps, last_phases, first_new, nobody_registers, stays_registered}
 use Rattle.pl_plan.proofs.Tables.{own_actions, other_actions, one_more_op, op_tables, with_maker, maker_new, makers_at_most, maker_tables, with_task, parent_new, parents_at_most, task_actions, task_tables, slice_get-last}
 use Rattle.pl_plan.proofs.Sound.{IsAt, IsActing, IsNew, HasStarts, HasMembers, is_begun, idle_phases, acts_on, NearStart}

@@ -9,10 +9,11 @@ use Rattle.std.proofs.lemmas.List.Sums.{sum_by-set}
 use Rattle.armus_base.specs.declared.ids.TaskId.{TaskId}
 use Rattle.armus_base.specs.declared.op.Op.{Op}
 use Rattle.armus_base.specs.declared.op.Op.TheVariants.{Make, Reg, Fork, Adv, Drop, Await}
+use Rattle.armus_base.specs.Numbers.{task}
 use Rattle.armus_base.specs.Plans.{Plan, Makes, Registers, Forks, Advances, Drops, Blocks, Passes, actions, actions_of, parent_of, maker_of, number_or_zero}
 use Rattle.armus_base.specs.CheckedPlans.{HasTables}
 use Rattle.armus_base.proofs.Lists.{slice_get-append, slice_get-behind}
-use Rattle.pl_plan.specs.Unfolding.{with_op, task}
+use Rattle.pl_plan.specs.Unfolding.{with_op}
 
 pub actions_of-append : (xs ys : List Op) → actions_of (xs ++ ys) ≡ actions_of xs ++ actions_of ys
 actions_of-append [] ys = refl

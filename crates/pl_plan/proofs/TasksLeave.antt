@@ -5,6 +5,7 @@ use Rattle.std.specs.Prelude.{slice_index_or, nat_lt, sum_by, not}
 use Rattle.std.proofs.lemmas.Bool.{cases_lt, cases_eq, ltb-true, false≢true}
 use Rattle.std.proofs.lemmas.List.{get_or-set_other, get_or_past, length-set, map-append}
 use Rattle.std.proofs.lemmas.List.Sums.{sum_by-append}
+use Rattle.armus_base.specs.Numbers.{phaser, task}
 use Rattle.armus_base.specs.declared.op.Op.{Op}
 use Rattle.armus_base.specs.declared.op.Op.TheVariants as op
 use Rattle.armus_base.specs.declared.piece.Piece.{Piece}
@@ -16,7 +17,7 @@ use Rattle.pl_plan.specs.Unfolding.{◌>>=◌, Coming, Start, UnfoldingState, Vi
 use Rattle.pl_plan.specs.Unfolding.{a_fork, a_loop, a_plain, a_turn, act, act_fork, add_op, already_member, as_phaser, as_task, come_to, count_visit, ended}
 use Rattle.pl_plan.specs.Unfolding.{fault_unless, is_parent, leave, leave_below}
 use Rattle.armus_base.specs.Pieces.{times}
-use Rattle.pl_plan.specs.Unfolding.{make_visit, make_visits, member_of, not_drawn_here, not_member, opening_state, has_cells, phaser, task, too_many_cells, too_many_ops}
+use Rattle.pl_plan.specs.Unfolding.{make_visit, make_visits, member_of, not_drawn_here, not_member, opening_state, has_cells, too_many_cells, too_many_ops}
 use Rattle.pl_plan.specs.Unfolding.{too_many_phasers, too_many_tasks, too_many_visits}
 use Rattle.pl_plan.specs.Unfolding.{unfold_task, unfold_tasks, unforked_child, visit, visits_of, with_member, with_members, with_names, with_new_phaser}
 use Rattle.pl_plan.specs.Unfolding.{with_new_task, with_op, with_start}

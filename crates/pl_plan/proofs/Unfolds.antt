@@ -3,12 +3,13 @@ use Rattle.std.proofs.Common.{◌≡◌, ℕ, zero, suc, ◌+◌, ◌-◌, ◌<�
 use Rattle.std.specs.Prelude.{map, nat_lt, slice_index_or, if◌then◌else◌}
 use Rattle.std.proofs.lemmas.Bool.{cases_lt, false≢true, ltb-true}
 use Rattle.std.proofs.lemmas.List.{get_or-set_other, get_or_past, length-set, length-append}
+use Rattle.armus_base.specs.Numbers.{phaser, task}
 use Rattle.armus_base.specs.Plans.{Plan}
 use Rattle.armus_base.specs.declared.op.Op.TheVariants as op
 use Rattle.pl_syntax.specs.declared.tree.Program.{Program}
 use Rattle.pl_syntax.specs.Tree.{Tree, new_task, new_phaser, reg, dereg, adv, await, skip}
 use Rattle.pl_plan.specs.declared.fault.CheckFault.{CheckFault}
-use Rattle.pl_plan.specs.Unfolding.{Coming, a_plain, a_fork, a_loop, a_turn, Visit, visits_of, UnfoldingState, Start, Outcome, ◌>>=◌, fault, is_parent, task, make_visit, make_visits, with_names, unfold_task, unfold_tasks, opening_state, plan_of, with_pieces, leave, leave_below, ended, add_op, phaser, with_member, with_members, fault_unless, too_many_ops}
+use Rattle.pl_plan.specs.Unfolding.{Coming, a_plain, a_fork, a_loop, a_turn, Visit, visits_of, UnfoldingState, Start, Outcome, ◌>>=◌, fault, is_parent, make_visit, make_visits, with_names, unfold_task, unfold_tasks, opening_state, plan_of, with_pieces, leave, leave_below, ended, add_op, with_member, with_members, fault_unless, too_many_ops}
 use Rattle.pl_plan.specs.Tests.{Passes, drew, first_thing, table, task_number}
 use Rattle.pl_plan.specs.calls.Laws.{FaultIsFirst, PlanIsUnfolded}
 use Rattle.pl_plan.specs.Stages.{IsFirstCheckFault, IsNextStage, StagesLead, Stage, StagePasses, after_stage, all_stages, begins, with_start_names, comes, stages_below, stages_of, FailsAt, at_visit, at_end, leaves, leaves_below, ends_of, has_op_left, with_code}

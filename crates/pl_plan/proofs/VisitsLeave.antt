@@ -10,13 +10,14 @@ use Rattle.armus_base.specs.declared.piece.Piece.{Piece}
 use Rattle.armus_base.specs.declared.piece.Piece.TheVariants.{Op as Single, Repeat}
 use Rattle.armus_base.specs.Limits.{max_tasks, max_phasers, max_ops}
 use Rattle.armus_base.specs.Pieces.{times}
+use Rattle.armus_base.specs.Numbers.{phaser, task}
 use Rattle.armus_base.specs.Plans.{Plan}
 use Rattle.pl_syntax.specs.Tree.{Plain, Tree, adv, await, count, dereg, done, fork, loop, new_phaser, new_task, plain, reg, skip}
 use Rattle.pl_plan.specs.Limits.{max_visits}
 use Rattle.pl_plan.specs.Unfolding.{◌>>=◌, Names, Outcome, Thing, UnfoldingState, Visit}
 use Rattle.pl_plan.specs.Unfolding.{a_fork, a_loop, a_phaser, a_plain, a_task, a_turn, act, act_fork, add_op, already_member, as_phaser, as_task, come_to}
 use Rattle.pl_plan.specs.Unfolding.{count_visit, fault_unless}
-use Rattle.pl_plan.specs.Unfolding.{make_visit, make_visits, member_of, not_member, has_cells, phaser, task, too_many_cells, too_many_ops, too_many_phasers, too_many_tasks}
+use Rattle.pl_plan.specs.Unfolding.{make_visit, make_visits, member_of, not_member, has_cells, too_many_cells, too_many_ops, too_many_phasers, too_many_tasks}
 use Rattle.pl_plan.specs.Unfolding.{too_many_visits, unforked_child}
 use Rattle.pl_plan.specs.Unfolding.{visit, visits_of, with_member, with_members, with_new_phaser, with_new_task, with_op, with_start}
 use Rattle.pl_plan.specs.FoldedOps.{is_steady, is_steady_plain, makes_op}

@@ -6,7 +6,8 @@ use Rattle.armus_base.specs.declared.op.Op.TheVariants as op
 use Rattle.pl_syntax.specs.declared.tree.Program.{Program}
 use Rattle.pl_syntax.specs.Tree.{new_task, new_phaser, reg, dereg, adv, await, skip}
 use Rattle.pl_plan.specs.declared.fault.CheckFault.{CheckFault}
-use Rattle.pl_plan.specs.Unfolding.{Coming, a_plain, a_fork, a_loop, a_turn, Visit, visits_of, UnfoldingState, Start, task, phaser, with_op, with_member, with_members, with_new_task, with_new_phaser, with_start, with_names, opening_state}
+use Rattle.armus_base.specs.Numbers.{phaser, task}
+use Rattle.pl_plan.specs.Unfolding.{Coming, a_plain, a_fork, a_loop, a_turn, Visit, visits_of, UnfoldingState, Start, with_op, with_member, with_members, with_new_task, with_new_phaser, with_start, with_names, opening_state}
 use Rattle.pl_plan.specs.Tests.{Passes, IsFirstFailing, first_thing, phaser_wanted, task_number}
 
 -- a stage of the unfolding: a task begins, it comes to a statement, or at its end it leaves a phaser if it is a member

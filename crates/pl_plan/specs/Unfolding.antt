@@ -11,9 +11,9 @@ use Rattle.armus_base.specs.declared.piece.Piece.{Piece}
 use Rattle.pl_syntax.specs.declared.tree.Program.{Program}
 use Rattle.pl_syntax.specs.Tree.{Tree, done, plain, fork, loop, Plain, new_task, new_phaser, reg, dereg, adv, await, skip, count}
 use Rattle.armus_base.specs.declared.ids.TaskId.{TaskId}
-use Rattle.armus_base.specs.declared.ids.PhaserId.{PhaserId}
 use Rattle.armus_base.specs.declared.op.Op.{Op}
 use Rattle.armus_base.specs.declared.op.Op.TheVariants as op
+use Rattle.armus_base.specs.Numbers.{phaser, task}
 use Rattle.armus_base.specs.Plans.{Plan}
 use Rattle.pl_plan.specs.FoldedOps.{body_pieces}
 use Rattle.pl_plan.specs.declared.fault.CheckFault.{CheckFault}
@@ -154,14 +154,6 @@ as_phaser n (Some (a_task c)) = Err (fault other_kind n)
 as_phaser n (Some (a_phaser p)) = Ok p
 
 -- ---- changes of a state
-
--- the task with this number
-abbrev pub task : ℕ → TaskId
-task t = record { 0 = t }
-
--- the phaser with this number
-abbrev pub phaser : ℕ → PhaserId
-phaser p = record { 0 = p }
 
 -- task t's code goes on with this op
 abbrev pub with_op : ℕ → Op → Plan → Plan

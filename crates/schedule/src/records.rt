@@ -1,7 +1,7 @@
 // Records: the text of a run with the journal of its steps.
 ghost use Rattle.std.specs.Prelude.{◌≡◌, ◌++◌, IfOk, OnOk};
 ghost use Rattle.schedule.specs.Records.{IsClosedText, IsRecord, step_lines};
-ghost use Rattle.schedule.specs.inside.StepLines.{IsLineOf};
+ghost use Rattle.schedule.specs.inside.StepLines.{IsKeptLineOf};
 
 use armus_base::{List, NoMemory, TaskId};
 use std::alloc::{AllocError, Global};
@@ -25,7 +25,7 @@ pub(crate) struct StepLine {
 
 // The line of a task.
 fn line_of(alloc: Global, task: TaskId) -> Result<StepLine, AllocError>
-    ensures { IfOk result (IsLineOf task) }
+    ensures { IfOk result (IsKeptLineOf task) }
 {
     let t = task.0;
     let mut line = Vec::new(alloc);
@@ -36,8 +36,8 @@ fn line_of(alloc: Global, task: TaskId) -> Result<StepLine, AllocError>
 
 // The line of a task, which is made anew where another one's is kept.
 fn line_for(alloc: Global, kept: StepLine, task: TaskId) -> Result<StepLine, AllocError>
-    requires kept { IsLineOf kept.task kept }
-    ensures { IfOk result (IsLineOf task) }
+    requires kept { IsKeptLineOf kept.task kept }
+    ensures { IfOk result (IsKeptLineOf task) }
 {
     if kept.task == task {
         return Ok(kept);

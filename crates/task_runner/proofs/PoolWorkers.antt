@@ -4,7 +4,7 @@ use Rattle.std.specs.Prelude.{Contains}
 use Rattle.board.specs.calls.Seats.{Frame}
 use Rattle.slot_pool.specs.calls.PoolValues.{WorkerValue, IsOfPool, IsSameWorker, PoolValue, first_workers}
 use Rattle.slot_pool.proofs.FirstWorkers.{first_idle, first_made, first_numbers}
-use Rattle.task_runner.specs.inside.Pooled.{AreAllWorkers, GoesOn, MayWork}
+use Rattle.task_runner.specs.inside.Pooled.{AreAllWorkers, KeepsWhatItHas, IsIdleWorker}
 
 pub first_all : (pool : PoolValue) → AreAllWorkers pool (first_workers pool)
 first_all pool = record { made = first_made pool; each = first_numbers pool; idle = first_idle pool }
@@ -17,7 +17,7 @@ as_they_are (h ∷ hands) = ap (λ hs. h ∷ hs) (as_they_are hands)
 pub same_made : (pool : PoolValue) (old new : WorkerValue) → IsOfPool old pool → IsSameWorker old new → IsOfPool new pool
 same_made pool old new made same = record { table = same.table ∙ made.table; workers = same.workers ∙ made.workers }
 
-pub goes_on : (a b c : WorkerValue) → GoesOn a b → GoesOn b c → GoesOn a c
+pub goes_on : (a b c : WorkerValue) → KeepsWhatItHas a b → KeepsWhatItHas b c → KeepsWhatItHas a c
 goes_on a b c p q =
     record {
       same = record { table = q.same.table ∙ p.same.table; numbers = q.same.numbers ∙ p.same.numbers; workers = q.same.workers ∙ p.same.workers };
@@ -25,7 +25,7 @@ goes_on a b c p q =
     }
 
 -- the same worker, which has what it had, may work on
-pub may_on : (board : Frame) (pool : PoolValue) (old new : WorkerValue) → MayWork board pool old → GoesOn old new → MayWork board pool new
+pub may_on : (board : Frame) (pool : PoolValue) (old new : WorkerValue) → IsIdleWorker board pool old → KeepsWhatItHas old new → IsIdleWorker board pool new
 may_on board pool old new may goes = record { tasks = may.tasks; made = same_made pool old new may.made goes.same; idle = goes.has ∙ may.idle }
 
 -- what stands at a place of a list
@@ -41,7 +41,7 @@ as_many worker_value (x ∷ xs) = ap suc (as_many worker_value xs)
 -- each worker may work
 pub ready :
     {X : Type 0} (worker_value : X → WorkerValue) (board : Frame) (pool : PoolValue) (xs : List X) → pool.tasks ≡ length board.plan.parents →
-    AreAllWorkers pool (map worker_value xs) → (i : ℕ) (x : X) → i < length xs → x ≡ get_or xs i x → MayWork board pool (worker_value x)
+    AreAllWorkers pool (map worker_value xs) → (i : ℕ) (x : X) → i < length xs → x ≡ get_or xs i x → IsIdleWorker board pool (worker_value x)
 ready worker_value board pool xs tasks all i x l is =
     let t = there worker_value xs i l in
     let same : worker_value t.0 ≡ worker_value x = ap worker_value (sym (is ∙ t.1 x)) in
@@ -54,14 +54,14 @@ ready worker_value board pool xs tasks all i x l is =
 
 -- what became of the worker at a place
 abbrev pub IsAfter : {X : Type 0} → (X → WorkerValue) → List X → List X → ℕ → X → Type 0
-IsAfter {X} worker_value olds news i d = (old : X) × ((e : X) → get_or olds i e ≡ old) × GoesOn (worker_value old) (worker_value (get_or news i d))
+IsAfter {X} worker_value olds news i d = (old : X) × ((e : X) → get_or olds i e ≡ old) × KeepsWhatItHas (worker_value old) (worker_value (get_or news i d))
 
 -- each worker in its place is the same one, and has no task
 module _ {X : Type 0} (worker_value : X → WorkerValue) (pool : PoolValue) (olds news : List X) (all : AreAllWorkers pool (map worker_value olds)) (count : length news ≡ length olds)
     (after : (i : ℕ) (d : X) → i < length olds → IsAfter worker_value olds news i d) where
   -- the old worker and the new one at a place
   at : (k : ℕ) → k < length olds → (a b : X) × ((d : WorkerValue) → get_or (map worker_value olds) k d ≡ worker_value a) × ((d : WorkerValue) → get_or (map worker_value news) k d ≡ worker_value b)
-      × GoesOn (worker_value a) (worker_value b)
+      × KeepsWhatItHas (worker_value a) (worker_value b)
   at k l =
       let o = there worker_value olds k l in
       let n = there worker_value news k (omega arith) in
@@ -72,7 +72,7 @@ module _ {X : Type 0} (worker_value : X → WorkerValue) (pool : PoolValue) (old
         n.0,
         o.2,
         n.2,
-        subst (λ x. GoesOn (worker_value x) (worker_value n.0)) old (subst (λ y. GoesOn (worker_value s.0) (worker_value y)) new s.2),
+        subst (λ x. KeepsWhatItHas (worker_value x) (worker_value n.0)) old (subst (λ y. KeepsWhatItHas (worker_value s.0) (worker_value y)) new s.2),
       )
 
   pub all_after : AreAllWorkers pool (map worker_value news)

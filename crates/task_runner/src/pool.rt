@@ -5,7 +5,7 @@ ghost use Rattle.armus_base.specs.calls.Limits.{max_workers};
 ghost use Rattle.board.specs.declared.mode.Mode.TheVariants.{Detect};
 ghost use Rattle.board.specs.calls.Seats.{IsNewSeat, nothing_seen};
 ghost use Rattle.world_runs.specs.calls.PlainRuns.{IsPlainEnd};
-ghost use Rattle.task_runner.specs.inside.Pooled.{AreAllWorkers, GoesOn, IsPooled, MayWork};
+ghost use Rattle.task_runner.specs.inside.Pooled.{AreAllWorkers, KeepsWhatItHas, IsPooled, IsIdleWorker};
 
 use crate::RunOptions;
 use crate::leaving::MANY_LOADS;
@@ -127,8 +127,8 @@ fn work_all<
     ensures workers { IfOk result (λ v. AreAllWorkers pool.now (map J.worker_value v.items)) }
 {
     let work = |worker: J| -> J
-        requires { (setting.now.board.now ≡ J.frame) × MayWork J.frame pool.now (J.worker_value worker) }
-        ensures { GoesOn (J.worker_value worker) (J.worker_value result) }
+        requires { (setting.now.board.now ≡ J.frame) × IsIdleWorker J.frame pool.now (J.worker_value worker) }
+        ensures { KeepsWhatItHas (J.worker_value worker) (J.worker_value result) }
     {
         let mut worker = worker;
         worker.work(setting, pool);

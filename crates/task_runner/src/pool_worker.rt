@@ -2,7 +2,7 @@
 ghost use Rattle.std.specs.Prelude.{◌≡◌, ◌<◌, IfOk, IfSome, length};
 ghost use Rattle.board_rounds.specs.calls.TaskSeats.{number};
 ghost use Rattle.slot_pool.specs.calls.PoolValues.{IsOfPool};
-ghost use Rattle.task_runner.specs.inside.Pooled.{GoesOn, MayWork};
+ghost use Rattle.task_runner.specs.inside.Pooled.{KeepsWhatItHas, IsIdleWorker};
 
 use crate::leaving::are_many;
 use crate::pooled_task::{BoardName, PooledTask};
@@ -31,8 +31,8 @@ pub(crate) trait WorksOnPool<Q: Named> {
     /// meets want of memory. The gate is called before each op.
     fn work<R: Wait, C: Calls>(&mut self, setting: &TurnSetting<'_, R, C>, pool: &Pool<Q>)
         requires board { setting.now.board.now ≡ frame }
-        requires ready { MayWork frame pool.now (worker_value self.old) }
-        ensures { GoesOn (worker_value self.old) (worker_value self.new) };
+        requires ready { IsIdleWorker frame pool.now (worker_value self.old) }
+        ensures { KeepsWhatItHas (worker_value self.old) (worker_value self.new) };
 }
 
 /// What a worker found at one or several tasks; the greatest of what it found at each is what it found at all.
@@ -119,8 +119,8 @@ impl<'p, N: BoardName> PoolWorker<'p, N> {
         pool: &Pool<PooledTask<'p, N>>,
     ) -> bool
         requires board { setting.now.board.now ≡ N.board }
-        requires ready { MayWork N.board pool.now self.old }
-        ensures { GoesOn self.old self.new }
+        requires ready { IsIdleWorker N.board pool.now self.old }
+        ensures { KeepsWhatItHas self.old self.new }
     {
         match self.sweep(setting, pool) {
             Ok(Sweep::Moved) => !self.costs_too_much(),
@@ -148,8 +148,8 @@ impl<'p, N: BoardName> PoolWorker<'p, N> {
         pool: &Pool<PooledTask<'p, N>>,
     ) -> Result<Sweep, NoMemory>
         requires board { setting.now.board.now ≡ N.board }
-        requires ready { MayWork N.board pool.now self.old }
-        ensures { GoesOn self.old self.new }
+        requires ready { IsIdleWorker N.board pool.now self.old }
+        ensures { KeepsWhatItHas self.old self.new }
     {
         let mut found = Sweep::Quiet;
         for t in 0..setting.board.tasks() {
@@ -168,8 +168,8 @@ impl<'p, N: BoardName> PoolWorker<'p, N> {
     ) -> Result<Sweep, NoMemory>
         requires board { setting.now.board.now ≡ N.board }
         requires task { t.0 < length N.board.plan.parents }
-        requires ready { MayWork N.board pool.now self.old }
-        ensures { GoesOn self.old self.new }
+        requires ready { IsIdleWorker N.board pool.now self.old }
+        ensures { KeepsWhatItHas self.old self.new }
     {
         match self.worker.claim(pool, t) {
             Claim::Empty => Ok(Sweep::Quiet),
@@ -192,7 +192,7 @@ impl<'p, N: BoardName> PoolWorker<'p, N> {
         requires board { setting.now.board.now ≡ N.board }
         requires tasks { pool.now.tasks ≡ length N.board.plan.parents }
         requires made { IsOfPool self.old pool.now }
-        ensures goes_on { GoesOn self.old self.new }
+        ensures goes_on { KeepsWhatItHas self.old self.new }
         ensures task { number task.new ≡ number task.old }
     {
         let mut found = Sweep::Quiet;
@@ -218,7 +218,7 @@ impl<'p, N: BoardName> PoolWorker<'p, N> {
     ) -> Result<(), NoMemory>
         requires made { IsOfPool self.old pool.now }
         requires within { IfSome child (λ child. number child < pool.now.tasks) }
-        ensures { GoesOn self.old self.new }
+        ensures { KeepsWhatItHas self.old self.new }
     {
         let Some(child) = child else {
             return Ok(());

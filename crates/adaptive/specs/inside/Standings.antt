@@ -54,8 +54,8 @@ abbrev pub IsStop : List Standing → List Bool → ℕ → ℕ → Type 0
 IsStop standings remains p i = (d : Standing) → i < length standings → IsPassed remains p (slice_index_or standings i d) → ⊥
 
 -- at index i there is a standing on the event's phaser at a phase below
-abbrev pub IsBelow : List Standing → ℕ → Event → Type 0
-IsBelow standings i e =
+abbrev pub IsStandingBelow : List Standing → ℕ → Event → Type 0
+IsStandingBelow standings i e =
     (i < length standings) × ((d : Standing) → ((slice_index_or standings i d).at.p ≡ e.p) × ((slice_index_or standings i d).at.n < e.n))
 
 -- the standing at index i is the first of all, or the one ahead of it is on an earlier phaser

@@ -1,9 +1,8 @@
 -- What the definitions exclude.
 use Rattle.std.specs.Prelude.{◌≡◌, ℕ, Bool, true, false, List, [], ◌∷◌, Some, None}
-use Rattle.armus_base.specs.declared.ids.PhaserId.{PhaserId}
-use Rattle.armus_base.specs.declared.ids.TaskId.{TaskId}
 use Rattle.armus_base.specs.declared.offset.Offset.TheVariants.{Here}
 use Rattle.armus_base.specs.declared.op.Op.TheVariants.{Make, Reg, Fork, Adv, Drop, Await}
+use Rattle.armus_base.specs.Numbers.{phaser, task}
 use Rattle.armus_base.specs.Plans.{Plan, Advances, Blocks, Drops, Makes, Registers, Passes, Refuses, straight_plan}
 use Rattle.armus_base.specs.calls.Plans.{here}
 use Rattle.armus_base.specs.declared.event.Event.{Event}
@@ -14,12 +13,6 @@ use Rattle.armus_base.specs.Deadlocks.{IsDeadlockedSet, IsPublishedOn, IsAtPhase
 use Rattle.armus_base.specs.calls.Boards.{Entry, Does, Takes, Frees, steps_of, without_lock, IsBoardRun}
 use Rattle.armus_base.specs.calls.Seats.{IsLongestPrefix}
 use Rattle.armus_base.specs.calls.TwoTasks.{two_tasks, does, before_block, first_holds, second_stands, second_holds}
-
-abbrev task : ℕ → TaskId
-task t = record { 0 = t }
-
-abbrev phaser : ℕ → PhaserId
-phaser p = record { 0 = p }
 
 -- one phaser; task 1 advances on it, waits and drops it
 abbrev pub steady : Plan

@@ -3,8 +3,6 @@ use Rattle.std.specs.Prelude.{◌≡◌, ℕ, List, [], ◌∷◌, ◌++◌, Som
 use Rattle.armus_base.specs.declared.ending.Final.{Final}
 use Rattle.armus_base.specs.declared.ending.TaskEnd.{TaskEnd}
 use Rattle.armus_base.specs.declared.ending.TaskEnd.TheVariants.{Blocked, Done, Refused, Unforked}
-use Rattle.armus_base.specs.declared.ids.PhaserId.{PhaserId}
-use Rattle.armus_base.specs.declared.ids.TaskId.{TaskId}
 use Rattle.armus_base.specs.declared.offset.Offset.TheVariants.{Ahead, Back, Here}
 use Rattle.armus_base.specs.declared.op.Op.{Op}
 use Rattle.armus_base.specs.declared.op.Op.TheVariants.{Adv, Await, Drop, Fork, Make, Reg}
@@ -13,6 +11,7 @@ use Rattle.armus_base.specs.declared.status.Status.{Status}
 use Rattle.armus_base.specs.Deadlocks.{IsDeadIn}
 use Rattle.armus_base.specs.Finals.{final_of}
 use Rattle.armus_base.specs.Offsets.{target}
+use Rattle.armus_base.specs.Numbers.{phaser, task}
 use Rattle.armus_base.specs.Plans.{Plan, straight_plan}
 use Rattle.armus_base.specs.Runs.{IsMaximal, IsPlainRun, state_after}
 use Rattle.armus_base.specs.calls.Serial.{scheduled}
@@ -24,12 +23,6 @@ pub record EndsIn (plan : Plan) (schedule : List ℕ) (final : Final) (dead : Li
   pub maximal : IsMaximal plan (scheduled plan schedule)
   pub value : final_of plan (state_after (scheduled plan schedule)) ≡ final
   pub dead_tasks : (t : ℕ) → Contains dead t ↔ IsDeadIn (state_after (scheduled plan schedule)) t
-
-abbrev task : ℕ → TaskId
-task t = record { 0 = t }
-
-abbrev phaser : ℕ → PhaserId
-phaser p = record { 0 = p }
 
 -- task c is made a member of phaser p
 abbrev reg : ℕ → ℕ → Op

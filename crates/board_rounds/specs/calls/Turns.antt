@@ -168,12 +168,12 @@ pub data EachActs (board : Frame) : List (List Action) → List Working → List
       Acts board own before now → EachActs board owns befores nows → EachActs board (own ∷ owns) (before ∷ befores) (now ∷ nows)
 
 -- how many loads these tasks have made
-abbrev pub loads_of : List Working → ℕ
-loads_of tasks = sum_by (λ task. task.seat.view.loads) tasks
+abbrev pub loads_made_by : List Working → ℕ
+loads_made_by tasks = sum_by (λ task. task.seat.view.loads) tasks
 
 -- how many loads they have made since
 abbrev pub loads_between : List Working → List Working → ℕ
-loads_between before now = loads_of now - loads_of before
+loads_between before now = loads_made_by now - loads_made_by before
 
 -- One worker takes these turns, one after the other, and its tasks have made so many loads before them in this round. Each comes to its end, with this bound
 -- on the loads up to there.

@@ -1,7 +1,8 @@
 -- What is told of a fault, by the notes and by what was looked at.
 use Rattle.std.specs.Prelude.{◌≡◌, ℕ, ◌+◌, ◌-◌, ◌==◌, ◌||◌, ◌&&◌, ◌<◌, ◌≤◌, ◌^◌, length, if◌then◌else◌, nat_le, nat_lt, List, [], map, Option, Some, None}
 use Rattle.armus_base.specs.declared.ids.TaskId.{TaskId}
-use Rattle.pl_plan.specs.Unfolding.{already_forked, already_member, not_drawn_here, not_member, other_kind, phaser, task, too_many_cells, too_many_ops, too_many_phasers, too_many_tasks, unknown_name}
+use Rattle.armus_base.specs.Numbers.{phaser, task}
+use Rattle.pl_plan.specs.Unfolding.{already_forked, already_member, not_drawn_here, not_member, other_kind, too_many_cells, too_many_ops, too_many_phasers, too_many_tasks, unknown_name}
 use Rattle.pl_plan.specs.declared.step.Step.{Step}
 use Rattle.pl_plan.specs.declared.step.Step.TheVariants as a_step
 use Rattle.pl_plan.specs.declared.step.Thing as code

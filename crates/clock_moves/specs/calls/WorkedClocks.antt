@@ -4,11 +4,12 @@ use Rattle.armus_base.specs.declared.ids.TaskId.{TaskId}
 use Rattle.armus_base.specs.declared.offset.Offset.TheVariants.{Here}
 use Rattle.armus_base.specs.declared.op.Op.{Op}
 use Rattle.armus_base.specs.declared.op.Op.TheVariants as op
+use Rattle.armus_base.specs.Numbers.{phaser, task}
 use Rattle.armus_base.specs.Plans.{Plan, straight_plan}
 use Rattle.clock_syntax.specs.Trees.{ClockTree, clock, advance, resume, drop, skip, done, plain, async, finish, loop}
 use Rattle.clock_moves.specs.Moves.{Move, opens, starts, advances, resumes, drops, begins, ends, stops}
 use Rattle.clock_moves.specs.Unfolding.{ClockUnfolding, a_close, act_async, act_finish, act_plain, clock_plan_of, clock_unfolded, come, coming, count_clock_visit, move_at}
-use Rattle.pl_plan.specs.Unfolding.{Outcome, ◌>>=◌, fault, phaser, task}
+use Rattle.pl_plan.specs.Unfolding.{Outcome, ◌>>=◌, fault}
 
 -- a clock program and the answer of its unfolding
 pub record ClockExample : Type 0 where

@@ -2,7 +2,7 @@
 use Rattle.std.specs.Prelude.{ℕ, List, ◌++◌}
 use Rattle.clock_moves.specs.Unfolding.{ClockComing}
 use Rattle.clock_origins.specs.ClockOrigins.{StartedActivity, MadeThing, made_thing_at, things_in, wait_at, waits_in}
-use Rattle.clock_origins.specs.calls.Begun.{begun_at, begun_in}
+use Rattle.clock_origins.specs.calls.Begun.{activity_started_at, activities_started_in}
 
 -- activities, clocks and finishes, and waits
 pub record NotesValue : Type 0 where
@@ -13,11 +13,11 @@ pub record NotesValue : Type 0 where
 -- with what one coming does
 abbrev pub noted : ClockComing → NotesValue → NotesValue
 noted m k = record {
-  begun = k.begun ++ begun_at m.statement m.part;
+  begun = k.begun ++ activity_started_at m.statement m.part;
   things = k.things ++ made_thing_at m.statement m.part;
   waits = k.waits ++ wait_at m.statement m.part;
 }
 
 -- with what these do
 abbrev pub noted_all : List ClockComing → NotesValue → NotesValue
-noted_all ms k = record { begun = k.begun ++ begun_in ms; things = k.things ++ things_in ms; waits = k.waits ++ waits_in ms }
+noted_all ms k = record { begun = k.begun ++ activities_started_in ms; things = k.things ++ things_in ms; waits = k.waits ++ waits_in ms }

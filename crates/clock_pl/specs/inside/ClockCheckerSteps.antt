@@ -16,7 +16,8 @@ use Rattle.clock_moves.specs.Moves.{Move, advances, begins, drops, ends, opens, 
 use Rattle.clock_moves.specs.Unfolding.{ClockComing, ClockPart, a_plain, an_async, a_finish, a_close, a_loop, a_turn, Current, as_clock, clock_of, clocks_of, coming, comings_of, innermost, not_registered, numbers_of, too_many_activities, too_many_clock_cells, too_many_clock_ops, too_many_clock_visits, too_many_clocks}
 use Rattle.pl_plan.specs.Limits.{max_visits}
 use Rattle.pl_plan.specs.calls.MemberRows.{marked}
-use Rattle.pl_plan.specs.Unfolding.{Outcome, ◌>>=◌, fault_unless, has_cells, phaser, task}
+use Rattle.armus_base.specs.Numbers.{phaser, task}
+use Rattle.pl_plan.specs.Unfolding.{Outcome, ◌>>=◌, fault_unless, has_cells}
 use Rattle.clock_pl.specs.declared.fault.ClockEnd.{ClockEnd}
 use Rattle.clock_pl.specs.declared.fault.ClockEnd.TheVariants as ends_by
 use Rattle.clock_pl.specs.declared.fault.ClockFault.{ClockFault}

@@ -14,8 +14,8 @@ abbrev pub file_bytes : Option (Bor Text) → Option Text
 file_bytes file = option_map (λ f. f.now) file
 
 -- what a word asks for of a text, if it does
-abbrev pub wanted_by : Text → Option Wanted
-wanted_by word =
+abbrev pub wanted_by_word : Text → Option Wanted
+wanted_by_word word =
     if bytes_eq word (codes "run") then Some Explanation
     else (if bytes_eq word (codes "steps") then Some Steps
     else (if bytes_eq word (codes "avoid") then Some Avoided

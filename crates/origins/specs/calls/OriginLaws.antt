@@ -7,11 +7,12 @@ use Rattle.armus_base.specs.declared.ids.PhaserId.{PhaserId}
 use Rattle.armus_base.specs.declared.offset.Offset.{Offset}
 use Rattle.armus_base.specs.declared.op.Op.{Op}
 use Rattle.armus_base.specs.declared.op.Op.TheVariants.{Make, Reg, Fork, Adv, Drop, Await}
+use Rattle.armus_base.specs.Numbers.{phaser, task}
 use Rattle.armus_base.specs.Plans.{Plan}
 use Rattle.pl_syntax.specs.declared.tree.Program.{Program}
 use Rattle.pl_syntax.specs.Tree.{Tree, new_phaser, reg, dereg, adv, await}
 use Rattle.pl_plan.specs.calls.Folding.{drops_of}
-use Rattle.pl_plan.specs.Unfolding.{Coming, Start, Visit, a_fork, a_plain, phaser, plan_of, task, a_loop, a_turn}
+use Rattle.pl_plan.specs.Unfolding.{Coming, Start, Visit, a_fork, a_plain, plan_of, a_loop, a_turn}
 use Rattle.pl_plan.specs.Tests.{of_new_phaser, of_new_task}
 use Rattle.origins.specs.Turns.{TurnedVisit, turned_visits_of_task}
 use Rattle.origins.specs.Origins.{comes_to_op, op_origin, start_of, visits_by, visits_of_task, phaser_origin, task_origin, statements_where, written_statements}

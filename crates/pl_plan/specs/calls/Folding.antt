@@ -11,7 +11,8 @@ use Rattle.armus_base.specs.Pieces.{straight, times}
 use Rattle.pl_syntax.specs.declared.tree.Program.{Program}
 use Rattle.pl_syntax.specs.Tree.{Tree, done, plain, fork, loop, Plain}
 use Rattle.pl_plan.specs.FoldedOps.{is_steady, makes_op}
-use Rattle.pl_plan.specs.Unfolding.{Start, UnfoldingState, opening_state, phaser, unfold_tasks}
+use Rattle.armus_base.specs.Numbers.{phaser}
+use Rattle.pl_plan.specs.Unfolding.{Start, UnfoldingState, opening_state, unfold_tasks}
 
 -- no loop has more turns than a Repeat may have
 abbrev pub HasFewTurns : Tree → Type 0

@@ -6,7 +6,7 @@ use Rattle.armus_base.specs.declared.piece.Piece.{Piece}
 use Rattle.armus_base.specs.declared.piece.Piece.TheVariants.{Op as Single, Repeat}
 use Rattle.pl_syntax.specs.declared.tree.Program.{Program}
 use Rattle.pl_syntax.specs.Tree.{Tree, done, plain, fork, loop, new_task, new_phaser, reg, dereg, adv, await, skip}
-use Rattle.pl_plan.specs.Unfolding.{task, phaser}
+use Rattle.armus_base.specs.Numbers.{phaser, task}
 use Rattle.pl_plan.specs.calls.Folding.{HasPieces}
 
 -- a program, and the pieces of its tasks' codes, from task 0 on

@@ -4,9 +4,10 @@ use Rattle.armus_base.specs.declared.offset.Offset.TheVariants.{Ahead, Back, Her
 use Rattle.pl_syntax.specs.declared.tree.Program.{Program}
 use Rattle.pl_syntax.specs.Tree.{Tree, done, plain, fork, loop, new_task, new_phaser, reg, dereg, adv, await, skip}
 use Rattle.armus_base.specs.declared.op.Op.TheVariants as op
+use Rattle.armus_base.specs.Numbers.{phaser, task}
 use Rattle.armus_base.specs.Plans.{Plan, straight_plan}
 use Rattle.armus_base.specs.declared.op.Op.{Op}
-use Rattle.pl_plan.specs.Unfolding.{Outcome, UnfoldingState, act, add_op, count_visit, fault, phaser, plan_of, task}
+use Rattle.pl_plan.specs.Unfolding.{Outcome, UnfoldingState, act, add_op, count_visit, fault, plan_of}
 
 -- a program and what its unfolding answers
 pub record Example : Type 0 where

@@ -13,7 +13,8 @@ use Rattle.pl_plan.specs.declared.fault.PlanEnd.{PlanEnd}
 use Rattle.pl_plan.specs.declared.fault.PlanEnd.TheVariants as ends
 use Rattle.pl_plan.specs.declared.fault.CheckFault.{CheckFault}
 use Rattle.pl_plan.specs.inside.Checker.{Checker, thing_at, slotted, with_thing, with_task, with_maker, pushed, with_membership, started}
-use Rattle.pl_plan.specs.Unfolding.{Outcome, ◌>>=◌, fault_unless, as_task, as_phaser, unforked_child_by, task, phaser, Thing, a_task, a_phaser, not_member, already_member, has_cells, too_many_cells, too_many_tasks, too_many_phasers, too_many_ops, too_many_visits}
+use Rattle.armus_base.specs.Numbers.{phaser, task}
+use Rattle.pl_plan.specs.Unfolding.{Outcome, ◌>>=◌, fault_unless, as_task, as_phaser, unforked_child_by, Thing, a_task, a_phaser, not_member, already_member, has_cells, too_many_cells, too_many_tasks, too_many_phasers, too_many_ops, too_many_visits}
 
 -- what a thing is in the unfolding
 abbrev pub thing_of : code.Thing → Option Thing

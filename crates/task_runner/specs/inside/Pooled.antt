@@ -28,13 +28,13 @@ abbrev pub IsForked : Frame → Known → Type 0
 IsForked board seat = (c : ℕ) × IsChildSeat board c seat
 
 -- the worker is one of this pool of all tasks of the plan of this board, and has no task
-pub record MayWork (board : Frame) (pool : PoolValue) (worker : WorkerValue) : Type 0 where
+pub record IsIdleWorker (board : Frame) (pool : PoolValue) (worker : WorkerValue) : Type 0 where
   pub tasks : pool.tasks ≡ length board.plan.parents
   pub made : IsOfPool worker pool
   pub idle : worker.view.has ≡ []
 
 -- it is the same worker, and has what it had
-pub record GoesOn (before now : WorkerValue) : Type 0 where
+pub record KeepsWhatItHas (before now : WorkerValue) : Type 0 where
   pub same : IsSameWorker before now
   pub has : now.view.has ≡ before.view.has
 
