@@ -5,7 +5,7 @@ use Rattle.armus_base.specs.declared.op.Op.{Op}
 use Rattle.armus_base.specs.declared.op.Op.TheVariants as op
 use Rattle.pl_syntax.specs.Tree.{new_task, new_phaser, reg, dereg, adv, await, skip}
 use Rattle.armus_base.specs.Numbers.{phaser, task}
-use Rattle.pl_plan.specs.Unfolding.{Coming, a_plain, a_fork, a_loop, a_turn, Visit, UnfoldingState, Start, Thing, a_task, a_phaser, Outcome, ◌>>=◌, fault, fault_unless, as_task, as_phaser, unforked_child, member_of, add_op, act, act_fork, come_to, count_visit, make_visit, with_member, with_members, with_new_phaser, with_start}
+use Rattle.pl_plan.specs.Unfolding.{Coming, a_plain, a_fork, a_loop, a_turn, Visit, UnfoldingState, Start, Thing, a_task, a_phaser, Outcome, ◌>>=◌, fault_unless, as_task, as_phaser, unforked_child, member_of, add_op, act, act_fork, come_to, count_visit, make_visit, with_member, with_members, with_new_phaser, with_start}
 use Rattle.pl_plan.specs.Tests.{Row, is_phaser, is_task, phaser_number, task_number, IsFirstFailing, Passes, drew, is_forked, table}
 use Rattle.pl_plan.specs.Stages.{after_stage, done_at, comes, with_code}
 use Rattle.pl_plan.proofs.FirstRows.{answer, first_in, first_of, kind_or, kind_some as kind_some_in, none_kind, passes_in, step}

@@ -46,12 +46,12 @@ opens_flat a b old steps tree names k empty many adds o =
     (subst (λ z. IsSpelled (length b) (spelling b) steps z tree (length steps)) (ap length empty) adds.spelled))
 
 -- no await of a tree whose steps were added looks farther than it may
-pub added_near : (a b : List (Bor (List ℕ))) (old steps : List Step) (tree : Tree) → AddsSteps a b old steps tree → AreNear tree
-added_near a b old steps tree adds = spelled_near (length b) (spelling b) steps (length old) tree (length steps) adds.spelled
+pub added_near : {a b : List (Bor (List ℕ))} {old steps : List Step} {tree : Tree} → AddsSteps a b old steps tree → AreNear tree
+added_near {a} {b} {old} {steps} {tree} adds = spelled_near (length b) (spelling b) steps (length old) tree (length steps) adds.spelled
 
 -- and no loop of it has too many turns
-pub added_few : (a b : List (Bor (List ℕ))) (old steps : List Step) (tree : Tree) → AddsSteps a b old steps tree → HasFewTurns tree
-added_few a b old steps tree adds = spelled_few (length b) (spelling b) steps (length old) tree (length steps) adds.spelled
+pub added_few : {a b : List (Bor (List ℕ))} {old steps : List Step} {tree : Tree} → AddsSteps a b old steps tree → HasFewTurns tree
+added_few {a} {b} {old} {steps} {tree} adds = spelled_few (length b) (spelling b) steps (length old) tree (length steps) adds.spelled
 
 -- ---- what is kept last
 
@@ -68,33 +68,47 @@ spells_start names slots steps (Some start) (Some kept) h = h.spelled
 spells_start names slots steps None (Some kept) h = h
 spells_start names slots steps (Some start) None h = h
 
-module _ (names : ℕ → List ℕ) (k : Checker) (program : Program) (fits : IsChecker k) (deep : height program.body ≤ MAX_OPEN_BRACES) (few : HasFewTurns program.body)
-    (w : (s : UnfoldingState) × (unfold_tasks program.two max_tasks 0 (opening_state program.body) ≡ Ok s) × ShowsState names k s)
-    (steps : List Step) (kept : List (Option CheckerStart)) (codes : List (List Op)) (steps_are : steps ≡ k.steps) (kept_are : kept ≡ k.starts) (codes_are : codes ≡ k.codes) where
+-- what is kept behind the last visit shows where the unfolding ends, and these are its parts
+pub record IsLast (names : ℕ → List ℕ) (k : Checker) (program : Program) (steps : List Step) (kept : List (Option CheckerStart)) (codes : List (List Op)) :
+    Type 0 where
+  pub fits : IsChecker k
+  pub deep : height program.body ≤ MAX_OPEN_BRACES
+  pub few : HasFewTurns program.body
+  pub end : (s : UnfoldingState) × (unfold_tasks program.two max_tasks 0 (opening_state program.body) ≡ Ok s) × ShowsState names k s
+  pub steps_are : steps ≡ k.steps
+  pub kept_are : kept ≡ k.starts
+  pub codes_are : codes ≡ k.codes
+
+module _ {names : ℕ → List ℕ} {k : Checker} {program : Program} {steps : List Step} {kept : List (Option CheckerStart)} {codes : List (List Op)}
+    (l : IsLast names k program steps kept codes) where
+  abbrev w : (s : UnfoldingState) × (unfold_tasks program.two max_tasks 0 (opening_state program.body) ≡ Ok s) × ShowsState names k s
+  w = l.end
+
   same_codes : w.0.plan.codes ≡ codes
-  same_codes = w.2.plan.codes ∙ sym codes_are
+  same_codes = w.2.plan.codes ∙ sym l.codes_are
 
   starts_spell : SpellStarts (length k.bindings.slots) names steps w.0.starts kept
   starts_spell t =
-      subst (λ zs. SpellsStart (length k.bindings.slots) names zs (slice_index_or w.0.starts t None) (slice_index_or kept t None)) (sym steps_are)
-      (subst (λ zs. SpellsStart (length k.bindings.slots) names k.steps (slice_index_or w.0.starts t None) (slice_index_or zs t None)) (sym kept_are)
+      subst (λ zs. SpellsStart (length k.bindings.slots) names zs (slice_index_or w.0.starts t None) (slice_index_or kept t None)) (sym l.steps_are)
+      (subst (λ zs. SpellsStart (length k.bindings.slots) names k.steps (slice_index_or w.0.starts t None) (slice_index_or zs t None)) (sym l.kept_are)
       (spells_start names k.bindings.slots k.steps (slice_index_or w.0.starts t None) (slice_index_or k.starts t None) (w.2.starts t)))
 
   -- its codes can be folded
   pub last_can_fold : CanBeFolded steps kept codes
   last_can_fold = record {
-    many = ap (λ zs. length zs) kept_are ∙ fits.starts_many ∙ sym fits.codes_many ∙ ap (λ zs. length zs) (sym codes_are);
+    many = ap (λ zs. length zs) l.kept_are ∙ l.fits.starts_many ∙ sym l.fits.codes_many ∙ ap (λ zs. length zs) (sym l.codes_are);
     trees = λ t.
-        subst (λ zs. HasTreeAt zs (slice_index_or kept t None)) (sym steps_are)
-        (subst (λ zs. HasTreeAt k.steps (slice_index_or zs t None)) (sym kept_are)
-        (tree_at (length k.parents) (length k.makers) k.bindings.slot_count (length k.bindings.slots) k.steps (slice_index_or k.starts t None) (fits.later t)));
+        subst (λ zs. HasTreeAt zs (slice_index_or kept t None)) (sym l.steps_are)
+        (subst (λ zs. HasTreeAt k.steps (slice_index_or zs t None)) (sym l.kept_are)
+        (tree_at (length k.parents) (length k.makers) k.bindings.slot_count (length k.bindings.slots) k.steps (slice_index_or k.starts t None)
+        (l.fits.later t)));
     few = λ t. subst (λ zs. length (slice_index_or zs t []) ≤ max_ops) same_codes ((end_fits program w.0 w.1).1 t);
     folded = (
       length k.bindings.slots,
       names,
       w.0.starts,
       starts_spell,
-      λ t. subst (λ zs. IsFolded (pieces_by w.0.starts zs t)) same_codes (end_folded program w.0 w.1 deep few t),
+      λ t. subst (λ zs. IsFolded (pieces_by w.0.starts zs t)) same_codes (end_folded program w.0 w.1 l.deep l.few t),
     );
   }
 
@@ -105,7 +119,7 @@ module _ (names : ℕ → List ℕ) (k : Checker) (program : Program) (fits : Is
       let pieces : lists ≡ (with_pieces w.0).pieces =
       subst (λ zs. lists ≡ list_below (pieces_by w.0.starts zs) (length zs)) (sym same_codes) (folded (length k.bindings.slots) names w.0.starts starts_spell) in
       ap (λ z. folded_plan z makers lists) (p ∙ sym w.2.plan.parents) ∙ ap (λ z. folded_plan w.0.plan.parents z lists) (m ∙ sym w.2.plan.makers)
-      ∙ ap (λ z. folded_plan w.0.plan.parents w.0.plan.makers z) pieces ∙ sym (end_plan program w.0 w.1 deep few)
+      ∙ ap (λ z. folded_plan w.0.plan.parents w.0.plan.makers z) pieces ∙ sym (end_plan program w.0 w.1 l.deep l.few)
 
   pub last_found : (plan : Plan) → plan ≡ with_pieces w.0 → plan_of program ≡ Ok plan
   last_found plan is = plan_found program w.0 plan w.1 is
