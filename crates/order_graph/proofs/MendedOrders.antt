@@ -146,32 +146,35 @@ module _ (o : OrderValue) (ok : IsOrder o) (at : List TaskId) (inverse : AreInve
                   settled.at_there (now t) d out ∙ ap (λ i. get_or at i d) s.same ∙ inverse.task_at t d task
             ];
         position_at = λ k d lt.
-            elim (cases_lt k (position_of o b)) [
-              | inl low ↦ beside_at k d lt (inl low)
-              | inr above ↦ elim (cases_lt k (position_of o b + length ts)) [
-                | inl inside ↦
-                    let j : ℕ = k - position_of o b in
-                    let e : position_of o b + j ≡ k = omega arith in
-                    let f : get_or after k d ≡ get_or ts j d = ap (λ i. get_or after i d) (sym e) ∙ settled.at_here j d (omega arith) in
-                    ap (λ (u : TaskId). slice_index positions u.0) f ∙ settled.positions_here j d (omega arith) ∙ e
-                | inr past ↦ beside_at k d lt (inr past)
-              ]
+            elim (in_or_out k d) [
+              | inl out ↦ beside_at k d lt out
+              | inr within ↦ let (j, l, e, f) = within in ap (λ (u : TaskId). slice_index positions u.0) f ∙ settled.positions_here j d l ∙ e
             ];
         inside = λ k d lt.
-            elim (cases_lt k (position_of o b)) [
-              | inl low ↦ task_beside k d lt (inl low)
-              | inr above ↦ elim (cases_lt k (position_of o b + length ts)) [
-                | inl inside ↦
-                    let j : ℕ = k - position_of o b in
-                    let e : position_of o b + j ≡ k = omega arith in
-                    let f : get_or after k d ≡ get_or ts j d = ap (λ i. get_or after i d) (sym e) ∙ settled.at_here j d (omega arith) in
-                    let m = ((mended.exact (get_or ts j d)).0 (Contains-get_or ts j d (omega arith))).0 in
-                    omega (arith, ap (λ (u : TaskId). u.0) f, settled.sized)
-                | inr past ↦ task_beside k d lt (inr past)
-              ]
+            elim (in_or_out k d) [
+              | inl out ↦ task_beside k d lt out
+              | inr within ↦
+                  let (j, l, e, f) = within in
+                  let m = ((mended.exact (get_or ts j d)).0 (Contains-get_or ts j d l)).0 in
+                  omega (arith, ap (λ (u : TaskId). u.0) f, settled.sized)
             ];
       }
     where
+      -- a position is outside of the stretch, or one of its tasks is there
+      in_or_out : (k : ℕ) (d : TaskId) → ((k < position_of o b) ⊎ (position_of o b + length ts ≤ k))
+          ⊎ ((j : ℕ) × (j < length ts) × (position_of o b + j ≡ k) × (get_or after k d ≡ get_or ts j d))
+      in_or_out k d =
+          elim (cases_lt k (position_of o b)) [
+            | inl low ↦ inl (inl low)
+            | inr above ↦ elim (cases_lt k (position_of o b + length ts)) [
+              | inl inside ↦
+                  let j : ℕ = k - position_of o b in
+                  let e : position_of o b + j ≡ k = omega arith in
+                  inr (j, omega arith, e, ap (λ i. get_or after i d) (sym e) ∙ settled.at_here j d (omega arith))
+              | inr past ↦ inl (inr past)
+            ]
+          ]
+
       task_beside : (k : ℕ) (d : TaskId) → k < length after → (k < position_of o b) ⊎ (position_of o b + length ts ≤ k) → (get_or after k d).0 < length positions
       task_beside k d lt out =
           omega (arith, ap (λ (u : TaskId). u.0) (settled.at_there k d out), inverse.inside k d (omega (arith, settled.at_sized)), settled.sized)

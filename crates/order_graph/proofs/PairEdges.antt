@@ -157,11 +157,11 @@ module _ (A B C : TaskId → TaskId → Type 0) (old mid new : OrderValue) (adds
 
 -- one more wanted task
 pub wanted_more :
-    (t b : TaskId) (wanted : List TaskId) (i : ℕ) → i < length wanted → b ≡ get_or wanted i b → (x y : TaskId) →
-    ToWanted t (take (i + 1) wanted) x y ↔ (ToWanted t (take i wanted) x y ⊎ IsOne t b x y)
-wanted_more t b wanted i lt at x y =
-    let e : take (i + 1) wanted ≡ take i wanted ++ b ∷ [] = rw at (take_more wanted i b lt) in
-    rw e (
+    (t : TaskId) (wanted : List TaskId) (i : ℕ) (d : TaskId) → i < length wanted → (x y : TaskId) →
+    ToWanted t (take (i + 1) wanted) x y ↔ (ToWanted t (take i wanted) x y ⊎ IsOne t (get_or wanted i d) x y)
+wanted_more t wanted i d lt x y =
+    let b : TaskId = get_or wanted i d in
+    rw (take_more wanted i d lt) (
       λ (s, m). elim (Contains-push_cases (take i wanted) b y m) [ inl l ↦ inl (s, l) | inr f ↦ inr (s, sym f) ],
       λ h. elim h [
         | inl (s, l) ↦ (s, Contains-append_left (take i wanted) (b ∷ []) y l)
@@ -174,11 +174,11 @@ in_whole ts i t m = rw take-append-drop at (Contains-append_left (take i ts) (dr
 
 -- the pairs from one more task of a list
 pub pairs_more :
-    (Pair : TaskId → TaskId → Type 0) (t : TaskId) (wanted ts : List TaskId) (i : ℕ) → i < length ts → t ≡ get_or ts i t → ((b : TaskId) → Contains wanted b ↔ Pair t b) →
-    (x y : TaskId) → PairsFrom Pair (take (i + 1) ts) x y ↔ (PairsFrom Pair (take i ts) x y ⊎ ToWanted t wanted x y)
-pairs_more Pair t wanted ts i lt at is x y =
-    let e : take (i + 1) ts ≡ take i ts ++ t ∷ [] = rw at (take_more ts i t lt) in
-    rw e (
+    (Pair : TaskId → TaskId → Type 0) (wanted ts : List TaskId) (i : ℕ) (d : TaskId) → i < length ts → ((b : TaskId) → Contains wanted b ↔ Pair (get_or ts i d) b) →
+    (x y : TaskId) → PairsFrom Pair (take (i + 1) ts) x y ↔ (PairsFrom Pair (take i ts) x y ⊎ ToWanted (get_or ts i d) wanted x y)
+pairs_more Pair wanted ts i d lt is x y =
+    let t : TaskId = get_or ts i d in
+    rw (take_more ts i d lt) (
       λ (m, p). elim (Contains-push_cases (take i ts) t x m) [
         | inl l ↦ inl (l, p)
         | inr f ↦ inr (sym f, (is y).1 (subst (λ z. Pair z y) (sym f) p))
@@ -191,9 +191,9 @@ pairs_more Pair t wanted ts i lt at is x y =
 
 -- the pairs from the first tasks of a list, and from the next one, are pairs from its tasks
 pub pairs_so_far :
-    (Pair : TaskId → TaskId → Type 0) (t : TaskId) (wanted ts : List TaskId) (i : ℕ) → i < length ts → t ≡ get_or ts i t → ((b : TaskId) → Contains wanted b ↔ Pair t b) →
-    (x y : TaskId) → PairsFrom Pair (take i ts) x y ⊎ ToWanted t wanted x y → PairsFrom Pair ts x y
-pairs_so_far Pair t wanted ts i lt at is x y h = let (m, p) = (pairs_more Pair t wanted ts i lt at is x y).1 h in (in_whole ts (i + 1) x m, p)
+    (Pair : TaskId → TaskId → Type 0) (wanted ts : List TaskId) (i : ℕ) (d : TaskId) → i < length ts → ((b : TaskId) → Contains wanted b ↔ Pair (get_or ts i d) b) →
+    (x y : TaskId) → PairsFrom Pair (take i ts) x y ⊎ ToWanted (get_or ts i d) wanted x y → PairsFrom Pair ts x y
+pairs_so_far Pair wanted ts i d lt is x y h = let (m, p) = (pairs_more Pair wanted ts i d lt is x y).1 h in (in_whole ts (i + 1) x m, p)
 
 -- a relation with the same pairs reaches the same cycles
 same_cycle : (R S : TaskId → TaskId → Type 0) → ((a b : TaskId) → R a b → S a b) → (t : TaskId) → ReachesCycle R t → ReachesCycle S t
@@ -239,9 +239,9 @@ module _ (Pair : TaskId → TaskId → Type 0) (ts : List TaskId) (old mid new :
 
 -- edges to the first wanted tasks, and the one to the next, are edges to wanted tasks
 pub wanted_so_far :
-    (t b : TaskId) (wanted : List TaskId) (i : ℕ) → i < length wanted → b ≡ get_or wanted i b → (x y : TaskId) →
-    ToWanted t (take i wanted) x y ⊎ IsOne t b x y → ToWanted t wanted x y
-wanted_so_far t b wanted i lt at x y h = let (s, m) = (wanted_more t b wanted i lt at x y).1 h in (s, in_whole wanted (i + 1) y m)
+    (t : TaskId) (wanted : List TaskId) (i : ℕ) (d : TaskId) → i < length wanted → (x y : TaskId) →
+    ToWanted t (take i wanted) x y ⊎ IsOne t (get_or wanted i d) x y → ToWanted t wanted x y
+wanted_so_far t wanted i d lt x y h = let (s, m) = (wanted_more t wanted i d lt x y).1 h in (s, in_whole wanted (i + 1) y m)
 
 -- what follows a relation follows one with the same pairs
 pub follows_same :
