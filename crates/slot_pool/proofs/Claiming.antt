@@ -1,5 +1,5 @@
 -- A claim keeps the rule, whatever it finds.
-use Rattle.std.proofs.Common.{◌≡◌, ◌≢◌, ℕ, ◌+◌, ◌<◌, List, [], ◌∷◌, Option, Some, None, set, sym, refl, ap, ◌∙◌, subst, arith, eqb, ne_eqb, get_or-set_same}
+use Rattle.std.proofs.Common.{◌≡◌, ◌≢◌, ℕ, ◌+◌, ◌<◌, List, [], ◌∷◌, Option, Some, None, set, sym, refl, ap, ◌∙◌, subst, arith, eqb, ne_eqb, get_or-set_same, inl, inr}
 use Rattle.std.proofs.lemmas.List.{set-get_or}
 use Rattle.std.specs.Prelude.{Contains, slice_index}
 use prog.Atomic.{either}
@@ -12,65 +12,40 @@ use Rattle.slot_pool.specs.declared.view.View.{View}
 use Rattle.slot_pool.specs.calls.Views.{claiming, finding, placing, trying}
 use Rattle.slot_pool.specs.inside.Rule.{IsHad, IsPlacedIn, PoolHolds, StandsInPool, at_home, nowhere, out}
 use Rattle.slot_pool.specs.calls.Steps.{Begun, Claimed}
-use Rattle.slot_pool.proofs.Members.{contains_else, contains_first, contains_none, contains_rest}
+use Rattle.slot_pool.proofs.Members.{Grows, contains_first, contains_none, grown_else, grown_still}
 use Rattle.slot_pool.proofs.Changing.{Renews, changed, found_within, looked, placed_renewed}
 
 -- a view with a number is not blank
 some_number : (v : View) (k : ℕ) (ts : List ℕ) → v.numbers ≡ k ∷ [] → v.numbers ≡ [] → ts ≡ []
 some_number v k ts mine none_there = absurd (let e : k ∷ [] ≡ [] = sym mine ∙ none_there in cc)
 
--- what each step makes of a view
-tries_renews : (t n : ℕ) (v : View) (k : ℕ) → v.numbers ≡ k ∷ [] → Renews t v (trying t n v)
-tries_renews t n v k mine =
+-- what a step makes of a view of which each list stays or gets task t
+renews :
+    (t k : ℕ) (v w : View) → v.numbers ≡ k ∷ [] → w.numbers ≡ v.numbers → w.workers ≡ v.workers → Grows t v.knows w.knows → Grows t v.placed w.placed →
+    Grows t v.has w.has → Renews t v w
+renews t k v w mine numbers workers knows placed has =
     record {
-      numbers = refl;
-      workers = refl;
-      blank = some_number v k v.placed mine;
-      knows = λ u o c. c;
-      placed = λ u o c. c;
-      placed_still = λ u c. c;
-      has = λ u o c. c;
-      has_still = λ u o c. c;
+      numbers = numbers;
+      workers = workers;
+      blank = λ none_there. some_number v k w.placed mine (sym numbers ∙ none_there);
+      knows = grown_else t v.knows w.knows knows;
+      placed = grown_else t v.placed w.placed placed;
+      placed_still = grown_still t v.placed w.placed placed;
+      has = grown_else t v.has w.has has;
+      has_still = λ u o. grown_still t v.has w.has has u;
     }
+
+tries_renews : (t n : ℕ) (v : View) (k : ℕ) → v.numbers ≡ k ∷ [] → Renews t v (trying t n v)
+tries_renews t n v k mine = renews t k v (trying t n v) mine refl refl (inl refl) (inl refl) (inl refl)
 
 finds_renews : (t n : ℕ) (v : View) (k : ℕ) → v.numbers ≡ k ∷ [] → Renews t v (finding t n v)
-finds_renews t n v k mine =
-    record {
-      numbers = refl;
-      workers = refl;
-      blank = some_number v k v.placed mine;
-      knows = λ u o c. contains_else t v.knows u o c;
-      placed = λ u o c. c;
-      placed_still = λ u c. c;
-      has = λ u o c. c;
-      has_still = λ u o c. c;
-    }
+finds_renews t n v k mine = renews t k v (finding t n v) mine refl refl (inr refl) (inl refl) (inl refl)
 
 claims_renews : (t : ℕ) (v : View) (k : ℕ) → v.numbers ≡ k ∷ [] → Renews t v (claiming t v)
-claims_renews t v k mine =
-    record {
-      numbers = refl;
-      workers = refl;
-      blank = some_number v k v.placed mine;
-      knows = λ u o c. contains_else t v.knows u o c;
-      placed = λ u o c. c;
-      placed_still = λ u c. c;
-      has = λ u o c. contains_else t v.has u o c;
-      has_still = λ u o c. contains_rest t v.has u c;
-    }
+claims_renews t v k mine = renews t k v (claiming t v) mine refl refl (inr refl) (inl refl) (inr refl)
 
 places_renews : (t : ℕ) (v : View) (k : ℕ) → v.numbers ≡ k ∷ [] → Renews t v (placing t v)
-places_renews t v k mine =
-    record {
-      numbers = refl;
-      workers = refl;
-      blank = some_number v k (t ∷ v.placed) mine;
-      knows = λ u o c. contains_else t v.knows u o c;
-      placed = λ u o c. contains_else t v.placed u o c;
-      placed_still = λ u c. contains_rest t v.placed u c;
-      has = λ u o c. contains_else t v.has u o c;
-      has_still = λ u o c. contains_rest t v.has u c;
-    }
+places_renews t v k mine = renews t k v (placing t v) mine refl refl (inr refl) (inr refl) (inr refl)
 
 module _ {R : Type 0} (number_of : R → ℕ) (key : Setting) where
   -- a view with task t: its word is that of a worker

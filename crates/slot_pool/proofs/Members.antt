@@ -1,5 +1,5 @@
 -- What a list contains, by cases on the list.
-use Rattle.std.proofs.Common.{◌≡◌, ◌≢◌, ℕ, zero, suc, ◌<◌, List, [], ◌∷◌, length, get_or, sym, refl, arith, inl, inr, ◌⊎◌}
+use Rattle.std.proofs.Common.{◌≡◌, ◌≢◌, ℕ, zero, suc, ◌<◌, List, [], ◌∷◌, length, get_or, sym, refl, subst, arith, inl, inr, ◌⊎◌}
 use Rattle.std.specs.Prelude.{Contains}
 use Rattle.std.proofs.lemmas.List.Elements.{Contains-append_right, Contains-append_cases}
 
@@ -32,3 +32,15 @@ module _ {A : Type 0} where
     | inl e ↦ absurd (n e)
     | inr b ↦ b
   ]
+
+  -- a list is as it was, or has this in front of it
+  abbrev pub Grows : A → List A → List A → Type 0
+  Grows y xs ys = (ys ≡ xs) ⊎ (ys ≡ y ∷ xs)
+
+  pub grown_else : (y : A) (xs ys : List A) → Grows y xs ys → (x : A) → x ≢ y → Contains ys x → Contains xs x
+  grown_else y xs ys (inl e) x n c = subst (λ zs. Contains zs x) e c
+  grown_else y xs ys (inr e) x n c = contains_else y xs x n (subst (λ zs. Contains zs x) e c)
+
+  pub grown_still : (y : A) (xs ys : List A) → Grows y xs ys → (x : A) → Contains xs x → Contains ys x
+  grown_still y xs ys (inl e) x c = subst (λ zs. Contains zs x) (sym e) c
+  grown_still y xs ys (inr e) x c = subst (λ zs. Contains zs x) (sym e) (contains_rest y xs x c)

@@ -1,10 +1,13 @@
 -- What is true of a worker after each of its steps.
-use Rattle.std.proofs.Common.{◌≡◌, ℕ, ◌<◌, List, ◌∷◌, Option, None, map, sym, ap, ◌∙◌, subst, inl, inr}
+use Rattle.std.proofs.Common.{◌≡◌, ℕ, ◌<◌, List, ◌∷◌, Option, None, map, sym, ap, ◌∙◌, subst, inl, inr, arith}
 use Rattle.std.specs.Prelude.{Contains, drop}
 use Rattle.atomic_table.specs.Seated.{TableId}
 use Rattle.atomic_table.specs.Table.{Me, rest}
 use Rattle.slot_pool.specs.declared.view.View.{View}
-use Rattle.slot_pool.specs.calls.Views.{claiming, finding, giving, placing, trying}
+use Rattle.slot_pool.specs.declared.setting.Setting.{Setting}
+use Rattle.slot_pool.specs.calls.PoolValues.{IsOfPool, PoolValue, WorkerValue}
+use Rattle.slot_pool.specs.calls.Views.{finding, giving, placing}
+use Rattle.slot_pool.specs.inside.Pools.{IsPool, pool_of}
 use Rattle.slot_pool.specs.inside.Workers.{HasRoom, IsAtWork}
 use Rattle.slot_pool.proofs.Members.{contains_cases, contains_first, contains_rest}
 
@@ -15,6 +18,16 @@ vacant t = (t, None)
 -- what a worker of this table keeps
 abbrev pub Keeps : {R : Type 0} → TableId → ℕ → Me (Option R) View → List (Option R) → ℕ → Type 0
 Keeps table number me entries room = IsAtWork table.words number me × HasRoom table.words number entries room
+
+-- a worker and its pool are at the same table, where a task of the pool has a word
+pub at_table :
+    {own table : TableId} {key setting : Setting} {hand : WorkerValue} {pool : PoolValue} (t : ℕ) → own ≡ hand.table → pool_of table setting ≡ pool →
+    IsPool table key setting → IsOfPool hand pool → t < pool.tasks → (own ≡ table) × (t < table.words) × (t < key.tasks)
+at_table t hand pool is made l =
+    let tasks = ap (λ f. f.tasks) pool in
+    let told = ap (λ k. k.tasks) is.told in
+    let words = is.words in
+    (hand ∙ made.table ∙ sym (ap (λ f. f.table) pool), omega arith, omega arith)
 
 module _ {R : Type 0} (table after : TableId) (same : after ≡ table) (number : ℕ) (me now : Me (Option R) View) (entries : List (Option R)) (room : ℕ)
     (w : Keeps table number me entries room) where

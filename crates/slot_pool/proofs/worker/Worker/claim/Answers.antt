@@ -1,21 +1,17 @@
-use Rattle.std.proofs.Common.{◌+◌, ◌<◌, Some, eqb, sym, ap, ◌∙◌, ◌∷◌, subst, arith}
+use Rattle.std.proofs.Common.{◌+◌, Some, eqb, sym, ap, ◌∙◌, ◌∷◌, subst}
 use prog.Atomic.{either}
 use mathlib.Core.Option.{none}
 use Rattle.atomic_table.specs.Table.{Allows, rest, step}
 use Rattle.slot_pool.specs.inside.Rule.{PoolHolds}
 use Rattle.slot_pool.specs.calls.Steps.{Claimed}
 use Rattle.slot_pool.proofs.Claiming.{claims}
+use Rattle.slot_pool.proofs.Standing.{at_table}
 use Rattle.slot_pool.proofs.worker.Worker.claim.Goals as goal
 
 pub compare_exchange-found-requires : goal.compare_exchange-found-requires
 compare_exchange-found-requires g c =
-    let table = ap (λ h. h.table) c.self.view_is ∙ c.requires.made.table ∙ sym (ap (λ f. f.table) c.pool.view_is) in
-    let tasks = ap (λ f. f.tasks) c.pool.view_is in
-    let told = ap (λ k. k.tasks) c.pool.invariant.told in
-    let words = c.pool.invariant.words in
     let t = c.args.t.0 in
-    let within : t < c.pool.inside.slots.shared.table_id.words = let l = c.requires.task in omega arith in
-    let small : t < c.pool.inside.slots.shared.key.tasks = let l = c.requires.task in omega arith in
+    let (table, within, small) = at_table t (ap (λ h. h.table) c.self.view_is) c.pool.view_is c.pool.invariant c.requires.made c.requires.task in
     let key = c.pool.inside.slots.shared.key in
     let slots = c.pool.inside.slots.shared.table_id.slots in
     let id = c.self.inside.place.id in
@@ -29,10 +25,9 @@ compare_exchange-found-requires g c =
 
 pub exchange-requires : goal.exchange-requires
 exchange-requires g c =
-    let table = c.compare_exchange-found.ensures.0 ∙ ap (λ h. h.table) c.self.view_is ∙ c.requires.made.table ∙ sym (ap (λ f. f.table) c.pool.view_is) in
     let one = c.if-found-ne1.false in
     let told = c.compare_exchange-found.ensures.2.got one in
     let slots = ap (λ m. m.1) told.2 in (
-      table,
+      c.compare_exchange-found.ensures.0 ∙ (at_table c.args.t.0 (ap (λ h. h.table) c.self.view_is) c.pool.view_is c.pool.invariant c.requires.made c.requires.task).0,
       (Some told.0, slots ∙ ap (λ xs. (c.args.t.0, Some told.0) ∷ rest xs) (sym slots)),
     )

@@ -1,4 +1,4 @@
-use Rattle.std.proofs.Common.{◌+◌, ◌<◌, eqb, sym, ap, ◌∙◌, subst, arith}
+use Rattle.std.proofs.Common.{◌+◌, ◌<◌, eqb, sym, ap, subst, arith}
 use prog.Atomic.{either}
 use mathlib.Core.Option.{none}
 use Rattle.atomic_table.specs.Seated.{TableId}
@@ -6,19 +6,13 @@ use Rattle.atomic_table.specs.Table.{Allows, step}
 use Rattle.slot_pool.specs.inside.Rule.{PoolHolds}
 use Rattle.slot_pool.specs.calls.Steps.{Begun}
 use Rattle.slot_pool.proofs.Claiming.{begins}
-use Rattle.slot_pool.proofs.Standing.{found_at_work, placing_at_work}
+use Rattle.slot_pool.proofs.Standing.{at_table, found_at_work, placing_at_work}
 use Rattle.slot_pool.proofs.worker.Worker.place.Goals as goal
 
 pub compare_exchange-found-requires : goal.compare_exchange-found-requires
 compare_exchange-found-requires g c =
-    let table = ap (λ h. h.table) c.self.view_is ∙ c.requires.made.table ∙ sym (ap (λ f. f.table) c.pool.view_is) in
-    let tasks = ap (λ f. f.tasks) c.pool.view_is in
-    let told = ap (λ k. k.tasks) c.pool.invariant.told in
-    let words = c.pool.invariant.words in
     let t = c.id-slot.result.0 in
-    let named = c.id-slot.ensures in
-    let within : t < c.pool.inside.slots.shared.table_id.words = let l = c.requires.task in omega arith in
-    let small : t < c.pool.inside.slots.shared.key.tasks = let l = c.requires.task in omega arith in
+    let (table, within, small) = at_table t (ap (λ h. h.table) c.self.view_is) c.pool.view_is c.pool.invariant c.requires.made (omega (arith, c.id-slot.ensures, c.requires.task)) in
     let key = c.pool.inside.slots.shared.key in
     let slots = c.pool.inside.slots.shared.table_id.slots in
     let id = c.self.inside.place.id in
@@ -38,10 +32,7 @@ invariant_of-self g c =
 pub invariant_of-self-2 : goal.invariant_of-self-2
 invariant_of-self-2 g c =
     let after = c.compare_exchange-found.new.seat in
-    let table = ap (λ h. h.table) c.self.view_is ∙ c.requires.made.table ∙ sym (ap (λ f. f.table) c.pool.view_is) in
     let t = c.id-slot.result.0 in
-    let small : t < c.self.inside.place.table_id.words =
-    subst (λ (i : TableId). t < i.words) (sym table) (let tasks = ap (λ f. f.tasks) c.pool.view_is in let words = c.pool.invariant.words in
-    let named = c.id-slot.ensures in let l = c.requires.task in omega arith) in
-    placing_at_work c.self.inside.place.table_id after.table_id c.compare_exchange-found.ensures.0 c.self.inside.number c.self.inside.place.me after.me _ _ c.self.invariant t small
-    (c.compare_exchange-found.ensures.2.placed c.if-found-ne0.false).1
+    let (table, within, small) = at_table t (ap (λ h. h.table) c.self.view_is) c.pool.view_is c.pool.invariant c.requires.made (omega (arith, c.id-slot.ensures, c.requires.task)) in
+    placing_at_work c.self.inside.place.table_id after.table_id c.compare_exchange-found.ensures.0 c.self.inside.number c.self.inside.place.me after.me _ _ c.self.invariant t
+    (subst (λ (i : TableId). t < i.words) (sym table) within) (c.compare_exchange-found.ensures.2.placed c.if-found-ne0.false).1
