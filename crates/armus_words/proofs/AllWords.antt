@@ -6,7 +6,7 @@ use Rattle.armus_words.specs.Words.{Text, AreUses, AreWords, Use, StandsAlone, a
 use Rattle.armus_words.specs.Commands.{given_by}
 use Rattle.armus_words.specs.inside.Rules.{app_for}
 use Rattle.armus_words.specs.declared.table.FirstWord.{FirstWord}
-use Rattle.armus_words.specs.declared.table.FirstWord.TheVariants.{Check, Run, Avoid, Record, Replay, Gen, Clock, Pool}
+use Rattle.armus_words.specs.declared.table.FirstWord.TheVariants.{Gen}
 use Rattle.armus_words.proofs.Matches.{HoldsGiven, uses_given, uses_taken}
 use Rattle.armus_words.proofs.Generated.{gen_given, gen_taken}
 
@@ -26,23 +26,8 @@ with_value : (uses : List Use) (v : Text) → AreUses (λ o. has_option o (optio
 with_value [] v are is = record { given = gen_given v is; taken = gen_taken v is }
 with_value (u ∷ us) v are is = absurd (cc are.0)
 
-form_reads : (f : FirstWord) (words : List Text) (uses : List Use) (alone : Option Text) → AreWords words f uses alone → Reads words f uses alone
-form_reads Check words uses None form = rw form.words_are (with_options Check uses refl form.uses_fit)
-form_reads Check words uses (Some v) form = absurd form.alone_fits
-form_reads Run words uses None form = rw form.words_are (with_options Run uses refl form.uses_fit)
-form_reads Run words uses (Some v) form = absurd form.alone_fits
-form_reads Avoid words uses None form = rw form.words_are (with_options Avoid uses refl form.uses_fit)
-form_reads Avoid words uses (Some v) form = absurd form.alone_fits
-form_reads Record words uses None form = rw form.words_are (with_options Record uses refl form.uses_fit)
-form_reads Record words uses (Some v) form = absurd form.alone_fits
-form_reads Replay words uses None form = rw form.words_are (with_options Replay uses refl form.uses_fit)
-form_reads Replay words uses (Some v) form = absurd form.alone_fits
-form_reads Clock words uses None form = rw form.words_are (with_options Clock uses refl form.uses_fit)
-form_reads Clock words uses (Some v) form = absurd form.alone_fits
-form_reads Pool words uses None form = rw form.words_are (with_options Pool uses refl form.uses_fit)
-form_reads Pool words uses (Some v) form = absurd form.alone_fits
-form_reads Gen words uses None form = absurd form.alone_fits
-form_reads Gen words uses (Some v) form = rw form.words_are (with_value uses v form.uses_fit form.alone_fits)
-
 pub all_read : (f : FirstWord) (words : List Text) (uses : List Use) (alone : Option Text) → AreWords words f uses alone → Reads words f uses alone
-all_read = form_reads
+all_read Gen words uses None form = absurd form.alone_fits
+all_read Gen words uses (Some v) form = rw form.words_are (with_value uses v form.uses_fit form.alone_fits)
+all_read f words uses None form = rw form.words_are (with_options f uses refl form.uses_fit)
+all_read f words uses (Some v) form = absurd form.alone_fits

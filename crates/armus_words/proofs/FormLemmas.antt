@@ -7,7 +7,7 @@ use Rattle.std.specs.Str.{bytes_eq}
 use Rattle.std.proofs.lemmas.Slice.Eq.{bytes_eq-Decides}
 use Rattle.std.proofs.lemmas.Grind.{common_steps}
 use Rattle.std.proofs.lemmas.Bool.{and_parts, and_from}
-use Rattle.armus_words.proofs.Meaning.{first_is, named_is, no_option}
+use Rattle.armus_words.proofs.Meaning.{first_is, head_is, named_is, no_option, tail_is}
 use Rattle.armus_words.specs.Words.{Text, Use, valued, flag, AreUses, AreWords, IsValue, StandsAlone, all_words}
 use Rattle.armus_words.specs.Words.{dashed, first_word, has_option, has_value_alone, is_value_byte, option_of, options_of, wants_value, without}
 use Rattle.armus_words.specs.inside.Form.{first_named, fits, free_at, is_free, is_value, option_named, taken_off}
@@ -16,12 +16,6 @@ use Rattle.armus_words.specs.declared.table.FirstWord.{FirstWord}
 use Rattle.armus_words.specs.declared.table.OptionWord.{OptionWord}
 use Rattle.armus_words.specs.declared.table.OptionWord.TheVariants.{Print, Workers, Graph, Live, Kept, Sites}
 use Rattle.armus_words.specs.declared.table.TheConstants.{FIRST_WORDS, MAX_VALUE_BYTES, OPTION_WORDS}
-
-head_is : {x y : Text} {xs ys : List Text} → x ∷ xs ≡ y ∷ ys → x ≡ y
-head_is e = cc
-
-tail_is : {x y : Text} {xs ys : List Text} → x ∷ xs ≡ y ∷ ys → xs ≡ ys
-tail_is e = cc
 
 same_text : (x y : Text) → bytes_eq x y ≡ true → x ≡ y
 same_text x y e = (bytes_eq-Decides x y).0 e
@@ -70,49 +64,21 @@ value_unnamed word is = not_some word (option_named word) refl is
 
 free_after : (free : Free) (o p : OptionWord) → is_free (taken_off free o) p ≡ without o (is_free free) p
 free_after free Print Print = refl
-free_after free Print Workers = refl
-free_after free Print Graph = refl
-free_after free Print Live = refl
-free_after free Print Kept = refl
-free_after free Print Sites = refl
+free_after free Print p = refl
 free_after free Workers Print = refl
-free_after free Workers Workers = refl
-free_after free Workers Graph = refl
-free_after free Workers Live = refl
-free_after free Workers Kept = refl
-free_after free Workers Sites = refl
+free_after free Workers p = refl
 free_after free Graph Print = refl
-free_after free Graph Workers = refl
-free_after free Graph Graph = refl
-free_after free Graph Live = refl
-free_after free Graph Kept = refl
-free_after free Graph Sites = refl
+free_after free Graph p = refl
 free_after free Live Print = refl
-free_after free Live Workers = refl
-free_after free Live Graph = refl
-free_after free Live Live = refl
-free_after free Live Kept = refl
-free_after free Live Sites = refl
+free_after free Live p = refl
 free_after free Kept Print = refl
-free_after free Kept Workers = refl
-free_after free Kept Graph = refl
-free_after free Kept Live = refl
-free_after free Kept Kept = refl
-free_after free Kept Sites = refl
+free_after free Kept p = refl
 free_after free Sites Print = refl
-free_after free Sites Workers = refl
-free_after free Sites Graph = refl
-free_after free Sites Live = refl
-free_after free Sites Kept = refl
-free_after free Sites Sites = refl
+free_after free Sites p = refl
 
 free_first : (f : FirstWord) (o : OptionWord) → is_free (free_at f) o ≡ has_option o (options_of f)
 free_first f Print = refl
-free_first f Workers = refl
-free_first f Graph = refl
-free_first f Live = refl
-free_first f Kept = refl
-free_first f Sites = refl
+free_first f o = refl
 
 without_same : (o : OptionWord) (f g : OptionWord → Bool) → ((p : OptionWord) → f p ≡ g p) → (p : OptionWord) → without o f p ≡ without o g p
 without_same o f g e p = rw (e p) refl

@@ -1,5 +1,5 @@
 -- The words of the command whose value stands by itself.
-use Rattle.std.proofs.Common.{◌≡◌, ◌∙◌, List, [], ◌∷◌, ap, refl, Bool, true, false, codes, if◌then◌else◌, ◌&&◌, ◌||◌, is_some}
+use Rattle.std.proofs.Common.{◌≡◌, ◌∙◌, List, [], ◌∷◌, ap, Bool, true, false, codes, if◌then◌else◌, ◌&&◌, ◌||◌, is_some}
 use Rattle.std.specs.Prelude.{Option, Some}
 use Rattle.std.specs.List.{list_all}
 use Rattle.std.specs.Option.{option_map_or}

@@ -176,11 +176,7 @@ by_use p w rules free os us false is uses = unused_flag p os (map (use_row rules
 
 not_alone : (o : OptionWord) → bytes_eq (name_of o) (codes "count") ≡ false
 not_alone Print = refl
-not_alone Workers = refl
-not_alone Graph = refl
-not_alone Live = refl
-not_alone Kept = refl
-not_alone Sites = refl
+not_alone o = refl
 
 none_alone : (rules : List Rule) (us : List Use) → find_row (codes "count") (map (use_row rules) us) ≡ None
 none_alone rules [] = refl
@@ -237,14 +233,8 @@ module _ (f : FirstWord) where
 
 matches_are : (f : FirstWord) (ws : List Text) → has_value_alone f ≡ false
     → matches_of (app_for f) (first_word f ∷ ws) ≡ finished (rules_for (options_of f)) (walk (rules_for (options_of f)) [] nothing_held ws).held
-matches_are first.Check ws e = refl
-matches_are first.Run ws e = refl
-matches_are first.Avoid ws e = refl
-matches_are first.Record ws e = refl
-matches_are first.Replay ws e = refl
 matches_are first.Gen ws e = absurd (cc)
-matches_are first.Clock ws e = refl
-matches_are first.Pool ws e = refl
+matches_are f ws e = refl
 
 -- what clap asks of the words, by the walk over them
 abbrev passes_by : FirstWord → List Text → Walk → Bool
@@ -257,27 +247,15 @@ passes_by f ws end =
 
 takes_are : (f : FirstWord) (ws : List Text) → has_value_alone f ≡ false
     → takes (app_for f) (first_word f ∷ ws) ≡ passes_by f ws (walk (rules_for (options_of f)) [] nothing_held ws)
-takes_are first.Check ws e = refl
-takes_are first.Run ws e = refl
-takes_are first.Avoid ws e = refl
-takes_are first.Record ws e = refl
-takes_are first.Replay ws e = refl
 takes_are first.Gen ws e = absurd (cc)
-takes_are first.Clock ws e = refl
-takes_are first.Pool ws e = refl
+takes_are f ws e = refl
 
 at_end : (f : FirstWord) (h : Held) (a b : Bool) → has_value_alone f ≡ false → a ≡ true → b ≡ true
     → (entered_passes (built (app_for f)) None && (a && (b
     && (list_all default_passes (rules_for (options_of f))
     && is_valid (shape_with (first_word f) (rules_for (options_of f))) (finished (rules_for (options_of f)) h) (is_some (entered (built (app_for f)) None)))))) ≡ true
-at_end first.Check h a b e p q = rw (p, q) refl
-at_end first.Run h a b e p q = rw (p, q) refl
-at_end first.Avoid h a b e p q = rw (p, q) refl
-at_end first.Record h a b e p q = rw (p, q) refl
-at_end first.Replay h a b e p q = rw (p, q) refl
 at_end first.Gen h a b e p q = absurd (cc)
-at_end first.Clock h a b e p q = rw (p, q) refl
-at_end first.Pool h a b e p q = rw (p, q) refl
+at_end f h a b e p q = rw (p, q) refl
 
 pub uses_taken : (f : FirstWord) (us : List Use) → has_value_alone f ≡ false → AreUses (λ o. has_option o (options_of f)) us
     → takes (app_for f) (first_word f ∷ all_words us) ≡ true
@@ -295,10 +273,4 @@ uses_given f us e uses =
 
 pub simple : (f : FirstWord) → is_simple (app_for f) ≡ true
 simple first.Check = refl
-simple first.Run = refl
-simple first.Avoid = refl
-simple first.Record = refl
-simple first.Replay = refl
-simple first.Gen = refl
-simple first.Clock = refl
-simple first.Pool = refl
+simple f = refl

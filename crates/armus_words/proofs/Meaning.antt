@@ -1,9 +1,9 @@
 -- The words mean one command at most.
 use Rattle.std.proofs.Common.{◌≡◌, ◌∙◌, ◌++◌, ℕ, List, [], ◌∷◌, Bool, true, false, inl, inr, ap, sym, refl, subst, arith}
-use Rattle.std.specs.Prelude.{Option, Some, None, ◌==◌, ◌&&◌, option_to_list}
+use Rattle.std.specs.Prelude.{Option, Some, None, ◌==◌, option_to_list}
 use Rattle.std.specs.List.{list_all}
 use Rattle.std.specs.Str.{bytes_eq}
-use Rattle.std.proofs.lemmas.Bool.{cases_Bool}
+use Rattle.std.proofs.lemmas.Bool.{and_parts, cases_Bool}
 use Rattle.std.proofs.lemmas.Slice.Eq.{bytes_eq-Decides}
 use Rattle.std.proofs.lemmas.Grind.{common_steps}
 use Rattle.armus_words.specs.Words.{Text, Use, valued, flag, AreUses, AreWords, IsValue, StandsAlone}
@@ -14,7 +14,7 @@ use Rattle.armus_words.specs.calls.Commands.{OneMeaning}
 use Rattle.armus_words.specs.declared.table.FirstWord.{FirstWord}
 use Rattle.armus_words.specs.declared.table.FirstWord.TheVariants as first
 use Rattle.armus_words.specs.declared.table.OptionWord.{OptionWord}
-use Rattle.armus_words.specs.declared.table.OptionWord.TheVariants.{Print, Workers, Graph as GraphOption, Live, Kept, Sites}
+use Rattle.armus_words.specs.declared.table.OptionWord.TheVariants.{Print}
 use Rattle.armus_words.specs.declared.command.Graph.{Graph}
 use Rattle.armus_words.specs.declared.command.Graph.TheVariants.{Auto, Wfg, Sg, Grg}
 use Rattle.armus_words.specs.declared.command.Command.{Command}
@@ -28,21 +28,11 @@ differ x y unlike e = let yes : bytes_eq x y ≡ true = (bytes_eq-Decides x y).1
 -- a word names the command whose word it is, and the option whose word it is
 pub first_is : (f : FirstWord) → first_named (first_word f) ≡ Some f
 first_is first.Check = refl
-first_is first.Run = refl
-first_is first.Avoid = refl
-first_is first.Record = refl
-first_is first.Replay = refl
-first_is first.Gen = refl
-first_is first.Clock = refl
-first_is first.Pool = refl
+first_is f = refl
 
 pub named_is : (o : OptionWord) → option_named (dashed o) ≡ Some o
 named_is Print = refl
-named_is Workers = refl
-named_is GraphOption = refl
-named_is Live = refl
-named_is Kept = refl
-named_is Sites = refl
+named_is o = refl
 
 one_first : (a b : FirstWord) → first_word a ≡ first_word b → a ≡ b
 one_first a b e = let both : Some a ≡ Some b = sym (first_is a) ∙ ap first_named e ∙ first_is b in cc
@@ -60,17 +50,13 @@ pub names_differ : (a b : OptionWord) → (wants_value a ≡ wants_value b → �
 names_differ a b other =
     elim (cases_Bool (bytes_eq (name_of a) (name_of b))) [ inl same ↦ absurd (other (ap wants_value (one_name a b same))) | inr differs ↦ differs ]
 
-head_is : {x y : Text} {xs ys : List Text} → x ∷ xs ≡ y ∷ ys → x ≡ y
+pub head_is : {x y : Text} {xs ys : List Text} → x ∷ xs ≡ y ∷ ys → x ≡ y
 head_is e = cc
 
-tail_is : {x y : Text} {xs ys : List Text} → x ∷ xs ≡ y ∷ ys → xs ≡ ys
+pub tail_is : {x y : Text} {xs ys : List Text} → x ∷ xs ≡ y ∷ ys → xs ≡ ys
 tail_is e = cc
 
-pub and_first : (a b : Bool) → (a && b) ≡ true → a ≡ true
-and_first true b e = refl
-and_first false b e = absurd (cc)
-
-no_hyphen : (x : ℕ) → is_value_byte x ≡ true → (x == 45) ≡ false
+pub no_hyphen : (x : ℕ) → is_value_byte x ≡ true → (x == 45) ≡ false
 no_hyphen x e = grind (arith, common_steps)
 
 -- a value begins with no hyphen
@@ -78,7 +64,7 @@ pub no_option : (o : OptionWord) (v : Text) → IsValue v → dashed o ≡ v →
 no_option o [] is e = absurd (cc)
 no_option o (x ∷ xs) is e =
     let begins : 45 ≡ x = cc in
-    let plain : (x == 45) ≡ false = no_hyphen x (and_first (is_value_byte x) (list_all is_value_byte xs) is.plain) in
+    let plain : (x == 45) ≡ false = no_hyphen x (and_parts (is_value_byte x) (list_all is_value_byte xs) is.plain).0 in
     let same : (45 == 45) ≡ false = subst (λ y. (y == 45) ≡ false) (sym begins) plain in absurd (cc)
 
 -- no use and then more is the value that stands by itself
@@ -130,21 +116,10 @@ same_uses n free fresh (flag o ∷ us) (valued o' w ∷ vs) a b p q s t e = absu
 
 same_graph : (g h : Graph) → graph_word g ≡ graph_word h → g ≡ h
 same_graph Auto Auto e = refl
-same_graph Auto Wfg e = absurd (differ (graph_word Auto) (graph_word Wfg) refl e)
-same_graph Auto Sg e = absurd (differ (graph_word Auto) (graph_word Sg) refl e)
-same_graph Auto Grg e = absurd (differ (graph_word Auto) (graph_word Grg) refl e)
-same_graph Wfg Auto e = absurd (differ (graph_word Wfg) (graph_word Auto) refl e)
 same_graph Wfg Wfg e = refl
-same_graph Wfg Sg e = absurd (differ (graph_word Wfg) (graph_word Sg) refl e)
-same_graph Wfg Grg e = absurd (differ (graph_word Wfg) (graph_word Grg) refl e)
-same_graph Sg Auto e = absurd (differ (graph_word Sg) (graph_word Auto) refl e)
-same_graph Sg Wfg e = absurd (differ (graph_word Sg) (graph_word Wfg) refl e)
 same_graph Sg Sg e = refl
-same_graph Sg Grg e = absurd (differ (graph_word Sg) (graph_word Grg) refl e)
-same_graph Grg Auto e = absurd (differ (graph_word Grg) (graph_word Auto) refl e)
-same_graph Grg Wfg e = absurd (differ (graph_word Grg) (graph_word Wfg) refl e)
-same_graph Grg Sg e = absurd (differ (graph_word Grg) (graph_word Sg) refl e)
 same_graph Grg Grg e = refl
+same_graph g h e = absurd (differ (graph_word g) (graph_word h) refl e)
 
 one_number : (text : Text) (most a b : ℕ) → IsNumber text most a → IsNumber text most b → a ≡ b
 one_number text most a b p q = sym p.value ∙ q.value

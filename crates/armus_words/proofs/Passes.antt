@@ -46,27 +46,19 @@ module _ (name : Text) (rules : List Rule) where
 
   turn_is : (o : OptionWord) (h : Held) → turn_passes shape [] (at h) (dashed o) ≡ by_rule (dashed o) h (arg_by_long rules (name_of o))
   turn_is Print h = refl
-  turn_is Workers h = refl
-  turn_is Graph h = refl
-  turn_is Live h = refl
-  turn_is Kept h = refl
-  turn_is Sites h = refl
+  turn_is o h = refl
 
   valued_passes : (o : OptionWord) (h : Held) → wants_value o ≡ true → settles h ≡ true → by_rule (dashed o) h (Some (made o)) ≡ true
-  valued_passes Print h w e = absurd (cc)
   valued_passes Workers h w e = ap (λ (b : Bool). b && true) e
   valued_passes Graph h w e = ap (λ (b : Bool). b && true) e
-  valued_passes Live h w e = absurd (cc)
-  valued_passes Kept h w e = absurd (cc)
   valued_passes Sites h w e = ap (λ (b : Bool). b && true) e
+  valued_passes o h w e = absurd (cc)
 
   flag_passes : (o : OptionWord) (h : Held) → wants_value o ≡ false → settles h ≡ true → has_row (name_of o) (rows_at rules h) ≡ false → by_rule (dashed o) h (Some (made o)) ≡ true
   flag_passes Print h w e fresh = rw (e, fresh) refl
-  flag_passes Workers h w e fresh = absurd (cc)
-  flag_passes Graph h w e fresh = absurd (cc)
   flag_passes Live h w e fresh = rw (e, fresh) refl
   flag_passes Kept h w e fresh = rw (e, fresh) refl
-  flag_passes Sites h w e fresh = absurd (cc)
+  flag_passes o h w e fresh = absurd (cc)
 
   option_turn : (o : OptionWord) (h : Held) → Knows rules o → wants_value o ≡ true → settles h ≡ true → turn_passes shape [] (at h) (dashed o) ≡ true
   option_turn o h knows w e = turn_is o h ∙ ap (by_rule (dashed o) h) knows.long ∙ valued_passes o h w e
@@ -97,12 +89,10 @@ module _ (name : Text) (rules : List Rule) where
   by_pending o v h a = option_map_or (λ (r : Rule). use_passes false r (v ∷ []) (rows_at rules h)) a true
 
   value_settles : (o : OptionWord) (v : Text) (h : Held) → wants_value o ≡ true → has_row (name_of o) (rows_at rules h) ≡ false → by_pending o v h (Some (made o)) ≡ true
-  value_settles Print v h w e = absurd (cc)
   value_settles Workers v h w e = rw e refl
   value_settles Graph v h w e = rw e refl
-  value_settles Live v h w e = absurd (cc)
-  value_settles Kept v h w e = absurd (cc)
   value_settles Sites v h w e = rw e refl
+  value_settles o v h w e = absurd (cc)
 
   pub use_settles : (u : Use) (h : Held) → Knows rules (option_of u) → HasWantedValue u → has_row (name_of (option_of u)) (rows_at rules h) ≡ false
       → settles (held_after rules u h) ≡ true

@@ -1,5 +1,5 @@
 -- One use of an option, as clap walks over it, for every list of rules that knows the option.
-use Rattle.std.proofs.Common.{◌≡◌, ◌∙◌, ◌++◌, ℕ, List, [], ◌∷◌, ap, sym, refl, subst, Bool, true, false, codes, if◌then◌else◌, fold, map}
+use Rattle.std.proofs.Common.{◌≡◌, ◌∙◌, ◌++◌, List, [], ◌∷◌, ap, sym, refl, subst, Bool, true, false, codes, if◌then◌else◌, fold, map}
 use Rattle.std.specs.Prelude.{Option, Some, None, ◌==◌, ◌||◌}
 use Rattle.std.specs.Str.{bytes_eq}
 use Rattle.clap.specs.Words.{Row, Rule}
@@ -9,12 +9,12 @@ use Rattle.clap.specs.Walk.{Held, Step, Walk, after_flag, after_step, arg_by_id,
 use Rattle.clap.specs.Walk.{idle, option, plain_word, reacted, settled, short_or_plain, trailing, used, walk_from, walked, word_met}
 use Rattle.std.specs.List.{list_all}
 use Rattle.std.proofs.Common.{arith}
-use Rattle.std.proofs.lemmas.Grind.{common_steps}
+use Rattle.std.proofs.lemmas.Bool.{and_parts}
 use Rattle.clap.specs.Walk.{finished, more_values, option_word, used_by_id, with_default, with_values}
 use Rattle.clap.specs.declared.parser.matches.ValueSource.TheVariants.{CommandLine, DefaultValue}
 use Rattle.clap.specs.declared.builder.value_parser.Reading.TheVariants.{AsWritten}
 use Rattle.armus_words.proofs.Rows.{at_row_missing, fresh_row, or_true}
-use Rattle.armus_words.proofs.Meaning.{and_first, one_name}
+use Rattle.armus_words.proofs.Meaning.{no_hyphen, one_name}
 use Rattle.armus_words.specs.inside.Rules.{rule_for}
 use Rattle.armus_words.specs.Words.{Text, dashed, has_option, Use, HasWantedValue, valued, flag, option_of, use_words, is_value_byte, name_of, same_option, wants_value, IsValue}
 use Rattle.armus_words.specs.declared.table.OptionWord.{OptionWord}
@@ -33,12 +33,9 @@ abbrev pub starts_plain : Text → Type 0
 starts_plain [] = ⊥
 starts_plain (x ∷ xs) = (x == 45) ≡ false
 
-no_hyphen : (x : ℕ) → is_value_byte x ≡ true → (x == 45) ≡ false
-no_hyphen x e = grind (arith, common_steps)
-
 pub starts_as_value : (v : Text) → IsValue v → starts_plain v
 starts_as_value [] is = absurd (omega (arith, is.some))
-starts_as_value (x ∷ xs) is = no_hyphen x (and_first (is_value_byte x) (list_all is_value_byte xs) is.plain)
+starts_as_value (x ∷ xs) is = no_hyphen x (and_parts (is_value_byte x) (list_all is_value_byte xs) is.plain).0
 
 abbrev pub at : Held → Walk
 at h = walk_from h
@@ -59,27 +56,19 @@ module _ (rules : List Rule) where
   word_is : (o : OptionWord) (h : Held) → walked rules [] (at h) (dashed o) ≡ by_long (dashed o) h (arg_by_long rules (name_of o))
   unfolding walked
   word_is Print h = refl
-  word_is Workers h = refl
-  word_is Graph h = refl
-  word_is Live h = refl
-  word_is Kept h = refl
-  word_is Sites h = refl
+  word_is o h = refl
 
   made_waits : (o : OptionWord) (h : Held) → wants_value o ≡ true → by_long (dashed o) h (Some (made o)) ≡ waits o h
-  made_waits Print h e = absurd (cc)
   made_waits Workers h e = refl
   made_waits Graph h e = refl
-  made_waits Live h e = absurd (cc)
-  made_waits Kept h e = absurd (cc)
   made_waits Sites h e = refl
+  made_waits o h e = absurd (cc)
 
   made_flag : (o : OptionWord) (h : Held) → wants_value o ≡ false → by_long (dashed o) h (Some (made o)) ≡ at (reacted rules (made o) [] h)
   made_flag Print h e = refl
-  made_flag Workers h e = absurd (cc)
-  made_flag Graph h e = absurd (cc)
   made_flag Live h e = refl
   made_flag Kept h e = refl
-  made_flag Sites h e = absurd (cc)
+  made_flag o h e = absurd (cc)
 
   -- the word of an option that wants_value a value, and of one that wants_value none
   pub option_walked : (o : OptionWord) (h : Held) → Knows rules o → wants_value o ≡ true → walked rules [] (at h) (dashed o) ≡ waits o h
@@ -114,12 +103,10 @@ module _ (rules : List Rule) where
       ∙ ap (λ (o : Option Text). short_or_plain rules (option id) v o h) (no_short v plain)
 
   made_value : (o : OptionWord) (v : Text) (h : Held) → wants_value o ≡ true → by_id o v (with_pending o [] h) (Some (made o)) ≡ at (with_pending o (v ∷ []) h)
-  made_value Print v h e = absurd (cc)
   made_value Workers v h e = refl
   made_value Graph v h e = refl
-  made_value Live v h e = absurd (cc)
-  made_value Kept v h e = absurd (cc)
   made_value Sites v h e = refl
+  made_value o v h e = absurd (cc)
 
   pub value_walked : (o : OptionWord) (v : Text) (h : Held) → Knows rules o → wants_value o ≡ true → starts_plain v → walked rules [] (waits o h) v ≡ at (with_pending o (v ∷ []) h)
   unfolding walked
@@ -152,20 +139,16 @@ module _ (rules : List Rule) where
 
   row_valued : (o : OptionWord) (v : Text) (rows : List Row) → wants_value o ≡ true → has_row (name_of o) rows ≡ false
       → used (made o) (v ∷ []) rows ≡ rows ++ use_row (valued o v) ∷ []
-  row_valued Print v rows w e = absurd (cc)
   row_valued Workers v rows w e = fresh_row (codes "workers") AsWritten CommandLine (v ∷ []) rows e
   row_valued Graph v rows w e = fresh_row (codes "graph") AsWritten CommandLine (v ∷ []) rows e
-  row_valued Live v rows w e = absurd (cc)
-  row_valued Kept v rows w e = absurd (cc)
   row_valued Sites v rows w e = fresh_row (codes "sites") AsWritten CommandLine (v ∷ []) rows e
+  row_valued o v rows w e = absurd (cc)
 
   row_flag : (o : OptionWord) (rows : List Row) → wants_value o ≡ false → has_row (name_of o) rows ≡ false → used (made o) [] rows ≡ rows ++ use_row (flag o) ∷ []
   row_flag Print rows w e = fresh_row (codes "print") AsWritten CommandLine (codes "true" ∷ []) rows e
-  row_flag Workers rows w e = absurd (cc)
-  row_flag Graph rows w e = absurd (cc)
   row_flag Live rows w e = fresh_row (codes "live") AsWritten CommandLine (codes "true" ∷ []) rows e
   row_flag Kept rows w e = fresh_row (codes "kept") AsWritten CommandLine (codes "true" ∷ []) rows e
-  row_flag Sites rows w e = absurd (cc)
+  row_flag o rows w e = absurd (cc)
 
   pub use_settled : (u : Use) (h : Held) → Knows rules (option_of u) → HasWantedValue u → has_row (name_of (option_of u)) (rows_at h) ≡ false
       → rows_at (held_after u h) ≡ rows_at h ++ use_row u ∷ []
@@ -183,11 +166,7 @@ rules_for os = filled_from 1 (map rule_for os ++ help_rule ∷ [])
 rules_made : (os : List OptionWord) → rules_for os ≡ map made os ++ made_help ∷ []
 rules_made [] = refl
 rules_made (Print ∷ os) = ap (λ t. made Print ∷ t) (rules_made os)
-rules_made (Workers ∷ os) = ap (λ t. made Workers ∷ t) (rules_made os)
-rules_made (Graph ∷ os) = ap (λ t. made Graph ∷ t) (rules_made os)
-rules_made (Live ∷ os) = ap (λ t. made Live ∷ t) (rules_made os)
-rules_made (Kept ∷ os) = ap (λ t. made Kept ∷ t) (rules_made os)
-rules_made (Sites ∷ os) = ap (λ t. made Sites ∷ t) (rules_made os)
+rules_made (o ∷ os) = ap (λ t. made o ∷ t) (rules_made os)
 
 or_nothing : (b : Bool) → (b || false) ≡ b
 or_nothing true = refl
@@ -197,20 +176,12 @@ or_nothing false = refl
 long_found : (p o : OptionWord) (rules : List Rule)
     → arg_by_long (made p ∷ rules) (name_of o) ≡ (if bytes_eq (name_of p) (name_of o) then Some (made p) else arg_by_long rules (name_of o))
 long_found Print o rules = ap (λ (b : Bool). if b then Some (made Print) else arg_by_long rules (name_of o)) (or_nothing (bytes_eq (name_of Print) (name_of o)))
-long_found Workers o rules = ap (λ (b : Bool). if b then Some (made Workers) else arg_by_long rules (name_of o)) (or_nothing (bytes_eq (name_of Workers) (name_of o)))
-long_found Graph o rules = ap (λ (b : Bool). if b then Some (made Graph) else arg_by_long rules (name_of o)) (or_nothing (bytes_eq (name_of Graph) (name_of o)))
-long_found Live o rules = ap (λ (b : Bool). if b then Some (made Live) else arg_by_long rules (name_of o)) (or_nothing (bytes_eq (name_of Live) (name_of o)))
-long_found Kept o rules = ap (λ (b : Bool). if b then Some (made Kept) else arg_by_long rules (name_of o)) (or_nothing (bytes_eq (name_of Kept) (name_of o)))
-long_found Sites o rules = ap (λ (b : Bool). if b then Some (made Sites) else arg_by_long rules (name_of o)) (or_nothing (bytes_eq (name_of Sites) (name_of o)))
+long_found p o rules = ap (λ (b : Bool). if b then Some (made p) else arg_by_long rules (name_of o)) (or_nothing (bytes_eq (name_of p) (name_of o)))
 
 id_found : (p o : OptionWord) (rules : List Rule)
     → arg_by_id (made p ∷ rules) (name_of o) ≡ (if bytes_eq (name_of p) (name_of o) then Some (made p) else arg_by_id rules (name_of o))
 id_found Print o rules = refl
-id_found Workers o rules = refl
-id_found Graph o rules = refl
-id_found Live o rules = refl
-id_found Kept o rules = refl
-id_found Sites o rules = refl
+id_found p o rules = refl
 
 knows_here : (o p : OptionWord) (rules : List Rule) (b : Bool) → bytes_eq (name_of p) (name_of o) ≡ b → (b ≡ false → Knows rules o) → Knows (made p ∷ rules) o
 knows_here o p rules true same more =
@@ -251,12 +222,10 @@ same_both true x = refl
 same_both false x = refl
 
 one_ended : (o : OptionWord) (rows : List Row) → with_default rows (made o) ≡ with_unused o rows
-one_ended Print rows = missing_added Print rows (has_row (codes "print") rows) refl
 one_ended Workers rows = same_both (has_row (codes "workers") rows) rows
 one_ended Graph rows = same_both (has_row (codes "graph") rows) rows
-one_ended Live rows = missing_added Live rows (has_row (codes "live") rows) refl
-one_ended Kept rows = missing_added Kept rows (has_row (codes "kept") rows) refl
 one_ended Sites rows = same_both (has_row (codes "sites") rows) rows
+one_ended o rows = missing_added o rows (has_row (name_of o) rows) refl
 
 all_ended : (os : List OptionWord) (rows : List Row) → fold with_default rows (map made os ++ made_help ∷ []) ≡ ended os rows
 all_ended [] rows = same_both (has_row (codes "help") rows) rows

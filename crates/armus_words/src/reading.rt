@@ -73,48 +73,32 @@ fn command_of(first: FirstWord, values: &Values<'_>) -> Option<Command>
         FirstWord::Check => Some(Command::Check {
             print: values.print,
         }),
-        FirstWord::Run => {
-            let workers = workers_in(values.workers)?;
-            let graph = wanted_in(values.graph)?;
-            let kind = kind_in(values.live, values.sites)?;
-            Some(Command::Run {
-                workers,
-                graph,
-                kind,
-            })
-        }
-        FirstWord::Avoid => {
-            let workers = workers_in(values.workers)?;
-            let graph = wanted_in(values.graph)?;
-            Some(Command::Avoid {
-                workers,
-                graph,
-                kept: values.kept,
-            })
-        }
-        FirstWord::Record => {
-            let workers = workers_in(values.workers)?;
-            Some(Command::Record { workers })
-        }
+        FirstWord::Run => Some(Command::Run {
+            workers: workers_in(values.workers)?,
+            graph: wanted_in(values.graph)?,
+            kind: kind_in(values.live, values.sites)?,
+        }),
+        FirstWord::Avoid => Some(Command::Avoid {
+            workers: workers_in(values.workers)?,
+            graph: wanted_in(values.graph)?,
+            kept: values.kept,
+        }),
+        FirstWord::Record => Some(Command::Record {
+            workers: workers_in(values.workers)?,
+        }),
         FirstWord::Replay => Some(Command::Replay),
-        FirstWord::Gen => {
-            let count = generated_in(values.alone)?;
-            Some(Command::Gen { count })
-        }
-        FirstWord::Clock => {
-            let workers = workers_in(values.workers)?;
-            let graph = wanted_in(values.graph)?;
-            Some(Command::Clock {
-                workers,
-                graph,
-                live: values.live,
-            })
-        }
-        FirstWord::Pool => {
-            let workers = workers_in(values.workers)?;
-            let graph = wanted_in(values.graph)?;
-            Some(Command::Pool { workers, graph })
-        }
+        FirstWord::Gen => Some(Command::Gen {
+            count: generated_in(values.alone)?,
+        }),
+        FirstWord::Clock => Some(Command::Clock {
+            workers: workers_in(values.workers)?,
+            graph: wanted_in(values.graph)?,
+            live: values.live,
+        }),
+        FirstWord::Pool => Some(Command::Pool {
+            workers: workers_in(values.workers)?,
+            graph: wanted_in(values.graph)?,
+        }),
     }
 }
 
