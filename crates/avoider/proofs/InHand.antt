@@ -42,9 +42,9 @@ use Rattle.phase_scan.specs.calls.Looks.{LoadsAlone}
 use Rattle.phase_scan.specs.calls.Collected.{HasFinds, IsCollected}
 use Rattle.phase_scan.specs.calls.Supposed.{IsSupposed, phase_used}
 use Rattle.phase_scan.specs.calls.Tables.{state_supposed}
-use Rattle.phase_scan.proofs.Columns.{ColumnLoad, column_goes, column_of}
+use Rattle.phase_scan.proofs.Columns.{column_goes, column_of}
 use Rattle.phase_scan.proofs.Farther.{far_before}
-use Rattle.phase_scan.proofs.Loads.{phase_load, prefix_both}
+use Rattle.phase_scan.proofs.Loads.{PhaseLoad, phase_load, prefix_both}
 use Rattle.phase_scan.proofs.Standing.{phases_begun_at, published_begun}
 use Rattle.phase_scan.proofs.Supposes.{own_phase_stays}
 use Rattle.phase_scan.proofs.Telling.{found_there}
@@ -239,7 +239,7 @@ module _ (list supposed : List Status) (aim : Aim) (event : Event) (before mid s
     ]
   ]
 
-  column : (u : ℕ) → Waits u → ColumnLoad sup.found.published p plan sup.column u mid store
+  column : (u : ℕ) → Waits u → PhaseLoad u p (sup.column u) mid store
   unfolding Waits
   column u w = column_of sup.found.published p plan sup.column tasks mid store goes.same.plan (omega arith) goes.kept sup.loads u w.0 w.1
 
@@ -250,11 +250,11 @@ module _ (list supposed : List Status) (aim : Aim) (event : Event) (before mid s
   place_down : ℕ → Place
   place_down u = place_by u (waits_or_not u)
 
-  down_at : (u : ℕ) → Waits u → (y : ColumnLoad sup.found.published p plan sup.column u mid store) × place_down u ≡ (seen y.to.view).places u
+  down_at : (u : ℕ) → Waits u → (y : PhaseLoad u p (sup.column u) mid store) × place_down u ≡ (seen y.to.view).places u
   unfolding place_down place_by
   down_at u w = by_cases (waits_or_not u)
     where
-      by_cases : (d : Waits u ⊎ (Waits u → ⊥)) → (y : ColumnLoad sup.found.published p plan sup.column u mid store) × place_by u d ≡ (seen y.to.view).places u
+      by_cases : (d : Waits u ⊎ (Waits u → ⊥)) → (y : PhaseLoad u p (sup.column u) mid store) × place_by u d ≡ (seen y.to.view).places u
       by_cases (inl v) = (column u v, refl)
       by_cases (inr none) = absurd (none w)
 
@@ -268,7 +268,7 @@ module _ (list supposed : List Status) (aim : Aim) (event : Event) (before mid s
   at_mid u e is = collected.places.before u e tt is
 
   -- the place of the load in the column lies between
-  between : (u : ℕ) (e : Event) → IsListedOn list u e → (y : ColumnLoad sup.found.published p plan sup.column u mid store) →
+  between : (u : ℕ) (e : Event) → IsListedOn list u e → (y : PhaseLoad u p (sup.column u) mid store) →
       IsPrefix (at u) ((seen y.from.view).places u) × IsPrefix (at u) ((seen y.to.view).places u)
   between u e is y =
       let load = phase_load y.from y.to u p (sup.column u) y.small y.load in
@@ -282,18 +282,18 @@ module _ (list supposed : List Status) (aim : Aim) (event : Event) (before mid s
       let more = later_done (at u).done b.done (at u).dropped b.dropped later in
       omega arith
 
-  plan_at : (u : ℕ) (y : ColumnLoad sup.found.published p plan sup.column u mid store) → y.from.view.plan ≡ plan
+  plan_at : (u : ℕ) (y : PhaseLoad u p (sup.column u) mid store) → y.from.view.plan ≡ plan
   plan_at u y = y.goes_from.same.plan ∙ goes.same.plan
 
   -- a phase that the column has is the task's at the place seen then
-  column_found : (u n : ℕ) (e : Event) → IsListedOn list u e → (y : ColumnLoad sup.found.published p plan sup.column u mid store) → sup.column u ≡ Some n →
+  column_found : (u n : ℕ) (e : Event) → IsListedOn list u e → (y : PhaseLoad u p (sup.column u) mid store) → sup.column u ≡ Some n →
       phases_at_place plan u ((seen y.to.view).places u) p ≡ Some n
   column_found u n e is y has =
       let b = (seen y.to.view).places u in
       subst (λ (q : Plan). phases_at_place q u b p ≡ sup.column u) (plan_at u y) (y.load.load.there n has (not_first b (begun u e b is (between u e is y).1))) ∙ has
 
   -- where the task still stands where it was found waiting, what the column has is so there
-  column_exact : (u : ℕ) (e : Event) → IsListedOn list u e → (y : ColumnLoad sup.found.published p plan sup.column u mid store) → (seen y.to.view).places u ≡ at u →
+  column_exact : (u : ℕ) (e : Event) → IsListedOn list u e → (y : PhaseLoad u p (sup.column u) mid store) → (seen y.to.view).places u ≡ at u →
       phases_at_place plan u (at u) p ≡ sup.column u
   column_exact u e is y here =
       let b = (seen y.to.view).places u in

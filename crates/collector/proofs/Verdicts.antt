@@ -19,7 +19,6 @@ use Rattle.armus_base.specs.calls.Decisions.{HasFound}
 use Rattle.armus_base.specs.calls.Seats.{IsAsFarOn, IsKnownDead}
 use Rattle.armus_base.proofs.BoardRuns.{lawful_is_reachable, nobody_is_known_dead}
 use Rattle.armus_base.proofs.LeastLawful.{least_lawful_exists}
-use Rattle.armus_base.proofs.Places.{precedes_trans}
 use Rattle.armus_base.specs.calls.FinalLaws.{IsOfPlan}
 use Rattle.armus_base.proofs.DeadByStatuses.{dead_by_final, run_is_of_plan}
 use Rattle.armus_base.proofs.Reachable.{collected_is_dead_at_reachable, reachable_is_fixed}
@@ -27,6 +26,7 @@ use Rattle.board.specs.declared.mode.Mode.{Mode}
 use Rattle.board.specs.calls.Views.{avoids, seen}
 use Rattle.board.specs.calls.Seats.{Frame, IsOf, Known}
 use Rattle.phase_scan.specs.calls.Looks.{LoadsAlone}
+use Rattle.phase_scan.proofs.Loads.{prefix_both}
 use Rattle.phase_scan.specs.calls.Collected.{IsCollected, IsListedAsIn}
 use Rattle.phase_scan.specs.calls.Collecting.{HasCollected}
 use Rattle.phase_scan.specs.calls.Settled.{KnowsAll, TellsState, seen_state}
@@ -132,8 +132,7 @@ module _ (before now : Known) (list : List Status) (checked : IsCheckedPlan befo
     where
       later : (u : ℕ) (b : Place) (e : Event) → IsListedOn list u e → IsPrefix b ((seen now.view).places u) → IsPrefix b (a u)
       later u b e is near =
-          let s : Place = (seen now.view).places u in
-          precedes_trans b.done s.done (a u).done b.dropped s.dropped (a u).dropped near (far.later u (listed u e is))
+          prefix_both b ((seen now.view).places u) (a u) near (far.later u (listed u e is))
 
       found : HasFound plan (λ u. dead.tasks u ≡ true) list c.at c.found a
       found =

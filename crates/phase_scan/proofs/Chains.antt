@@ -8,7 +8,7 @@ use Rattle.board.specs.calls.Views.{seen}
 use Rattle.board.specs.calls.Seats.{AnswersPhase, IsSeat, Known}
 use Rattle.phase_scan.specs.calls.Looks.{LoadsAlone}
 use Rattle.phase_scan.specs.calls.Collects.{IfAsked, LoadsRow, LoadsRows}
-use Rattle.phase_scan.proofs.Loads.{IsLoadOf, goes_both, goes_itself, phase_load}
+use Rattle.phase_scan.proofs.Loads.{IsLoadOf, PhaseLoad, goes_both, goes_itself, last_load, load_before, phase_load}
 
 -- loads of words of these tasks alone
 pub record GoesAt (Only : ℕ → Type 0) (k m : Known) : Type 0 where
@@ -53,15 +53,8 @@ module _ (plan : Plan) where
         (λ is load. at_load (λ u. u ≡ t) t between m refl (phase_load between m t p (phases p) (small_of between t (still k between of goes.goes) is_task) load)))
 
     -- the load of one of them
-    pub record PhaseLoad (p : ℕ) (k m : Known) : Type 0 where
-      pub from : Known
-      pub to : Known
-      pub goes_from : LoadsAlone k from
-      pub load : AnswersPhase t p (phases p) from to
-      pub small : t < length from.view.plan.parents
-      pub goes_to : LoadsAlone to m
-
-    pub phase_of : (q : ℕ) (k m : Known) → k.view.plan ≡ plan → IsSeat k → LoadsRow asked t phases q k m → (p : ℕ) → p < q → asked p ≡ true → PhaseLoad p k m
+    pub phase_of :
+        (q : ℕ) (k m : Known) → k.view.plan ≡ plan → IsSeat k → LoadsRow asked t phases q k m → (p : ℕ) → p < q → asked p ≡ true → PhaseLoad t p (phases p) k m
     phase_of zero k m of seat loads p l is = absurd (omega arith)
     phase_of (suc q) k m of seat (between, before, made) p l is =
         let goes = row_goes q k between of seat before in
@@ -69,24 +62,11 @@ module _ (plan : Plan) where
         let last = if_asked (λ u. u ≡ t) (asked q) (AnswersPhase t q (phases q)) between m goes.goes.kept made
         (λ on load. at_load (λ u. u ≡ t) t between m refl (phase_load between m t q (phases q) within load)) in
         elim (cases_eq p q) [
-          | inl e ↦ record {
-            from = between;
-            to = m;
-            goes_from = goes.goes;
-            load = subst (λ x. AnswersPhase t x (phases x) between m) (sym e)
-                (subst (λ b. IfAsked b (AnswersPhase t q (phases q)) between m) (ap asked (sym e) ∙ is) made);
-            small = within;
-            goes_to = goes_itself m last.goes.kept;
-          }
-          | inr ne ↦
-              let one = phase_of q k between of seat before p (omega arith) is in record {
-                from = one.from;
-                to = one.to;
-                goes_from = one.goes_from;
-                load = one.load;
-                small = one.small;
-                goes_to = goes_both one.to between m one.goes_to last.goes;
-              }
+          | inl e ↦
+              last_load t p (phases p) k between m goes.goes within
+              (subst (λ x. AnswersPhase t x (phases x) between m) (sym e)
+              (subst (λ b. IfAsked b (AnswersPhase t q (phases q)) between m) (ap asked (sym e) ∙ is) made))
+          | inr ne ↦ load_before t p (phases p) k between m (phase_of q k between of seat before p (omega arith) is) last.goes
         ]
 
   -- the rows of the tasks found waiting

@@ -18,7 +18,7 @@ use Rattle.phase_scan.specs.declared.findings.Findings.{Findings}
 use Rattle.phase_scan.specs.calls.Tables.{awaited_in_findings, event_for, state_of_findings}
 use Rattle.phase_scan.specs.inside.Phases.{phase_in}
 use Rattle.phase_scan.specs.inside.Supposing.{KeepsColumn}
-use Rattle.phase_scan.proofs.Loads.{goes_both, goes_itself, phase_load}
+use Rattle.phase_scan.proofs.Loads.{PhaseLoad, goes_both, goes_itself, last_load, load_before, phase_load}
 
 -- a column that was written as a whole is what a read of it finds
 pub read_back : (n : ℕ) (xs ys : List (Option ℕ)) → n ≡ length xs → take n (xs ++ ys) ≡ xs
@@ -70,41 +70,20 @@ module _ (events : ℕ → Option Event) (p : ℕ) where
         record { goes = goes_both k between m x.goes y.goes; finds = λ u. y.finds u ∙ x.finds u }
 
     -- the load of one of them
-    pub record ColumnLoad (t : ℕ) (k m : Known) : Type 0 where
-      pub from : Known
-      pub to : Known
-      pub goes_from : LoadsAlone k from
-      pub load : AnswersPhase t p (column t) from to
-      pub small : t < length from.view.plan.parents
-      pub goes_to : LoadsAlone to m
-
     pub column_of :
         (n : ℕ) (k m : Known) → k.view.plan ≡ plan → n ≤ length plan.parents → IsSeat k → LoadsColumn events p column n k m → (t : ℕ) → t < n →
-        is_some (events t) ≡ true → ColumnLoad t k m
+        is_some (events t) ≡ true → PhaseLoad t p (column t) k m
     column_of zero k m of few seat loads t l is = absurd (omega arith)
     column_of (suc n) k m of few seat (between, before, made) t l is =
         let goes = (column_goes n k between of (omega arith) seat before).goes in
         let within = small_of k between n of goes (omega arith) in
         let last = (down_if (is_some (events n)) n (column n) between m goes.kept within made).goes in
         elim (cases_eq t n) [
-          | inl e ↦ record {
-            from = between;
-            to = m;
-            goes_from = goes;
-            load = subst (λ x. AnswersPhase x p (column x) between m) (sym e)
-                (subst (λ b. IfAsked b (AnswersPhase n p (column n)) between m) (ap (λ x. is_some (events x)) (sym e) ∙ is) made);
-            small = subst (λ x. x < length between.view.plan.parents) (sym e) within;
-            goes_to = goes_itself m last.kept;
-          }
-          | inr ne ↦
-              let one = column_of n k between of (omega arith) seat before t (omega arith) is in record {
-                from = one.from;
-                to = one.to;
-                goes_from = one.goes_from;
-                load = one.load;
-                small = one.small;
-                goes_to = goes_both one.to between m one.goes_to last;
-              }
+          | inl e ↦
+              last_load t p (column t) k between m goes (subst (λ x. x < length between.view.plan.parents) (sym e) within)
+              (subst (λ x. AnswersPhase x p (column x) between m) (sym e)
+              (subst (λ b. IfAsked b (AnswersPhase n p (column n)) between m) (ap (λ x. is_some (events x)) (sym e) ∙ is) made))
+          | inr ne ↦ load_before t p (column t) k between m (column_of n k between of (omega arith) seat before t (omega arith) is) last
         ]
 
 module _ (f : Findings) (p : ℕ) where

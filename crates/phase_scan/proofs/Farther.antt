@@ -7,12 +7,12 @@ use Rattle.armus_base.specs.Runs.{Place}
 use Rattle.armus_base.specs.Places.{published_after, state_at}
 use Rattle.armus_base.specs.calls.Boards.{IsLawful}
 use Rattle.armus_base.specs.calls.Seats.{IsAsFarOn, IsScanned, SeenBy}
-use Rattle.armus_base.proofs.Places.{precedes_trans}
 use Rattle.board.specs.declared.mode.Mode.{Mode}
 use Rattle.board.specs.calls.Views.{avoids, seen}
 use Rattle.board.specs.calls.Steps.{WasSo}
 use Rattle.board.specs.calls.Seats.{IsSeat, Known}
 use Rattle.phase_scan.specs.calls.Looks.{LoadsAlone}
+use Rattle.phase_scan.proofs.Loads.{prefix_both}
 
 -- what is as far on as what the seat of a task has seen is as far on as what a viewer has that has seen the same
 pub far_of_viewer : (plan : Plan) (own : Option ℕ) (a : ℕ → Place) (s : SeenBy) → IsAsFarOn plan own a s → IsAsFarOn plan None a s
@@ -29,10 +29,7 @@ far_before k m a seat goes far =
     let g = subst (λ (o : Option ℕ). IsAsFarOn k.view.plan o a (seen m.view)) goes.same.own
     (subst (λ (q : Plan). IsAsFarOn q m.view.own a (seen m.view)) goes.same.plan far) in
     record {
-      later = λ u l.
-          let x : Place = (seen k.view).places u in
-          let y : Place = (seen m.view).places u in
-          precedes_trans x.done y.done (a u).done x.dropped y.dropped (a u).dropped (goes.seen_now.later u) (g.later u l);
+      later = λ u l. prefix_both ((seen k.view).places u) ((seen m.view).places u) (a u) (goes.seen_now.later u) (g.later u l);
       equal = λ u l is. g.equal u l (goes.seen_now.exact u ∙ is) ∙ goes.seen_now.here u is;
       scanned = λ u own.
           scanned_less (state_at k.view.plan a) (seen k.view).scanned (seen m.view).scanned (published_after k.view.plan u ((seen k.view).places u).done)

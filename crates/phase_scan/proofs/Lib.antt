@@ -3,6 +3,7 @@ pub mod Chains
 pub mod ChosenLoads
 pub mod Standing
 pub mod Farther
+pub mod Possible
 pub mod FoundPlaces
 pub mod Telling
 pub mod Settling

@@ -234,11 +234,7 @@ goes_both a k m goes more =
         count = s.count ∙ goes.same.count;
       };
       seen_now = record {
-        later = λ u.
-            let x : Place = (seen a.view).places u in
-            let y : Place = (seen k.view).places u in
-            let z : Place = (seen m.view).places u in
-            precedes_trans x.done y.done z.done x.dropped y.dropped z.dropped (first.later u) (second.later u);
+        later = λ u. prefix_both ((seen a.view).places u) ((seen k.view).places u) ((seen m.view).places u) (first.later u) (second.later u);
         exact = λ u. second.exact u ∙ first.exact u;
         here = λ u is. second.here u (first.exact u ∙ is) ∙ first.here u is;
         scanned = (let x = first.scanned in let y = second.scanned in omega arith);
@@ -251,6 +247,25 @@ goes_both a k m goes more =
 pub goes_next :
     (a k m : Known) (t p : ℕ) (answer : Option ℕ) → LoadsAlone a k → t < length k.view.plan.parents → AnswersPhase t p answer k m → LoadsAlone a m
 goes_next a k m t p answer goes small load = goes_both a k m goes (phase_load k m t p answer small load).goes
+
+-- the load of the phase word of task t on phaser p, between others
+pub record PhaseLoad (t p : ℕ) (answer : Option ℕ) (k m : Known) : Type 0 where
+  pub from : Known
+  pub to : Known
+  pub goes_from : LoadsAlone k from
+  pub load : AnswersPhase t p answer from to
+  pub small : t < length from.view.plan.parents
+  pub goes_to : LoadsAlone to m
+
+module _ (t p : ℕ) (answer : Option ℕ) (k j m : Known) where
+  -- it is the last one
+  pub last_load : LoadsAlone k j → t < length j.view.plan.parents → AnswersPhase t p answer j m → PhaseLoad t p answer k m
+  last_load goes small load = record { from = j; to = m; goes_from = goes; load = load; small = small; goes_to = goes_itself m load.kept }
+
+  -- others come behind
+  pub load_before : PhaseLoad t p answer k j → LoadsAlone j m → PhaseLoad t p answer k m
+  load_before one more =
+      record { from = one.from; to = one.to; goes_from = one.goes_from; load = one.load; small = one.small; goes_to = goes_both one.to j m one.goes_to more }
 
 -- a load of the awaited phaser's word of the task that is scanned next
 pub scans_on :

@@ -5,7 +5,7 @@ use Rattle.std.proofs.lemmas.Bool.{false≢true}
 use Rattle.armus_base.specs.calls.Boards.{IsLawful, steps_of}
 use Rattle.armus_base.specs.CheckedPlans.{IsCheckedPlan}
 use Rattle.armus_base.specs.Plans.{Plan}
-use Rattle.armus_base.specs.calls.Runs.{ArePrefixes, Precedes}
+use Rattle.armus_base.specs.calls.Runs.{ArePrefixes, IsPrefix, Precedes}
 use Rattle.armus_base.specs.Runs.{IsMaximal, IsPlainRun, Place, places}
 use Rattle.armus_base.specs.calls.Seats.{IsAsFarOn}
 use Rattle.armus_base.specs.States.{Step}
@@ -13,12 +13,12 @@ use Rattle.armus_base.proofs.BoardRuns.{plain_is_lawful}
 use Rattle.armus_base.proofs.MaximalExists.{maximal_exists}
 use Rattle.armus_base.proofs.Members.{plain_undropped}
 use Rattle.armus_base.proofs.OneEnd.{below_maximal}
-use Rattle.armus_base.proofs.Places.{precedes_trans}
 use Rattle.board.specs.declared.mode.Mode.{Mode}
 use Rattle.board.specs.declared.mode.Mode.TheVariants.{Detect}
 use Rattle.board.specs.calls.Seats.{Known}
 use Rattle.board.specs.calls.Views.{avoids, seen}
 use Rattle.phase_scan.proofs.Farther.{far_of_viewer}
+use Rattle.phase_scan.proofs.Loads.{prefix_both}
 use Rattle.sites.specs.calls.PassLaws.{AreOfOneMoment, HaveSeenLawful, HasOnlyLooked}
 
 -- the state that the rule names is such a one
@@ -53,11 +53,8 @@ module _ (plan : Plan) (views : List Known) (checked : IsCheckedPlan plan) (each
       let near : IsAsFarOn plan None one.lawful.places (seen k.view) = subst (λ (q : Plan). IsAsFarOn q None one.lawful.places (seen k.view)) one.of_plan one.lawful.far in
       record {
         later = λ u small.
-            let x : Place = (seen k.view).places u in
-            let y : Place = one.lawful.places u in
-            let z : Place = places g u in
-            precedes_trans x.done y.done z.done x.dropped y.dropped z.dropped (near.later u small)
-            (subst (λ (v : Place). Precedes v.done v.dropped z.done z.dropped) (l.there u) (below (steps_of l.entries) l.run.0 u));
+            prefix_both ((seen k.view).places u) (one.lawful.places u) (places g u) (near.later u small)
+            (subst (λ (v : Place). IsPrefix v (places g u)) (l.there u) (below (steps_of l.entries) l.run.0 u));
         equal = λ u small is. absurd (false≢true (sym (one.none_exact u) ∙ is));
         scanned = λ u is. absurd (none_some u is);
       }

@@ -10,14 +10,12 @@ use Rattle.armus_base.specs.declared.status.Status.{Status}
 use Rattle.armus_base.specs.Finals.{given_below, listed_phase, status_of}
 use Rattle.armus_base.specs.Plans.{Plan}
 use Rattle.armus_base.specs.States.{Phases, State, opening, updated, with_phase}
-use Rattle.armus_base.specs.calls.Boards.{IsLawful}
-use Rattle.armus_base.specs.calls.Seats.{Found, IsAsFarOn}
+use Rattle.armus_base.specs.calls.Seats.{Found}
 use Rattle.armus_base.proofs.Steps.{updated_other, updated_same, with_phase_other, with_phase_same}
 use Rattle.armus_base.proofs.Below.{given_below_same}
-use Rattle.board.specs.declared.mode.Mode.{Mode}
 use Rattle.board.specs.calls.Seats.{AnswersAwait, AnswersPhase, Frame, IsOf, Known}
 use Rattle.board.specs.calls.Steps.{IsSameSeat, WasSo}
-use Rattle.board.specs.calls.Views.{avoids, seen}
+use Rattle.board.specs.calls.Views.{seen}
 use Rattle.board.specs.calls.Words.{found_in}
 use Rattle.phase_scan.specs.calls.Looks.{LoadsAlone}
 use Rattle.phase_scan.specs.calls.Collects.{FindsEvent, IfAsked, LoadsChosen, LoadsRow, LoadsRows}
@@ -25,6 +23,7 @@ use Rattle.phase_scan.specs.calls.Tables.{event_for}
 use Rattle.phase_scan.proofs.ChosenLoads.{chosen_same}
 use Rattle.phase_scan.proofs.Keeping.{row_more, rows_more, rows_skip}
 use Rattle.phase_scan.proofs.Loads.{await_load, goes_both, phase_load}
+use Rattle.phase_scan.proofs.Possible.{after_load}
 use Rattle.sites.specs.calls.Rows.{HasNumbers, HasPhaseNumbers}
 use Rattle.sites.specs.calls.Snaps.{HasLookedOn, HasSeenLawful}
 use Rattle.phase_scan.proofs.Farther.{far_of_viewer}
@@ -39,14 +38,8 @@ looked_both a k m (inr looked) (inr more) = inr (goes_both a k m looked.0 more.0
 -- what is seen right after a load was so in the lawful state in which it was made
 seen_lawful : (k m : Known) (Holds : State → Type 0) → IsSameSeat k.view m.view → WasSo k.view.plan k.view.mode Holds k.view m.view → HasSeenLawful m
 seen_lawful k m Holds same was =
-    record {
-      places = was.places;
-      lock = was.lock;
-      lawful = subst (λ (d : Mode). IsLawful (avoids d) m.view.plan was.places was.lock) (sym same.mode)
-          (subst (λ (q : Plan). IsLawful (avoids k.view.mode) q was.places was.lock) (sym same.plan) was.lawful);
-      far = far_of_viewer m.view.plan k.view.own was.places (seen m.view)
-          (subst (λ (q : Plan). IsAsFarOn q k.view.own was.places (seen m.view)) (sym same.plan) was.now_far);
-    }
+    let p = after_load Holds k m same was in
+    record { places = p.places; lock = p.lock; lawful = p.lawful; far = far_of_viewer m.view.plan m.view.own p.places (seen m.view) p.far }
 
 pub looked_await : (k m : Known) (f : Frame) (t : ℕ) (answer : Found) → IsOf k f → t < length f.plan.parents → AnswersAwait t answer k m → HasLookedOn k m
 looked_await k m f t answer of small load =

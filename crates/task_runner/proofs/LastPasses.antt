@@ -10,7 +10,6 @@ use Rattle.armus_base.specs.Runs.{Place, first_place}
 use Rattle.armus_base.specs.calls.Seats.{IsAsFarOn}
 use Rattle.armus_base.specs.States.{State}
 use Rattle.armus_base.specs.declared.status.Status.{Status}
-use Rattle.armus_base.proofs.Places.{precedes_trans}
 use Rattle.pl_core.specs.declared.place.Place.{Place as KeptPlace}
 use Rattle.pl_core.specs.calls.Worlds.{places_at}
 use Rattle.board.specs.declared.mode.Mode.TheVariants.{Detect}
@@ -18,6 +17,7 @@ use Rattle.board.specs.calls.Closing.{AreAllExact, AreLastOf}
 use Rattle.board.specs.calls.Seats.{Frame, IsOf, IsSeat, Known}
 use Rattle.board.specs.calls.Views.{seen}
 use Rattle.phase_scan.specs.calls.Looks.{LoadsAlone}
+use Rattle.phase_scan.proofs.Loads.{prefix_both}
 use Rattle.phase_scan.specs.calls.Settled.{KnowsAll, seen_state}
 use Rattle.board_rounds.specs.calls.Turns.{Working}
 use Rattle.board_rounds.specs.calls.TaskSeats.{ArePlacesOf, AreTaskSeats, IsSeatIn, KnowsTasks}
@@ -42,10 +42,7 @@ module _ (f : Frame) (detects : f.mode ≡ Detect) (tasks : List Working) (board
   far : IsAsFarOn f.plan None a (seen before.view)
   far =
       record {
-        later = λ u l.
-            let x : Place = (seen before.view).places u in
-            let y : Place = (seen now.view).places u in
-            precedes_trans x.done y.done (a u).done x.dropped y.dropped (a u).dropped (goes.seen_now.later u) (end.far.later u l);
+        later = λ u l. prefix_both ((seen before.view).places u) ((seen now.view).places u) (a u) (goes.seen_now.later u) (end.far.later u l);
         equal = λ u l is. end.far.equal u l (goes.seen_now.exact u ∙ is) ∙ goes.seen_now.here u is;
         scanned = λ u is. absurd (none_some u is);
       }

@@ -1,5 +1,4 @@
 pub mod DeadAtEnd
-pub mod Possible
 pub mod TellingMore
 pub mod Resting
 pub mod Crossing

@@ -39,7 +39,7 @@ use Rattle.collector.specs.calls.Passes.{IsPassVerdict, NamesToo, was_named}
 use Rattle.report.specs.Live.{live_line, live_text}
 use Rattle.task_runner.specs.calls.DetectRuns.{AreDeadAtTheEnd, HasFailed, HasWritten, SinkValue}
 use Rattle.task_runner.proofs.DeadAtEnd.{dead_at_lawful}
-use Rattle.task_runner.proofs.Possible.{Possible, collect_possible}
+use Rattle.phase_scan.proofs.Possible.{Possible, collect_possible}
 
 -- lists
 each_of : {X : Type 0} (P : X → Type 0) (xs : List X) → All P xs → (x : X) → Contains xs x → P x

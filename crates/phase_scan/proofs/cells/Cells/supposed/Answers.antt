@@ -5,24 +5,26 @@ use Rattle.armus_base.specs.Finals.{given_below}
 use Rattle.armus_base.specs.calls.StatusLists.{status_among}
 use Rattle.board.specs.calls.Steps.{own_phase}
 use Rattle.phase_scan.specs.calls.Collects.{Collection}
+use Rattle.phase_scan.specs.calls.Looks.{LoadsAlone}
 use Rattle.phase_scan.specs.calls.Supposed.{IsSupposed}
 use Rattle.phase_scan.specs.calls.Tables.{awaited_in_findings, state_of_findings, state_supposed}
 use Rattle.phase_scan.specs.inside.Phases.{phase_in}
 use Rattle.phase_scan.proofs.Columns.{read_back}
 use Rattle.phase_scan.proofs.Supposes.{supposed_goes, supposes}
 use Rattle.phase_scan.proofs.cells.Cells.supposed.Goals as goal
+use Rattle.phase_scan.proofs.cells.Cells.supposed.Goals.{After-supposed}
+
+loads_alone : (c : After-supposed) → LoadsAlone c.args.seat.now c.supposed.new.seat
+loads_alone c =
+    let tasks : c.self.inside.found.tasks ≡ length c.args.board.now.plan.parents = ap (λ (v : Collection). v.tasks) c.self.view_is ∙ c.requires.tasks in
+    supposed_goes c.args.board.now c.args.seat.now c.load_column.new.seat c.supposed.new.seat c.self.inside.found c.args.event c.load_column.new.column c.id-t.result.0
+    c.requires.made c.id-t.ensures.seat c.id-t.ensures.task tasks c.load_column.ensures.keeps c.supposed.ensures.seat
 
 pub returns-in_err-list-clause-goes_on : goal.returns-in_err-list-clause-goes_on
-returns-in_err-list-clause-goes_on c =
-    let tasks : c.self.inside.found.tasks ≡ length c.args.board.now.plan.parents = ap (λ (v : Collection). v.tasks) c.self.view_is ∙ c.requires.tasks in
-    supposed_goes c.args.board.now c.args.seat.now c.load_column.new.seat c.supposed.new.seat c.self.inside.found c.args.event c.load_column.new.column c.id-t.result.0
-    c.requires.made c.id-t.ensures.seat c.id-t.ensures.task tasks c.load_column.ensures.keeps c.supposed.ensures.seat
+returns-in_err-list-clause-goes_on c = loads_alone (goal.at.returns-in_err-list-clause-goes_on c).After-supposed
 
 pub returns-clause-goes_on : goal.returns-clause-goes_on
-returns-clause-goes_on c =
-    let tasks : c.self.inside.found.tasks ≡ length c.args.board.now.plan.parents = ap (λ (v : Collection). v.tasks) c.self.view_is ∙ c.requires.tasks in
-    supposed_goes c.args.board.now c.args.seat.now c.load_column.new.seat c.supposed.new.seat c.self.inside.found c.args.event c.load_column.new.column c.id-t.result.0
-    c.requires.made c.id-t.ensures.seat c.id-t.ensures.task tasks c.load_column.ensures.keeps c.supposed.ensures.seat
+returns-clause-goes_on c = loads_alone (goal.at.returns-clause-goes_on c).After-supposed
 
 pub returns-clause-supposed : goal.returns-clause-supposed
 returns-clause-supposed c =

@@ -1,16 +1,12 @@
-use Rattle.std.proofs.Common.{◌≡◌}
 use Rattle.board.specs.calls.Seats.{IsOf}
 use Rattle.phase_scan.specs.calls.Collects.{LoadsRows}
 use Rattle.phase_scan.specs.calls.Tables.{awaited_in_findings, state_of_findings}
+use Rattle.phase_scan.specs.inside.Filling.{HasSameEvents}
 use Rattle.phase_scan.proofs.findings.Findings.load_rows.Given as goal
 
 abbrev pub invariant-loop-number : goal.invariant-loop-number
 invariant-loop-number g l = record {
   made : IsOf (g.L.Loads.known l.by) l.board;
-  tasks : l.self.tasks ≡ l.initial.self.tasks;
-  phasers : l.self.phasers ≡ l.initial.self.phasers;
-  events : l.self.events.items ≡ l.initial.self.events.items;
-  awaited : l.self.awaited.items ≡ l.initial.self.awaited.items;
-  nexts : l.self.nexts.items ≡ l.initial.self.nexts.items;
+  same : HasSameEvents l.initial.self l.self;
   loads : LoadsRows l.initial.self.phasers (awaited_in_findings l.initial.self) (state_of_findings l.self) l.number (g.L.Loads.known l.initial.by) (g.L.Loads.known l.by);
 }
