@@ -6,7 +6,7 @@ use Rattle.armus_base.specs.declared.event.Event.{Event}
 use Rattle.armus_base.specs.declared.status.Status.{Status}
 use Rattle.armus_base.specs.Plans.{Blocks, Plan}
 use Rattle.armus_base.specs.calls.Runs.{IsPrefix}
-use Rattle.armus_base.specs.Runs.{Place, first_place}
+use Rattle.armus_base.specs.Runs.{Place}
 use Rattle.armus_base.specs.Places.{published_after, state_at}
 use Rattle.armus_base.specs.CheckedPlans.{IsCheckedPlan}
 use Rattle.armus_base.specs.calls.Boards.{IsLawful}
@@ -15,14 +15,13 @@ use Rattle.armus_base.specs.calls.Decisions.{HasFound}
 use Rattle.armus_base.specs.calls.Seats.{IsAsFarOn}
 use Rattle.armus_base.proofs.BoardRuns.{lawful_is_reachable}
 use Rattle.armus_base.proofs.Elements.{nothing_in_nil}
-use Rattle.armus_base.proofs.Places.{precedes_trans}
 use Rattle.armus_base.proofs.Published.{published_after_is}
 use Rattle.armus_base.proofs.Reachable.{collected_is_dead_at_reachable}
 use Rattle.armus_base.proofs.Tasks.{action_of_task}
 use Rattle.board.specs.declared.mode.Mode.{Mode}
 use Rattle.board.specs.calls.Seats.{Known}
 use Rattle.board.specs.calls.Views.{avoids, seen}
-use Rattle.phase_scan.proofs.Loads.{published_phaser}
+use Rattle.phase_scan.proofs.Loads.{prefix_both, published_phaser}
 use Rattle.phase_scan.proofs.Standing.{phases_begun_at, published_begun}
 use Rattle.sites.specs.calls.Checks.{AreAll, IsStored, part_of}
 use Rattle.sites.specs.calls.Keeping.{held}
@@ -31,24 +30,11 @@ use Rattle.sites.specs.calls.Rows.{IsRowOf, is_of_site}
 use Rattle.sites.specs.calls.Snaps.{IsBacked, IsListedWhole}
 use Rattle.sites.proofs.Gathered.{passed_from, passed_is}
 use Rattle.sites.proofs.OneList.{one_list_of}
+use Rattle.sites.proofs.Snapped.{nothing_backed}
 
 -- an element of a list has a place in it
 pub at_place : {A : Type 0} (xs : List A) (i : ℕ) (x : A) → slice_get xs i ≡ Some x → Contains xs x
 at_place xs i x is = (i, slice_get_within xs i x is, get_or_from_slice_get xs i x x is)
-
--- nothing is backed by anything
-nothing_backed : (plan : Plan) (list : List Status) (places : ℕ → Place) → list ≡ [] → IsBacked plan list places
-nothing_backed plan list places none =
-    subst (λ ss. IsBacked plan ss places) (sym none) record {
-      at = λ t. first_place;
-      found = λ t p. first_place;
-      there = record {
-        waiting = λ u e one is. absurd (nothing_in_nil is.0 is.1);
-        before = λ u e one is. absurd (nothing_in_nil is.0 is.1);
-        phases = λ u p n one is. absurd (nothing_in_nil is.0 is.1);
-        phases_before = λ u p n one is. absurd (nothing_in_nil is.0 is.1);
-      };
-    }
 
 -- the statuses of a task are those of its site
 module _ (sites : ℕ) (list : List Status) where
@@ -104,7 +90,8 @@ module _ (plan : Plan) (mode : Mode) (views : List Known) (rows : List (Option (
   site_backed site l = by_row (held rows site) refl (all.each site l)
     where
       by_row : (o : Option (List ℕ)) → held rows site ≡ o → IsStored sites site list o → IsBacked plan (part_of sites site list) (seen (viewer_of site l).view.view).places
-      by_row None is none = nothing_backed plan (part_of sites site list) (seen (viewer_of site l).view.view).places none
+      by_row None is none = nothing_backed plan (part_of sites site list) (seen (viewer_of site l).view.view).places
+          (λ s m. nothing_in_nil s (subst (λ ss. Contains ss s) none m))
       by_row (Some row) is stored =
           let (ss, of, has) = backed site row (viewer_of site l).view (viewer_of site l).is is in
           subst (λ v. IsBacked plan v (seen (viewer_of site l).view.view).places) (one_list_of sites site ss (part_of sites site list) row of stored) has
@@ -128,8 +115,7 @@ module _ (plan : Plan) (mode : Mode) (views : List Known) (rows : List (Option (
     later : (u : ℕ) (b : Place) (e : Event) → IsListedOn list u e → IsPrefix b ((seen (viewer_of (u % sites) (small u)).view.view).places u) → IsPrefix b (a u)
     later u b e is near =
         let v = viewer_of (u % sites) (small u) in
-        let s : Place = (seen v.view.view).places u in
-        precedes_trans b.done s.done (a u).done b.dropped s.dropped (a u).dropped near ((far v.view (at_place views (u % sites) v.view v.is)).later u (within u e is))
+        prefix_both b ((seen v.view.view).places u) (a u) near ((far v.view (at_place views (u % sites) v.view v.is)).later u (within u e is))
 
     merged : (tasks : ℕ → Bool) → HasFound plan (λ u. tasks u ≡ true) list at found a
     merged tasks =

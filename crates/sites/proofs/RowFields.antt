@@ -17,18 +17,24 @@ guard_ended : {A : Type 0} (b : Bool) (x y : A) → cond b (Some x) None ≡ Som
 guard_ended true x y e = (refl, cc)
 guard_ended false x y e = absurd cc
 
+-- what is made of two numbers that are read one after the other
+two_take :
+    {T : Type 0} (make : ℕ → ℕ → T) (P : T × List ℕ → Type 0) (bytes : List ℕ) (x : T × List ℕ) → IsBytes bytes →
+    (front_number bytes >>= λ p. front_number p.1 >>= λ n. Some (make p.0 n.0, n.1)) ≡ Some x →
+    ((p n : ℕ) (rest : List ℕ) → Takes bytes (to_be_bytes w32 p ++ to_be_bytes w32 n) rest → p < 2 ^ 32 → n < 2 ^ 32 → P (make p n, rest)) → P x
+two_take make P bytes x fits e told =
+    let a = bind_some (front_number bytes) (λ p. front_number p.1 >>= λ n. Some (make p.0 n.0, n.1)) x e in
+    let b = bind_some (front_number a.0.1) (λ n. Some (make a.0.0 n.0, n.1)) x a.2 in
+    let t0 = number_takes bytes a.0.0 a.0.1 fits a.1 in
+    let t1 = number_takes a.0.1 b.0.0 b.0.1 t0.0.rest_fits b.1 in
+    let takes = Takes-then bytes (to_be_bytes w32 a.0.0) a.0.1 (to_be_bytes w32 b.0.0) b.0.1 t0.0 t1.0 in
+    subst P (some_is (make a.0.0 b.0.0, b.0.1) x b.2) (told a.0.0 b.0.0 b.0.1 takes t0.1 t1.1)
+
 phase_takes : (bytes : List ℕ) (x : Member × List ℕ) → IsBytes bytes → phase_at bytes ≡ Some x → Takes bytes (phase_bytes x.0) x.1 × HasPhaseNumbers x.0
 unfolding phase_at
 phase_takes bytes x fits e =
-    let a = bind_some (front_number bytes) (λ p. front_number p.1 >>= λ n. Some (record { p = record { 0 = p.0 }; n = n.0 }, n.1)) x e in
-    let b = bind_some (front_number a.0.1) (λ n. Some (record { p = record { 0 = a.0.0 }; n = n.0 }, n.1)) x a.2 in
-    let t0 = number_takes bytes a.0.0 a.0.1 fits a.1 in
-    let t1 = number_takes a.0.1 b.0.0 b.0.1 t0.0.rest_fits b.1 in
-    let made : Member × List ℕ = (record { p = record { 0 = a.0.0 }; n = b.0.0 }, b.0.1) in
-    subst (λ (y : Member × List ℕ). Takes bytes (phase_bytes y.0) y.1 × HasPhaseNumbers y.0) (some_is made x b.2) (
-      Takes-then bytes (to_be_bytes w32 a.0.0) a.0.1 (to_be_bytes w32 b.0.0) b.0.1 t0.0 t1.0,
-      record { phaser = t0.1; phase = t1.1 },
-    )
+    two_take (λ p n. record { p = record { 0 = p }; n = n }) (λ (y : Member × List ℕ). Takes bytes (phase_bytes y.0) y.1 × HasPhaseNumbers y.0) bytes x fits e
+    (λ p n rest takes phaser phase. (takes, record { phaser = phaser; phase = phase }))
 
 phase_again : (m : Member) (rest : List ℕ) → HasPhaseNumbers m → phase_at (phase_bytes m ++ rest) ≡ Some (m, rest)
 unfolding phase_at
@@ -50,15 +56,8 @@ record FitsEvent (e : Event) : Type 0 where
 event_takes : (bytes : List ℕ) (x : Event × List ℕ) → IsBytes bytes → front_event bytes ≡ Some x → Takes bytes (event_bytes x.0) x.1 × FitsEvent x.0
 unfolding front_event
 event_takes bytes x fits e =
-    let a = bind_some (front_number bytes) (λ p. front_number p.1 >>= λ n. Some (record { p = record { 0 = p.0 }; n = n.0 }, n.1)) x e in
-    let b = bind_some (front_number a.0.1) (λ n. Some (record { p = record { 0 = a.0.0 }; n = n.0 }, n.1)) x a.2 in
-    let t0 = number_takes bytes a.0.0 a.0.1 fits a.1 in
-    let t1 = number_takes a.0.1 b.0.0 b.0.1 t0.0.rest_fits b.1 in
-    let made : Event × List ℕ = (record { p = record { 0 = a.0.0 }; n = b.0.0 }, b.0.1) in
-    subst (λ (y : Event × List ℕ). Takes bytes (event_bytes y.0) y.1 × FitsEvent y.0) (some_is made x b.2) (
-      Takes-then bytes (to_be_bytes w32 a.0.0) a.0.1 (to_be_bytes w32 b.0.0) b.0.1 t0.0 t1.0,
-      record { phaser = t0.1; phase = t1.1 },
-    )
+    two_take (λ p n. record { p = record { 0 = p }; n = n }) (λ (y : Event × List ℕ). Takes bytes (event_bytes y.0) y.1 × FitsEvent y.0) bytes x fits e
+    (λ p n rest takes phaser phase. (takes, record { phaser = phaser; phase = phase }))
 
 event_again : (e : Event) (rest : List ℕ) → FitsEvent e → front_event (to_be_bytes w32 e.p.0 ++ (to_be_bytes w32 e.n ++ rest)) ≡ Some (e, rest)
 unfolding front_event

@@ -9,14 +9,15 @@ use Rattle.armus_base.specs.CheckedPlans.{IsCheckedPlan}
 use Rattle.armus_base.specs.calls.FinalLaws.{AreStatuses}
 use Rattle.armus_base.specs.Finals.{status_of}
 use Rattle.armus_base.specs.Plans.{Plan}
-use Rattle.armus_base.specs.Runs.{first_place}
+use Rattle.armus_base.specs.Runs.{Place, first_place}
 use Rattle.armus_base.proofs.Below.{given_few}
 use Rattle.armus_base.proofs.StatusesAre.{statuses_are}
 use Rattle.board.specs.calls.Seats.{Frame, IsOf, Known}
+use Rattle.board.specs.calls.Views.{seen}
 use Rattle.sites.specs.calls.Rows.{AreOfSite, HasNumbers, is_of_site}
 use Rattle.phase_scan.specs.calls.Collects.{LoadsChosen}
 use Rattle.phase_scan.proofs.ChosenLoads.{chosen_same, chosen_seat}
-use Rattle.sites.specs.calls.Snaps.{IsSnap, TellsSite}
+use Rattle.sites.specs.calls.Snaps.{IsBacked, IsSnap, TellsSite}
 use Rattle.sites.specs.inside.Snapping.{FindsRows}
 use Rattle.phase_scan.proofs.Farther.{IsPossible}
 use Rattle.sites.proofs.TellingSites.{snap_tells, some_possible}
@@ -73,22 +74,27 @@ own_or_none own (suc n) =
       ]
     ]
 
+-- nothing is backed by anything
+pub nothing_backed : (plan : Plan) (list : List Status) (places : ℕ → Place) → ((s : Status) → Contains list s → ⊥) → IsBacked plan list places
+nothing_backed plan list places none =
+    record {
+      at = λ t. first_place;
+      found = λ t p. first_place;
+      there = record {
+        waiting = λ u e one is. absurd (none is.0 is.1);
+        before = λ u e one is. absurd (none is.0 is.1);
+        phases = λ u p n one is. absurd (none is.0 is.1);
+        phases_before = λ u p n one is. absurd (none is.0 is.1);
+      };
+    }
+
 -- a site without tasks finds nothing
 tells_nothing :
     (plan : Plan) (sites site : ℕ) (list : List Status) (before now : Known) → IsCheckedPlan plan → IsSnap plan sites site list before now →
     ((t : ℕ) → t < length plan.parents → is_of_site sites site t ≡ false) → TellsSite plan sites site list before now
 tells_nothing plan sites site list before now checked c none =
     record {
-      backed = record {
-        at = λ t. first_place;
-        found = λ t p. first_place;
-        there = record {
-          waiting = λ u e one is. absurd (nobody is.0 is.1);
-          before = λ u e one is. absurd (nobody is.0 is.1);
-          phases = λ u p n one is. absurd (nobody is.0 is.1);
-          phases_before = λ u p n one is. absurd (nobody is.0 is.1);
-        };
-      };
+      backed = nothing_backed plan list (seen now.view).places nobody;
       idle = λ t l is. absurd (off t l is);
       waiting = λ t place e l is. absurd (off t l is);
       dead = λ t l is. absurd (off t l is);
