@@ -98,13 +98,14 @@ all_further {f = f} (one_task {own = own} {owns = owns} {before = a} {now = b} {
       | inr none ↦ (let m = task_not_back f own a b acts in let r = all_further p (omega arith) in omega arith)
     ]
 
--- taking the children's seats out changes no step
-pub emptied_steps : (ws : List Working) → sum_by progress_of (map emptied ws) ≡ sum_by progress_of ws
-emptied_steps [] = refl
-emptied_steps (w ∷ ws) =
-    let x = sum_by-cons progress_of (emptied w) (map emptied ws) in
-    let y = sum_by-cons progress_of w ws in
-    let r = emptied_steps ws in
+-- taking the children's seats out changes no sum of what is the same without them
+pub emptied_sum : (of : Working → ℕ) → ((w : Working) → of (emptied w) ≡ of w) → (ws : List Working) → sum_by of (map emptied ws) ≡ sum_by of ws
+emptied_sum of same [] = refl
+emptied_sum of same (w ∷ ws) =
+    let x = sum_by-cons of (emptied w) (map emptied ws) in
+    let y = sum_by-cons of w ws in
+    let e = same w in
+    let r = emptied_sum of same ws in
     omega arith
 
 -- a sum over tasks is that over their numbers

@@ -1,5 +1,5 @@
 -- What steps and loads make of a task, one after the other.
-use Rattle.std.proofs.Common.{◌≡◌, ◌≢◌, ℕ, ◌<◌, ◌≤◌, List, [], ◌∷◌, ◌++◌, Option, Some, None, length, sym, refl, ap, ◌∙◌, subst, append-nil, append_assoc, inl, inr, ◌+◌, arith}
+use Rattle.std.proofs.Common.{◌≡◌, ◌≢◌, ℕ, ◌<◌, ◌≤◌, List, [], ◌∷◌, ◌++◌, Option, Some, None, length, sym, refl, ap, ◌∙◌, subst, append-nil, append_assoc, inl, inr, ◌+◌, arith, false, length-append}
 use Rattle.std.specs.Prelude.{IsSome, unwrap_or}
 use Rattle.std.proofs.lemmas.Bool.{cases_eq, false≢true}
 use Rattle.armus_base.specs.Limits.{max_phasers}
@@ -8,7 +8,7 @@ use Rattle.armus_base.specs.Runs.{IsByCode, Place, moved, next_place}
 use Rattle.armus_base.specs.calls.Runs.{IsPrefix}
 use Rattle.armus_base.specs.calls.Seats.{SeenBy, seen_after_step}
 use Rattle.armus_base.proofs.Fixed.{action_within}
-use Rattle.armus_base.proofs.Places.{next_later, precedes_itself, precedes_trans}
+use Rattle.armus_base.proofs.Places.{next_later, precedes_itself}
 use Rattle.armus_base.proofs.Steps.{updated_other, updated_same}
 use Rattle.board.specs.calls.Views.{action_after, next_action, own_place, seen, task_of}
 use Rattle.board.specs.calls.Steps.{IsSameSeat}
@@ -16,6 +16,7 @@ use Rattle.board.specs.calls.Seats.{Frame, IsOf, IsSeat, Known, MakesStep}
 use Rattle.board.proofs.Seated.{next_there}
 use Rattle.board.proofs.Walking.{moved_here}
 use Rattle.phase_scan.specs.calls.Looks.{LoadsAlone}
+use Rattle.phase_scan.proofs.Loads.{prefix_both}
 use Rattle.board_rounds.specs.calls.Turns.{Acts, AreChildSeats, Goes, LeadsByCode, Working, tasks_forked, no_child, one_child}
 use Rattle.board_rounds.specs.inside.Tasks.{MakesSome}
 
@@ -171,11 +172,7 @@ goes_on k m n xs ys p q =
           leads_on k.view.plan (task_of k.view) (own_place k.view) xs (own_place m.view) ys (own_place n.view) p.place
           (subst (λ (t : ℕ). LeadsByCode k.view.plan t (own_place m.view) ys (own_place n.view)) (same_task k m p.same)
           (subst (λ (z : Plan). LeadsByCode z (task_of m.view) (own_place m.view) ys (own_place n.view)) p.same.plan q.place));
-      later = λ u.
-          let x : Place = (seen k.view).places u in
-          let y : Place = (seen m.view).places u in
-          let z : Place = (seen n.view).places u in
-          precedes_trans x.done y.done z.done x.dropped y.dropped z.dropped (p.later u) (q.later u);
+      later = λ u. prefix_both ((seen k.view).places u) ((seen m.view).places u) ((seen n.view).places u) (p.later u) (q.later u);
       exact = λ u. q.exact u ∙ p.exact u;
       loads = (let first = p.loads in let then = q.loads in omega arith);
       kept = q.kept;
@@ -251,3 +248,24 @@ next_still k m same place = λ i. action_after (same.plan i) (same_task k m same
 -- a seat is of its board after its steps
 pub of_on : (f : Frame) (own : List Action) (k m : Known) → IsOf k f → Goes own k m → IsOf m f
 of_on f own k m of goes = record { table = goes.table ∙ of.table; plan = goes.same.plan ∙ of.plan; mode = goes.same.mode ∙ of.mode }
+
+-- a task has made these steps, so many, and is one of this board, without its lock
+pub record HasActed (f : Frame) (own : List Action) (n : ℕ) (was is : Working) : Type 0 where
+  pub acts : Acts f own was is
+  pub made : IsOf is.seat f
+  pub free : is.seat.view.holds ≡ false
+  pub counted : n ≡ length own
+
+pub acted_not : (f : Frame) (w : Working) → IsSeat w.seat → IsOf w.seat f → w.seat.view.holds ≡ false → HasActed f [] 0 w w
+acted_not f w seat made free = record { acts = acts_itself f w seat; made = made; free = free; counted = refl }
+
+pub acted_on :
+    (f : Frame) (own more : List Action) (n k : ℕ) (a b c : Working) → HasActed f own n a b → Acts f more b c → k ≡ length more →
+    HasActed f (own ++ more) (n + k) a c
+acted_on f own more n k a b c first acts count =
+    record {
+      acts = acts_on f a b c own more first.acts acts;
+      made = of_on f more b.seat c.seat first.made acts.goes;
+      free = acts.goes.same.holds ∙ first.free;
+      counted = (let l = length-append own more in let m = first.counted in omega arith);
+    }

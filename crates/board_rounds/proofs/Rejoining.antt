@@ -1,5 +1,5 @@
 -- What a round makes of all tasks of a run, the ended ones among them.
-use Rattle.std.proofs.Common.{◌≡◌, ◌⊎◌, ℕ, suc, ◌<◌, ◌≤◌, List, [], ◌∷◌, ◌++◌, Some, false, length, map, get_or, sym, refl, ap, ◌∙◌, subst, arith, inl, inr, append-nil, append_assoc}
+use Rattle.std.proofs.Common.{◌≡◌, ◌⊎◌, ℕ, suc, ◌<◌, ◌≤◌, List, [], ◌∷◌, ◌++◌, Some, false, length, map, sym, refl, ap, ◌∙◌, subst, arith, inl, inr, append-nil, append_assoc}
 use Rattle.std.specs.Prelude.{All, Contains, sum_by}
 use Rattle.std.specs.List.{flat_map}
 use Rattle.std.specs.List.Sorted.{IsPermutation}
@@ -11,11 +11,11 @@ use Rattle.armus_base.specs.CheckedPlans.{IsCheckedPlan}
 use Rattle.armus_base.specs.calls.Seats.{seen_by_child}
 use Rattle.armus_base.proofs.Elements.{Contains-cons_cases, nothing_in_nil}
 use Rattle.board.specs.calls.Seats.{Frame, IsNewSeat, IsOf, Known, nothing_seen}
-use Rattle.board_rounds.specs.calls.Turns.{ActsNoMore, EachActs, MayTakeTurn, Working, in_32_bits, loads_between, loads_made_by}
+use Rattle.board_rounds.specs.calls.Turns.{ActsNoMore, EachActs, MayTakeTurn, Working, in_32_bits, loads_between}
 use Rattle.board_rounds.specs.declared.board_tasks.Rounded.{Rounded}
 use Rattle.board_rounds.specs.calls.TaskSeats.{AreTasksOf, AreTaskSeatsOf, Tasks, all_of, all_steps, left_to, number, progress_of}
 use Rattle.board_rounds.specs.calls.Rounds.{HasTakenTurn, HaveEnded, MakesRound, all_forked, emptied, fresh_of}
-use Rattle.board_rounds.proofs.Advancing.{all_further, emptied_steps, within_all}
+use Rattle.board_rounds.proofs.Advancing.{all_further, emptied_sum, within_all}
 use Rattle.board_rounds.proofs.Apart.{IsFamily, family_after}
 use Rattle.board_rounds.proofs.Between.{all_from, task_seats_ready, first_task_seats, then_task_seats, then_none, to_each}
 use Rattle.board_rounds.proofs.Forking.{forks_counted, have_turned, none_forked, not_forked, still_forks}
@@ -75,15 +75,6 @@ no_steps w = []
 zeros : (ws : List Working) → sum_by length (map no_steps ws) ≡ 0
 zeros [] = refl
 zeros (w ∷ ws) = (let r = zeros ws in let s = sum_by-cons (length {A = Action}) (no_steps w) (map no_steps ws) in omega arith)
-
--- taking the children's seats out makes no load
-emptied_loads : (ws : List Working) → loads_made_by (map emptied ws) ≡ loads_made_by ws
-emptied_loads [] = refl
-emptied_loads (w ∷ ws) =
-    let x = sum_by-cons loads_in (emptied w) (map emptied ws) in
-    let y = sum_by-cons loads_in w ws in
-    let r = emptied_loads ws in
-    omega arith
 
 module _ (bound : ℕ) (f : Frame) (live ended new : List Working) (told : Rounded) (tasks : AreTasksOf f (record { live = live; ended = ended }))
     (round : MakesRound bound f live new told) where
@@ -160,7 +151,7 @@ module _ (bound : ℕ) (f : Frame) (live ended new : List Working) (told : Round
   next_steps =
       (let p = sum_by-IsPermutation progress_of next (new ++ ended) moved in
       let s = sum_by-append progress_of (map emptied turned) (flat_map fresh_of turned) in
-      let e = emptied_steps turned in
+      let e = emptied_sum progress_of (λ w. refl) turned in
       omega arith)
 
   pub round_further : 0 < told.events → sum_by progress_of olds < sum_by progress_of (new ++ ended)
@@ -174,7 +165,7 @@ module _ (bound : ℕ) (f : Frame) (live ended new : List Working) (told : Round
   turns_made =
       (let p = sum_by-IsPermutation loads_in next (new ++ ended) moved in
       let s = sum_by-append loads_in (map emptied turned) (flat_map fresh_of turned) in
-      let e = emptied_loads turned in
+      let e = emptied_sum loads_in (λ w. refl) turned in
       let t = sum_by-append loads_in round.turned ended in
       let o = sum_by-append loads_in live ended in
       omega arith)

@@ -231,6 +231,18 @@ over_both bound f w ts a b x y r whole turns =
     subst (λ (ws : List Working). TakesTurns bound f ws (map w (x ++ y)) r) (sym (ap (map w) whole ∙ map-append w a b))
     (subst (λ (ws : List Working). TakesTurns bound f (map w a ++ map w b) ws r) (sym (map-append w x y)) turns)
 
+-- two halves of a list took their turns, of which each answered this
+module _ {T E : Type 0} {bound : ℕ} {f : Frame} {ts : List T} {first second : Result ℕ E} (w : T → Working) (a b x y : List T) (whole : ts ≡ a ++ b)
+    (front : TakesTurns bound f (map w a) (map w x) first) (back : TakesTurns bound f (map w b) (map w y) second) where
+  pub halves_stopped : (r : Result ℕ E) → IfOk r (λ n. ⊥) → TakesTurns bound f (map w ts) (map w (x ++ y)) r
+  halves_stopped r bad =
+      over_both bound f w ts a b x y r whole (stopped bound f (map w a ++ map w b) (map w x ++ map w y) r bad
+      (both_each bound f (map w a) (map w x) (map w b) (map w y) first second front back))
+
+  pub halves_on : {m n : ℕ} (k : ℕ) → first ≡ Ok m → second ≡ Ok n → k ≡ in_32_bits (m + n) → TakesTurns {E = E} bound f (map w ts) (map w (x ++ y)) (Ok k)
+  halves_on {m = m} {n = n} k one two counted =
+      over_both bound f w ts a b x y (Ok k) whole (turns_on bound f (map w a) (map w x) (map w b) (map w y) first second m n k one two counted front back)
+
 -- and where the function changes nothing
 pub of_itself : {E : Type 0} (bound : ℕ) (f : Frame) (olds news : List Working) (r : Result ℕ E) → TakesTurns bound f (map (λ w. w) olds) (map (λ w. w) news) r → TakesTurns bound f olds news r
 of_itself bound f olds news r turns =

@@ -1,11 +1,12 @@
 use denote.Exit.{no}
 use denote.Param.{param}
 use denote.Param.Send.{arg_send, param_send}
-use Rattle.std.proofs.Common.{◌<◌, ◌++◌, ◌+◌, ◌-◌, ◌*◌, ◌/◌, Ok, IfOk, map, rules, arith}
+use Rattle.std.proofs.Common.{ℕ, ◌<◌, ◌+◌, ◌-◌, ◌*◌, ◌/◌, map, rules, arith}
 use Rattle.board_rounds.specs.calls.Turns.{TakesTurns}
 use Rattle.board_rounds.proofs.Crossing.{turns_send}
-use Rattle.board_rounds.proofs.Rounding.{both_each, over_both, ready_both, stopped, turns_on}
+use Rattle.board_rounds.proofs.Rounding.{halves_on, halves_stopped, ready_both}
 use Rattle.board_rounds.proofs.rounds.+taking.Goals as goal
+use Rattle.board_rounds.proofs.rounds.+taking.Goals.{take_turns_in_halves-After-branch-first}
 
 pub take_turns_in_halves-join_mut-first-requires-send-F : goal.take_turns_in_halves-join_mut-first-requires-send-F
 take_turns_in_halves-join_mut-first-requires-send-F g t c κs within =
@@ -24,54 +25,37 @@ take_turns_in_halves-join_mut-first-requires-after_bounds g t c κs within =
     let back_less : 3 * (c.args.workers - c.args.workers / 2) + 2 < 3 * c.args.workers = omega arith in
     search rules
 
+-- what both halves did
+front : (g : _) (t : ℕ) (c : take_turns_in_halves-After-branch-first g t) →
+    TakesTurns c.args.setting.now.bound c.args.setting.now.board.now (map g.T.TakeTurn.working c.split_at_mut-front.result.0.now)
+    (map g.T.TakeTurn.working c.front-1.given.0) c.join_mut-first.result.0
+front g t c = search rules
+
+back : (g : _) (t : ℕ) (c : take_turns_in_halves-After-branch-first g t) →
+    TakesTurns c.args.setting.now.bound c.args.setting.now.board.now (map g.T.TakeTurn.working c.split_at_mut-front.result.1.now)
+    (map g.T.TakeTurn.working c.back-1.given.0) c.join_mut-first.result.1
+back g t c = search rules
+
 pub take_turns_in_halves-returns-in_err-first : goal.take_turns_in_halves-returns-in_err-first
 take_turns_in_halves-returns-in_err-first g t c =
-    let f = c.args.setting.now.board.now in
-    let w = g.T.TakeTurn.working in
-    let a = c.split_at_mut-front.result.0.now in
-    let b = c.split_at_mut-front.result.1.now in
-    let x = c.front-1.given.0 in
-    let y = c.back-1.given.0 in
-    let front : TakesTurns c.args.setting.now.bound f (map w a) (map w x) c.join_mut-first.result.0 = search rules in
-    let back : TakesTurns c.args.setting.now.bound f (map w b) (map w y) c.join_mut-first.result.1 = search rules in
-    let bad : IfOk c.from_residual.result (λ n. ⊥) = search rules in
+    let at = (goal.at.take_turns_in_halves-returns-in_err-first g t c).After-branch-first in
     record {
-      turns =
-          over_both c.args.setting.now.bound f w c.args.tasks.now a b x y c.from_residual.result c.split_at_mut-front.ensures.value
-          (stopped c.args.setting.now.bound f (map w a ++ map w b) (map w x ++ map w y) c.from_residual.result bad
-          (both_each c.args.setting.now.bound f (map w a) (map w x) (map w b) (map w y) c.join_mut-first.result.0 c.join_mut-first.result.1 front back));
+      turns = halves_stopped g.T.TakeTurn.working _ _ c.front-1.given.0 c.back-1.given.0 c.split_at_mut-front.ensures.value (front g t at) (back g t at)
+          c.from_residual.result (search rules);
     }
 
 pub take_turns_in_halves-returns-in_err-second : goal.take_turns_in_halves-returns-in_err-second
 take_turns_in_halves-returns-in_err-second g t c =
-    let f = c.args.setting.now.board.now in
-    let w = g.T.TakeTurn.working in
-    let a = c.split_at_mut-front.result.0.now in
-    let b = c.split_at_mut-front.result.1.now in
-    let x = c.front-1.given.0 in
-    let y = c.back-1.given.0 in
-    let front : TakesTurns c.args.setting.now.bound f (map w a) (map w x) c.join_mut-first.result.0 = search rules in
-    let back : TakesTurns c.args.setting.now.bound f (map w b) (map w y) c.join_mut-first.result.1 = search rules in
-    let bad : IfOk c.from_residual-in_err-second.result (λ n. ⊥) = search rules in
+    let at = (goal.at.take_turns_in_halves-returns-in_err-second g t c).After-branch-first in
     record {
-      turns =
-          over_both c.args.setting.now.bound f w c.args.tasks.now a b x y c.from_residual-in_err-second.result c.split_at_mut-front.ensures.value
-          (stopped c.args.setting.now.bound f (map w a ++ map w b) (map w x ++ map w y) c.from_residual-in_err-second.result bad
-          (both_each c.args.setting.now.bound f (map w a) (map w x) (map w b) (map w y) c.join_mut-first.result.0 c.join_mut-first.result.1 front back));
+      turns = halves_stopped g.T.TakeTurn.working _ _ c.front-1.given.0 c.back-1.given.0 c.split_at_mut-front.ensures.value (front g t at) (back g t at)
+          c.from_residual-in_err-second.result (search rules);
     }
 
 pub take_turns_in_halves-returns : goal.take_turns_in_halves-returns
 take_turns_in_halves-returns g t c =
-    let f = c.args.setting.now.board.now in
-    let w = g.T.TakeTurn.working in
-    let a = c.split_at_mut-front.result.0.now in
-    let b = c.split_at_mut-front.result.1.now in
-    let x = c.front-1.given.0 in
-    let y = c.back-1.given.0 in
-    let front : TakesTurns c.args.setting.now.bound f (map w a) (map w x) c.join_mut-first.result.0 = search rules in
-    let back : TakesTurns c.args.setting.now.bound f (map w b) (map w y) c.join_mut-first.result.1 = search rules in
+    let at = (goal.at.take_turns_in_halves-returns g t c).After-branch-first in
     record {
-      turns =
-          over_both c.args.setting.now.bound f w c.args.tasks.now a b x y (Ok c.saturating_add.result) c.split_at_mut-front.ensures.value
-          (turns_on c.args.setting.now.bound f (map w a) (map w x) (map w b) (map w y) c.join_mut-first.result.0 c.join_mut-first.result.1 c.in_ok-first.field-0 c.in_ok-second.field-0 c.saturating_add.result c.in_ok-first.was c.in_ok-second.was c.saturating_add.ensures front back);
+      turns = halves_on g.T.TakeTurn.working _ _ c.front-1.given.0 c.back-1.given.0 c.split_at_mut-front.ensures.value (front g t at) (back g t at)
+          c.saturating_add.result c.in_ok-first.was c.in_ok-second.was c.saturating_add.ensures;
     }

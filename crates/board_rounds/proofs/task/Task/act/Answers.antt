@@ -1,21 +1,20 @@
-use Rattle.std.proofs.Common.{◌≡◌, ◌<◌, ◌≤◌, ◌+◌, ◌∙◌, [], ◌++◌, rules, length, length-append, sym, refl, ap, subst, arith, append-nil}
+use Rattle.std.proofs.Common.{◌≡◌, ℕ, ◌<◌, ◌≤◌, ◌+◌, ◌∙◌, [], ◌++◌, rules, length, length-append, sym, refl, ap, subst, arith, append-nil}
 use Rattle.board.specs.calls.Seats.{IsSeat}
 use Rattle.std.specs.Prelude.{IfSome}
 use Rattle.board_rounds.specs.calls.Turns.{CountsEvents, Working}
 use Rattle.board_rounds.specs.inside.Tasks.{MakesSome}
 use Rattle.board_rounds.proofs.Counting.{counts_nothing, counts_on, counts_still, few_events, leaves_less}
-use Rattle.board_rounds.proofs.Goings.{acts_itself, acts_on, no_child_made, none_in, of_on, one_in}
+use Rattle.board_rounds.proofs.Goings.{HasActed, acted_not, acted_on, acts_on, no_child_made, none_in, one_in}
 use Rattle.board_rounds.proofs.Halting.{ends_since_within}
 use Rattle.board_rounds.proofs.task.Task.act.Goals as goal
+use Rattle.board_rounds.proofs.task.Task.act.Goals.{In-Some}
 
 pub act-init : goal.act-init
 act-init g c =
     let w = c.args.self.now in record {
       own = [];
-      acts = acts_itself c.args.setting.now.board.now w (subst (λ (x : Working). IsSeat x.seat) c.self.view_is c.id.ensures.seat);
-      made = c.requires.made;
-      free = c.requires.free;
-      counted = refl;
+      acted =
+          acted_not c.args.setting.now.board.now w (subst (λ (x : Working). IsSeat x.seat) c.self.view_is c.id.ensures.seat) c.requires.made c.requires.free;
       counts = λ n h. subst (λ k. CountsEvents k w) (let z : n ≡ n + 0 = omega arith in z) h;
       nobody = refl;
       had = (let v = c.len-had.ensures in let l = ap (λ (x : Working). length x.children) c.self.view_is in omega arith);
@@ -26,7 +25,7 @@ pub returns-in_err-more-clause-acts : goal.returns-in_err-more-clause-acts
 returns-in_err-more-clause-acts g c =
     let i = c.act.invariant in (
       i.own ++ [],
-      acts_on c.args.setting.now.board.now c.args.self.now c.act.self c.go_on.new.self i.own [] i.acts c.in_err-more.ensures.err,
+      acts_on c.args.setting.now.board.now c.args.self.now c.act.self c.go_on.new.self i.own [] i.acted.acts c.in_err-more.ensures.err,
       search rules,
     )
 
@@ -36,62 +35,66 @@ returns-in_err-more-clause-nobody g c =
     let same : c.go_on.new.self.children ≡ c.args.self.now.children = no_child_made c.args.setting.now.board.now c.act.self c.go_on.new.self c.in_err-more.ensures.err ∙ i.nobody in
     search rules
 
+module _ (g : _) (c : In-Some g) where
+  -- what this stretch has made
+  made : MakesSome c.args.setting.now.board.now c.in-Some.more c.act.self c.go_on.new.self
+  made = subst (λ o. IfSome o (λ n. MakesSome c.args.setting.now.board.now n c.act.self c.go_on.new.self)) c.in-Some.is c.in_ok-more.ensures.some
+
+  all : HasActed c.args.setting.now.board.now (c.act.invariant.own ++ made.own) (c.act.events + c.in-Some.more) c.args.self.now c.go_on.new.self
+  all =
+      acted_on c.args.setting.now.board.now c.act.invariant.own made.own c.act.events c.in-Some.more c.args.self.now c.act.self c.go_on.new.self
+      c.act.invariant.acted made.acts made.counted
+
+  counts : (n : ℕ) → CountsEvents n c.args.self.now → CountsEvents (n + (c.act.events + c.in-Some.more)) c.go_on.new.self
+  counts n h =
+      subst (λ k. CountsEvents k c.go_on.new.self) (let z : (n + c.act.events) + c.in-Some.more ≡ n + (c.act.events + c.in-Some.more) = omega arith in z)
+      (counts_on c.args.setting.now.board.now (n + c.act.events) c.in-Some.more c.act.self c.go_on.new.self (c.act.invariant.counts n h) made)
+
+  grown : c.go_on.new.self.children ≡ c.args.self.now.children ++ made.acts.new
+  grown = made.acts.children ∙ ap (λ ks. ks ++ made.acts.new) c.act.invariant.nobody
+
 pub overflow_add-events : goal.overflow_add-events
 overflow_add-events g c =
-    let i = c.act.invariant in
-    let m = (subst (λ o. IfSome o (λ n. MakesSome c.args.setting.now.board.now n c.act.self c.go_on.new.self)) c.in-Some.is c.in_ok-more.ensures.some) in
-    let k = counts_on c.args.setting.now.board.now (0 + c.act.events) c.in-Some.more c.act.self c.go_on.new.self (i.counts 0 (counts_nothing c.args.self.now)) m in
-    let l = few_events ((0 + c.act.events) + c.in-Some.more) c.go_on.new.self m.acts.goes.kept.checked k in
+    let at = (goal.at.overflow_add-events g c).In-Some in
+    let counted = counts g at 0 (counts_nothing c.args.self.now) in
+    let l = few_events (0 + (c.act.events + c.in-Some.more)) c.go_on.new.self (made g at).acts.goes.kept.checked counted in
     omega arith
 
 pub returns-then-len-had-clause-acts : goal.returns-then-len-had-clause-acts
 returns-then-len-had-clause-acts g c =
-    let i = c.act.invariant in
-    let m = (subst (λ o. IfSome o (λ n. MakesSome c.args.setting.now.board.now n c.act.self c.go_on.new.self)) c.in-Some.is c.in_ok-more.ensures.some) in (
-      i.own ++ m.own,
-      acts_on c.args.setting.now.board.now c.args.self.now c.act.self c.go_on.new.self i.own m.own i.acts m.acts,
-      (let l = length-append i.own m.own in let a = i.counted in let b = m.counted in omega arith),
-    )
+    let at = (goal.at.returns-then-len-had-clause-acts g c).In-Some in
+    (c.act.invariant.own ++ (made g at).own, (all g at).acts, (all g at).counted)
 
 pub returns-then-len-had-clause-few : goal.returns-then-len-had-clause-few
-returns-then-len-had-clause-few g c = λ n h.
-    let i = c.act.invariant in
-    let m = (subst (λ o. IfSome o (λ n. MakesSome c.args.setting.now.board.now n c.act.self c.go_on.new.self)) c.in-Some.is c.in_ok-more.ensures.some) in
-    subst (λ k. CountsEvents k c.go_on.new.self) (let z : (n + c.act.events) + c.in-Some.more ≡ n + (c.act.events + c.in-Some.more) = omega arith in z)
-    (counts_on c.args.setting.now.board.now (n + c.act.events) c.in-Some.more c.act.self c.go_on.new.self (i.counts n h) m)
+returns-then-len-had-clause-few g c = counts g (goal.at.returns-then-len-had-clause-few g c).In-Some
 
 pub returns-then-len-had-clause-pause : goal.returns-then-len-had-clause-pause
 returns-then-len-had-clause-pause g c =
-    let i = c.act.invariant in
-    let m = (subst (λ o. IfSome o (λ n. MakesSome c.args.setting.now.board.now n c.act.self c.go_on.new.self)) c.in-Some.is c.in_ok-more.ensures.some) in
-    let grown = m.acts.children ∙ ap (λ ks. ks ++ m.acts.new) i.nobody in
+    let at = (goal.at.returns-then-len-had-clause-pause g c).In-Some in
+    let m = made g at in
     let more : 0 < length m.acts.new =
-    (let l = ap (λ (x : Working). length x.children) c.self-in-act.view_is in let k = ap length grown in let a = length-append c.args.self.now.children m.acts.new in
-    let n = c.len.ensures in let t = c.if-len-had.true in let h = i.had in omega arith) in
+    (let l = ap (λ (x : Working). length x.children) c.self-in-act.view_is in let k = ap length (grown g at) in
+    let a = length-append c.args.self.now.children m.acts.new in
+    let n = c.len.ensures in let t = c.if-len-had.true in let h = c.act.invariant.had in omega arith) in
     let one = one_in m.acts.new m.one_child more in
-    (one.0, grown ∙ ap (λ ks. c.args.self.now.children ++ ks) one.1)
+    (one.0, grown g at ∙ ap (λ ks. c.args.self.now.children ++ ks) one.1)
 
 pub act-smaller : goal.act-smaller
-act-smaller g c = leaves_less c.args.setting.now.board.now c.in-Some.more c.act.self c.go_on.new.self (subst (λ o. IfSome o (λ n. MakesSome c.args.setting.now.board.now n c.act.self c.go_on.new.self)) c.in-Some.is c.in_ok-more.ensures.some)
+act-smaller g c = leaves_less c.args.setting.now.board.now c.in-Some.more c.act.self c.go_on.new.self (made g (goal.at.act-smaller g c).In-Some)
 
 pub act-preserved : goal.act-preserved
 act-preserved g c =
     let i = c.act.invariant in
-    let m = (subst (λ o. IfSome o (λ n. MakesSome c.args.setting.now.board.now n c.act.self c.go_on.new.self)) c.in-Some.is c.in_ok-more.ensures.some) in record {
+    let at = (goal.at.act-preserved g c).In-Some in
+    let m = made g at in record {
       own = i.own ++ m.own;
-      acts = acts_on c.args.setting.now.board.now c.args.self.now c.act.self c.go_on.new.self i.own m.own i.acts m.acts;
-      made = of_on c.args.setting.now.board.now m.own c.act.self.seat c.go_on.new.self.seat i.made m.acts.goes;
-      free = m.acts.goes.same.holds ∙ i.free;
-      counted = (let l = length-append i.own m.own in let a = i.counted in let b = m.counted in omega arith);
-      counts = λ n h.
-          subst (λ k. CountsEvents k c.go_on.new.self) (let z : (n + c.act.events) + c.in-Some.more ≡ n + (c.act.events + c.in-Some.more) = omega arith in z)
-          (counts_on c.args.setting.now.board.now (n + c.act.events) c.in-Some.more c.act.self c.go_on.new.self (i.counts n h) m);
+      acted = all g at;
+      counts = counts g at;
       nobody = (
-          let grown = m.acts.children ∙ ap (λ ks. ks ++ m.acts.new) i.nobody in
           let few : length m.acts.new ≤ 0 =
-          (let l = ap (λ (x : Working). length x.children) c.self-in-act.view_is in let k = ap length grown in let a = length-append c.args.self.now.children m.acts.new in
-          let n = c.len.ensures in let t = c.if-len-had.false in let h = i.had in omega arith) in
-          grown ∙ ap (λ ks. c.args.self.now.children ++ ks) (none_in m.acts.new few) ∙ append-nil c.args.self.now.children);
+          (let l = ap (λ (x : Working). length x.children) c.self-in-act.view_is in let k = ap length (grown g at) in
+          let a = length-append c.args.self.now.children m.acts.new in let n = c.len.ensures in let t = c.if-len-had.false in let h = i.had in omega arith) in
+          grown g at ∙ ap (λ ks. c.args.self.now.children ++ ks) (none_in m.acts.new few) ∙ append-nil c.args.self.now.children);
       had = i.had;
       loads = (let was = i.loads in let more = c.go_on.ensures.counted in omega arith);
     }
@@ -101,8 +104,8 @@ returns-clause-acts g c =
     let i = c.act.invariant in
     let none = c.in_ok-more.ensures.none c.in_default.is in (
       i.own ++ [],
-      acts_on c.args.setting.now.board.now c.args.self.now c.act.self c.go_on.new.self i.own [] i.acts none.0,
-      i.counted ∙ ap length (sym (append-nil i.own)),
+      acts_on c.args.setting.now.board.now c.args.self.now c.act.self c.go_on.new.self i.own [] i.acted.acts none.0,
+      i.acted.counted ∙ ap length (sym (append-nil i.own)),
     )
 
 pub returns-clause-few : goal.returns-clause-few
@@ -114,7 +117,11 @@ pub returns-clause-pause : goal.returns-clause-pause
 returns-clause-pause g c =
     let i = c.act.invariant in
     let none = c.in_ok-more.ensures.none c.in_default.is in
-    (ends_since_within c.args.setting.now.bound c.go_on.new.cells.loads c.args.self.now.seat c.act.self.seat c.go_on.new.self.seat i.acts.goes.loads none.1, no_child_made c.args.setting.now.board.now c.act.self c.go_on.new.self none.0 ∙ i.nobody)
+    let same = no_child_made c.args.setting.now.board.now c.act.self c.go_on.new.self none.0 ∙ i.nobody in (
+      ends_since_within c.args.setting.now.bound c.go_on.new.cells.loads c.args.self.now.seat c.act.self.seat c.go_on.new.self.seat
+          i.acted.acts.goes.loads none.1,
+      same,
+    )
 
 pub returns-in_err-more-clause-counted : goal.returns-in_err-more-clause-counted
 returns-in_err-more-clause-counted g c = (let was = c.act.invariant.loads in let more = c.go_on.ensures.counted in omega arith)
