@@ -21,7 +21,8 @@ use std::alloc::Global;
 pub enum Judging {
     /// By this graph of the statuses, which is built at each await.
     Graph(Wanted),
-    /// By an order of the tasks, which is kept from one await to the next.
+    /// By an order of the tasks, which is kept from one await to the next. In a world an await of which the phases of its task tell that it closes no cycle is
+    /// published without it.
     Order,
 }
 
