@@ -63,33 +63,35 @@ pub full_loaded : (plan : Plan) (loads : Loads) (pass : OpenPass) → IsPassOf p
 full_loaded plan loads pass of full =
     of.awaits.loaded ∙ min_all (length loads) (length plan.parents) (omega arith)
 
-pub full_rows : (plan : Plan) (loads : Loads) (pass : OpenPass) → IsPassOf plan loads pass → length loads ≡ loads_of plan loads → pass.row ≡ length pass.waiting.items
-full_rows plan loads pass of full =
-    let all = full_loaded plan loads pass of full in
+-- where a row is left, so are loads
+row_left : (plan : Plan) (loads : Loads) (pass : OpenPass) → IsPassOf plan loads pass → pass.loaded ≡ length plan.parents →
+    pass.row < length pass.waiting.items → length loads < loads_of plan loads
+row_left plan loads pass of all less =
     let place = of.phases.place all in
     let r = rows_are plan loads pass of all in
     let c = columns_are plan loads pass of all in
     let same : loads_of plan loads ≡ length plan.parents + length pass.waiting.items * length pass.awaited.items =
     ap (λ x. length plan.parents + x * awaited_below plan loads (length plan.makers)) (sym r) ∙ ap (λ x. length plan.parents + length pass.waiting.items * x) (sym c) in
+    let cell = cell_within pass.row pass.column (length pass.waiting.items) (length pass.awaited.items) less (place.column less) in
+    let cells = place.cells in
+    omega arith
+
+pub full_rows : (plan : Plan) (loads : Loads) (pass : OpenPass) → IsPassOf plan loads pass → length loads ≡ loads_of plan loads →
+    pass.row ≡ length pass.waiting.items
+full_rows plan loads pass of full =
+    let all = full_loaded plan loads pass of full in
     elim (cases_lt pass.row (length pass.waiting.items)) [
-      | inl less ↦ absurd (let cell = cell_within pass.row pass.column (length pass.waiting.items) (length pass.awaited.items) less (place.column less) in
-          let cells = place.cells in omega arith)
-      | inr more ↦ (let within = place.row in omega arith)
+      | inl less ↦ absurd (let l = row_left plan loads pass of all less in omega arith)
+      | inr more ↦ (let within = (of.phases.place all).row in omega arith)
     ]
 
 -- a pass that is not full has loads left
 pub loads_left : (plan : Plan) (loads : Loads) (pass : OpenPass) → IsPassOf plan loads pass → pass.loaded ≡ length plan.parents →
     length loads ≢ loads_of plan loads → length loads < loads_of plan loads
 loads_left plan loads pass of all other =
-    let place = of.phases.place all in
-    let r = rows_are plan loads pass of all in
-    let c = columns_are plan loads pass of all in
-    let same : loads_of plan loads ≡ length plan.parents + length pass.waiting.items * length pass.awaited.items =
-    ap (λ x. length plan.parents + x * awaited_below plan loads (length plan.makers)) (sym r) ∙ ap (λ x. length plan.parents + length pass.waiting.items * x) (sym c) in
     elim (cases_lt pass.row (length pass.waiting.items)) [
-      | inl less ↦ (let cell = cell_within pass.row pass.column (length pass.waiting.items) (length pass.awaited.items) less (place.column less) in
-          let cells = place.cells in omega arith)
-      | inr more ↦ absurd (other (full_is plan loads pass of all (let within = place.row in omega arith)))
+      | inl less ↦ row_left plan loads pass of all less
+      | inr more ↦ absurd (other (full_is plan loads pass of all (let within = (of.phases.place all).row in omega arith)))
     ]
 
 -- the statuses of a full pass are those that it found

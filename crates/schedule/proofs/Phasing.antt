@@ -1,11 +1,11 @@
 -- An open pass, one phase cell further.
-use Rattle.std.proofs.Common.{◌≡◌, ◌≢◌, ◌<◌, ◌≤◌, ◌+◌, ◌*◌, ◌∙◌, ℕ, Bool, true, false, List, [], ◌∷◌, ◌++◌, Option, Some, None, length, take, arith, sym, subst, ap, inl, inr, refl, append-nil, length-append}
+use Rattle.std.proofs.Common.{◌≡◌, ◌≢◌, ◌<◌, ◌≤◌, ◌+◌, ◌*◌, ◌∙◌, ℕ, Bool, true, false, List, [], ◌∷◌, ◌++◌, Option, Some, None, length, take, get_or, arith, sym, subst, ap, inl, inr, refl, append-nil, length-append}
 use Rattle.std.specs.Prelude.{All, slice_get, is_some, if◌then◌else◌, option_to_list, option_map, map, min}
 use Rattle.std.specs.List.{flat_map}
 use Rattle.std.proofs.lemmas.Bool.{cases_lt}
 use Rattle.std.proofs.lemmas.Grind.{flat_map-append}
 use Rattle.std.proofs.lemmas.List.{map-append, take_all, take_more}
-use Rattle.std.proofs.lemmas.Option.{get_or_from_slice_get}
+use Rattle.std.proofs.lemmas.Option.{slice_get-get_or}
 use Rattle.armus_base.specs.declared.ids.PhaserId.{PhaserId}
 use Rattle.armus_base.specs.declared.event.Event.{Event}
 use Rattle.armus_base.specs.calls.CheckedPlans.{Extends}
@@ -67,21 +67,30 @@ module _ (plan : Plan) (pass : OpenPass) (mid : IsMidPass plan pass) where
   column_within = (mid.of.phases.place all_loaded).column row_within
 
   -- the task of the row, and the phaser of the column
-  pub task_within : (w : Waiting) → slice_get pass.waiting.items pass.row ≡ Some w → w.t.0 < length plan.parents
+  at_row : (w : Waiting) → w ≡ get_or pass.waiting.items pass.row w → slice_get pass.waiting.items pass.row ≡ Some w
+  at_row w is = slice_get-get_or pass.waiting.items pass.row w row_within ∙ ap Some (sym is)
+
+  at_column : (p : PhaserId) → p ≡ get_or pass.awaited.items pass.column p → slice_get pass.awaited.items pass.column ≡ Some p
+  at_column p is = slice_get-get_or pass.awaited.items pass.column p column_within ∙ ap Some (sym is)
+
+  pub task_within : (w : Waiting) → w ≡ get_or pass.waiting.items pass.row w → w.t.0 < length plan.parents
   task_within w is =
       let given = mid.of.awaits.waiting mid.loads (itself mid.loads) ∙ ap (given_below (waiting_found mid.loads)) all_loaded in
-      let (t, l, gives, counted) = at_place (waiting_found mid.loads) (length plan.parents) pass.row w (ap (λ v. slice_get v pass.row) (sym given) ∙ is) in
+      let (t, l, gives, counted) = at_place (waiting_found mid.loads) (length plan.parents) pass.row w (ap (λ v. slice_get v pass.row) (sym given) ∙ at_row w is) in
       subst (λ k. k < length plan.parents) (number_of_found t (event_found mid.loads t) w gives) l
 
-  pub phaser_within : (p : PhaserId) → slice_get pass.awaited.items pass.column ≡ Some p → p.0 < length plan.makers
+  pub phaser_within : (p : PhaserId) → p ≡ get_or pass.awaited.items pass.column p → p.0 < length plan.makers
   phaser_within p is =
       let given = mid.of.awaits.awaited mid.loads (itself mid.loads) all_loaded in
-      let (q, l, gives, counted) = at_place (awaited_phaser plan mid.loads) (length plan.makers) pass.column p (ap (λ v. slice_get v pass.column) (sym given) ∙ is) in
+      let (q, l, gives, counted) = at_place (awaited_phaser plan mid.loads) (length plan.makers) pass.column p (ap (λ v. slice_get v pass.column) (sym given) ∙ at_column p is) in
       subst (λ k. k < length plan.makers) (number_of_marked q (is_found_awaited plan mid.loads q) p gives) l
 
 -- the next load finds the phase of the row's task on the column's phaser
 module _ (plan : Plan) (pass : OpenPass) (mid : IsMidPass plan pass) (loads : Loads) (h : List Step) (of : IsPassOf plan loads pass) (w : Waiting)
-    (here : slice_get pass.waiting.items pass.row ≡ Some w) (p : PhaserId) (there : slice_get pass.awaited.items pass.column ≡ Some p) where
+    (here : w ≡ get_or pass.waiting.items pass.row w) (p : PhaserId) (there : p ≡ get_or pass.awaited.items pass.column p) where
+  in_row : slice_get pass.waiting.items pass.row ≡ Some w
+  in_row = at_row plan pass mid w here
+
   full : pass.loaded ≡ length plan.parents
   full = all_loaded plan pass mid
 
@@ -98,14 +107,14 @@ module _ (plan : Plan) (pass : OpenPass) (mid : IsMidPass plan pass) (loads : Lo
     row_is : waiting_below all w.t.0 ≡ pass.row
     row_is =
         let given = of.awaits.waiting all before ∙ ap (given_below (waiting_found all)) full in
-        let (t, l, gives, counted) = at_place (waiting_found all) (length plan.parents) pass.row w (ap (λ v. slice_get v pass.row) (sym given) ∙ here) in
+        let (t, l, gives, counted) = at_place (waiting_found all) (length plan.parents) pass.row w (ap (λ v. slice_get v pass.row) (sym given) ∙ in_row) in
         ap (waiting_below all) (sym (number_of_found t (event_found all t) w gives))
         ∙ sym (count_same (λ k. is_some (waiting_found all k)) (λ u. is_some (event_found all u)) t (λ k. some_map _ (event_found all k))) ∙ counted
 
     column_is : awaited_below plan all p.0 ≡ pass.column
     column_is =
         let given = of.awaits.awaited all before full in
-        let (q, l, gives, counted) = at_place (awaited_phaser plan all) (length plan.makers) pass.column p (ap (λ v. slice_get v pass.column) (sym given) ∙ there) in
+        let (q, l, gives, counted) = at_place (awaited_phaser plan all) (length plan.makers) pass.column p (ap (λ v. slice_get v pass.column) (sym given) ∙ at_column plan pass mid p there) in
         ap (awaited_below plan all) (sym (number_of_marked q (is_found_awaited plan all q) p gives))
         ∙ sym (count_same (λ k. is_some (awaited_phaser plan all k)) (is_found_awaited plan all) q (λ k. some_if (is_found_awaited plan all k) (record { 0 = k }))) ∙ counted
 
@@ -130,14 +139,13 @@ module _ (plan : Plan) (pass : OpenPass) (mid : IsMidPass plan pass) (loads : Lo
         new.members ≡ flat_map (member_found plan all w.t.0) (take (pass.column + 1) pass.awaited.items)
     members_more new kept =
         let within = column_within plan pass mid in
-        let d = get_or_from_slice_get pass.awaited.items pass.column p p there in
         kept.members
         ∙ ap (λ l. l ++ option_to_list (option_map (λ n. record { p = p; n = n }) ((state_after h).phases w.t.0 p.0)))
-        (of.phases.members all before ∙ ap (λ o. row_found plan all o (take pass.column pass.awaited.items)) here)
+        (of.phases.members all before ∙ ap (λ o. row_found plan all o (take pass.column pass.awaited.items)) in_row)
         ∙ ap (λ o. flat_map (member_found plan all w.t.0) (take pass.column pass.awaited.items) ++ option_to_list (option_map (λ n. record { p = p; n = n }) o)) (sym phase_is)
         ∙ ap (λ l. flat_map (member_found plan all w.t.0) (take pass.column pass.awaited.items) ++ l) (sym (append-nil (member_found plan all w.t.0 p)))
         ∙ sym (flat_map-append (member_found plan all w.t.0) (take pass.column pass.awaited.items) (p ∷ []))
-        ∙ ap (λ q. flat_map (member_found plan all w.t.0) (take pass.column pass.awaited.items ++ q ∷ [])) (sym d)
+        ∙ ap (λ q. flat_map (member_found plan all w.t.0) (take pass.column pass.awaited.items ++ q ∷ [])) there
         ∙ ap (flat_map (member_found plan all w.t.0)) (sym (take_more pass.awaited.items pass.column p within))
 
     -- a whole row is the task's status
@@ -165,7 +173,7 @@ module _ (plan : Plan) (pass : OpenPass) (mid : IsMidPass plan pass) (loads : Lo
         ∙ ap (λ l. l ++ record { t = w.t; event = w.event; phases = middle.members } ∷ []) (kept.statuses ∙ of.phases.statuses all before)
         ∙ ap (λ m. map (status_with plan all) (take pass.row pass.waiting.items) ++ record { t = w.t; event = w.event; phases = m } ∷ []) row
         ∙ sym (map-append (status_with plan all) (take pass.row pass.waiting.items) (w ∷ []))
-        ∙ ap (λ q. map (status_with plan all) (take pass.row pass.waiting.items ++ q ∷ [])) (sym (get_or_from_slice_get pass.waiting.items pass.row w w here))
+        ∙ ap (λ q. map (status_with plan all) (take pass.row pass.waiting.items ++ q ∷ [])) here
         ∙ ap (map (status_with plan all)) (sym (take_more pass.waiting.items pass.row w within))
 
   -- the row goes on
@@ -197,7 +205,7 @@ module _ (plan : Plan) (pass : OpenPass) (mid : IsMidPass plan pass) (loads : Lo
               ∙ ap (λ c. flat_map (member_found plan all w.t.0) (take c pass.awaited.items)) (sym kept.column)
               ∙ ap (λ v. flat_map (member_found plan all w.t.0) (take new.column v)) (sym kept.awaited)
               ∙ sym (ap (λ o. row_found plan all o (take new.column new.awaited.items))
-              (ap (λ v. slice_get v new.row) kept.waiting ∙ ap (slice_get pass.waiting.items) kept.row ∙ here));
+              (ap (λ v. slice_get v new.row) kept.waiting ∙ ap (slice_get pass.waiting.items) kept.row ∙ in_row));
         };
       }
 
