@@ -174,8 +174,8 @@ in_whole ts i t m = rw take-append-drop at (Contains-append_left (take i ts) (dr
 
 -- the pairs from one more task of a list
 pub pairs_more :
-    (Pair : TaskId → TaskId → Type 0) (wanted ts : List TaskId) (i : ℕ) (d : TaskId) → i < length ts → ((b : TaskId) → Contains wanted b ↔ Pair (get_or ts i d) b) →
-    (x y : TaskId) → PairsFrom Pair (take (i + 1) ts) x y ↔ (PairsFrom Pair (take i ts) x y ⊎ ToWanted (get_or ts i d) wanted x y)
+    (Pair : TaskId → TaskId → Type 0) (wanted ts : List TaskId) (i : ℕ) (d : TaskId) → i < length ts →
+    ((b : TaskId) → Contains wanted b ↔ Pair (get_or ts i d) b) → (x y : TaskId) → PairsFrom Pair (take (i + 1) ts) x y ↔ (PairsFrom Pair (take i ts) x y ⊎ ToWanted (get_or ts i d) wanted x y)
 pairs_more Pair wanted ts i d lt is x y =
     let t : TaskId = get_or ts i d in
     rw (take_more ts i d lt) (
@@ -191,8 +191,8 @@ pairs_more Pair wanted ts i d lt is x y =
 
 -- the pairs from the first tasks of a list, and from the next one, are pairs from its tasks
 pub pairs_so_far :
-    (Pair : TaskId → TaskId → Type 0) (wanted ts : List TaskId) (i : ℕ) (d : TaskId) → i < length ts → ((b : TaskId) → Contains wanted b ↔ Pair (get_or ts i d) b) →
-    (x y : TaskId) → PairsFrom Pair (take i ts) x y ⊎ ToWanted (get_or ts i d) wanted x y → PairsFrom Pair ts x y
+    (Pair : TaskId → TaskId → Type 0) (wanted ts : List TaskId) (i : ℕ) (d : TaskId) → i < length ts →
+    ((b : TaskId) → Contains wanted b ↔ Pair (get_or ts i d) b) → (x y : TaskId) → PairsFrom Pair (take i ts) x y ⊎ ToWanted (get_or ts i d) wanted x y → PairsFrom Pair ts x y
 pairs_so_far Pair wanted ts i d lt is x y h = let (m, p) = (pairs_more Pair wanted ts i d lt is x y).1 h in (in_whole ts (i + 1) x m, p)
 
 -- a relation with the same pairs reaches the same cycles

@@ -21,7 +21,9 @@ abbrev pub Possible : Known → Type 0
 Possible k = IsPossible k (λ s. Unit {0})
 
 -- there is one after each load
-pub after_load : (Holds : State → Type 0) (before now : Known) → IsSameSeat before.view now.view → WasSo before.view.plan before.view.mode Holds before.view now.view → Possible now
+pub after_load :
+    (Holds : State → Type 0) (before now : Known) → IsSameSeat before.view now.view → WasSo before.view.plan before.view.mode Holds before.view now.view →
+    Possible now
 after_load Holds before now same was =
     record {
       places = was.places;

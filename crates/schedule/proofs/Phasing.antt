@@ -76,13 +76,15 @@ module _ (plan : Plan) (pass : OpenPass) (mid : IsMidPass plan pass) where
   pub task_within : (w : Waiting) → w ≡ get_or pass.waiting.items pass.row w → w.t.0 < length plan.parents
   task_within w is =
       let given = mid.of.awaits.waiting mid.loads (itself mid.loads) ∙ ap (given_below (waiting_found mid.loads)) all_loaded in
-      let (t, l, gives, counted) = at_place (waiting_found mid.loads) (length plan.parents) pass.row w (ap (λ v. slice_get v pass.row) (sym given) ∙ at_row w is) in
+      let (t, l, gives, counted) = at_place (waiting_found mid.loads) (length plan.parents) pass.row w
+      (ap (λ v. slice_get v pass.row) (sym given) ∙ at_row w is) in
       subst (λ k. k < length plan.parents) (number_of_found t (event_found mid.loads t) w gives) l
 
   pub phaser_within : (p : PhaserId) → p ≡ get_or pass.awaited.items pass.column p → p.0 < length plan.makers
   phaser_within p is =
       let given = mid.of.awaits.awaited mid.loads (itself mid.loads) all_loaded in
-      let (q, l, gives, counted) = at_place (awaited_phaser plan mid.loads) (length plan.makers) pass.column p (ap (λ v. slice_get v pass.column) (sym given) ∙ at_column p is) in
+      let (q, l, gives, counted) = at_place (awaited_phaser plan mid.loads) (length plan.makers) pass.column p
+      (ap (λ v. slice_get v pass.column) (sym given) ∙ at_column p is) in
       subst (λ k. k < length plan.makers) (number_of_marked q (is_found_awaited plan mid.loads q) p gives) l
 
 -- the next load finds the phase of the row's task on the column's phaser
@@ -114,7 +116,8 @@ module _ (plan : Plan) (pass : OpenPass) (mid : IsMidPass plan pass) (loads : Lo
     column_is : awaited_below plan all p.0 ≡ pass.column
     column_is =
         let given = of.awaits.awaited all before full in
-        let (q, l, gives, counted) = at_place (awaited_phaser plan all) (length plan.makers) pass.column p (ap (λ v. slice_get v pass.column) (sym given) ∙ at_column plan pass mid p there) in
+        let (q, l, gives, counted) = at_place (awaited_phaser plan all) (length plan.makers) pass.column p
+        (ap (λ v. slice_get v pass.column) (sym given) ∙ at_column plan pass mid p there) in
         ap (awaited_below plan all) (sym (number_of_marked q (is_found_awaited plan all q) p gives))
         ∙ sym (count_same (λ k. is_some (awaited_phaser plan all k)) (is_found_awaited plan all) q (λ k. some_if (is_found_awaited plan all k) (record { 0 = k }))) ∙ counted
 

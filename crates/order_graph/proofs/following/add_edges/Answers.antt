@@ -11,7 +11,8 @@ returns-in-Cycle-clause-row c =
     let b : TaskId = get_or c.args.wanted.now i none in
     let added = rw c.in-Cycle.is at c.in_ok-add.ensures.added in
     adds_stop (ToWanted c.args.t (take i c.args.wanted.now)) (IsOne c.args.t b) (ToWanted c.args.t c.args.wanted.now) c.args.order.now c.loop-b.order c.add.new.self
-    c.loop-b.invariant.adds (rw added.0 (stops_one c.args.t b c.loop-b.order c.in-Cycle.field-0 added.1)) (wanted_so_far c.args.t c.args.wanted.now i none (omega arith))
+    c.loop-b.invariant.adds (rw added.0 (stops_one c.args.t b c.loop-b.order c.in-Cycle.field-0 added.1))
+    (wanted_so_far c.args.t c.args.wanted.now i none (omega arith))
 
 pub loop-b-preserved : goal.loop-b-preserved
 loop-b-preserved c =

@@ -36,6 +36,7 @@ loop-t-preserved c =
     record {
       order = c.in_ok-add_row.ensures.order;
       tasks = c.in_ok-add_row.ensures.tasks ∙ c.loop-t.invariant.tasks;
-      adds = adds_both (PairsFrom (Awaits w) (take i ts)) (ToWanted (get_or ts i none) set) (PairsFrom (Awaits w) (take (i + 1) ts)) c.args.order.now c.loop-t.order
-          c.add_row.new.order c.loop-t.invariant.adds (rw c.in_default.is at c.in_ok-add_row.ensures.row) (pairs_more (Awaits w) set ts i none (omega arith) (own at));
+      adds = adds_both (PairsFrom (Awaits w) (take i ts)) (ToWanted (get_or ts i none) set) (PairsFrom (Awaits w) (take (i + 1) ts)) c.args.order.now
+          c.loop-t.order c.add_row.new.order c.loop-t.invariant.adds (rw c.in_default.is at c.in_ok-add_row.ensures.row)
+          (pairs_more (Awaits w) set ts i none (omega arith) (own at));
     }

@@ -23,7 +23,8 @@ returns-in_ok-end_row c =
     let w = c.index-waiting.result.now in
     let p = c.index-p.result.now in
     record {
-      loaded = λ loads h at of. row_ends world.plan pass c.requires.open loads h of w c.index-waiting.ensures p c.index-p.ensures c.keep_phase.new.self c.end_row.new.self
+      loaded = λ loads h at of. row_ends world.plan pass c.requires.open loads h of w c.index-waiting.ensures p c.index-p.ensures
+          c.keep_phase.new.self c.end_row.new.self
           (subst (KeepsPhase pass c.keep_phase.new.self p) (c.phase-found.ensures.phase ∙ ap (λ s. s.phases w.t.0 p.0) (state_is world h at)) c.in_ok-keep_phase.ensures.kept)
           (let e = c.if-self-len.true in omega arith)
           c.in_ok-end_row.ensures.ended;

@@ -28,6 +28,7 @@ exchange-requires g c =
     let one = c.if-found-ne1.false in
     let told = c.compare_exchange-found.ensures.2.got one in
     let slots = ap (λ m. m.1) told.2 in (
-      c.compare_exchange-found.ensures.0 ∙ (at_table c.args.t.0 (ap (λ h. h.table) c.self.view_is) c.pool.view_is c.pool.invariant c.requires.made c.requires.task).0,
+      c.compare_exchange-found.ensures.0
+          ∙ (at_table c.args.t.0 (ap (λ h. h.table) c.self.view_is) c.pool.view_is c.pool.invariant c.requires.made c.requires.task).0,
       (Some told.0, slots ∙ ap (λ xs. (c.args.t.0, Some told.0) ∷ rest xs) (sym slots)),
     )

@@ -12,7 +12,8 @@ use Rattle.slot_pool.proofs.worker.Worker.place.Goals as goal
 pub compare_exchange-found-requires : goal.compare_exchange-found-requires
 compare_exchange-found-requires g c =
     let t = c.id-slot.result.0 in
-    let (table, within, small) = at_table t (ap (λ h. h.table) c.self.view_is) c.pool.view_is c.pool.invariant c.requires.made (omega (arith, c.id-slot.ensures, c.requires.task)) in
+    let (table, within, small) = at_table t (ap (λ h. h.table) c.self.view_is) c.pool.view_is c.pool.invariant c.requires.made
+    (omega (arith, c.id-slot.ensures, c.requires.task)) in
     let key = c.pool.inside.slots.shared.key in
     let slots = c.pool.inside.slots.shared.table_id.slots in
     let id = c.self.inside.place.id in
@@ -33,6 +34,7 @@ pub invariant_of-self-2 : goal.invariant_of-self-2
 invariant_of-self-2 g c =
     let after = c.compare_exchange-found.new.seat in
     let t = c.id-slot.result.0 in
-    let (table, within, small) = at_table t (ap (λ h. h.table) c.self.view_is) c.pool.view_is c.pool.invariant c.requires.made (omega (arith, c.id-slot.ensures, c.requires.task)) in
+    let (table, within, small) = at_table t (ap (λ h. h.table) c.self.view_is) c.pool.view_is c.pool.invariant c.requires.made
+    (omega (arith, c.id-slot.ensures, c.requires.task)) in
     placing_at_work c.self.inside.place.table_id after.table_id c.compare_exchange-found.ensures.0 c.self.inside.number c.self.inside.place.me after.me _ _ c.self.invariant t
     (subst (λ (i : TableId). t < i.words) (sym table) within) (c.compare_exchange-found.ensures.2.placed c.if-found-ne0.false).1
