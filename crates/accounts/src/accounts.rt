@@ -10,7 +10,8 @@ ghost use Rattle.pl_syntax.specs.Grammar.{IsText};
 ghost use Rattle.pl_syntax.specs.Tree.{count};
 ghost use Rattle.origins.specs.Origins.{phaser_origins};
 ghost use Rattle.accounts.specs.Accounts.{IsAccount, IsTaskAccount, HasWait, statement_place};
-ghost use Rattle.accounts.specs.inside.Facts.{AreTold, IsKnown, layout_of};
+ghost use Rattle.accounts.specs.calls.Known.{AreKnownFacts, kept_layout};
+ghost use Rattle.accounts.specs.inside.Facts.{AreTold};
 
 use crate::account::{Account, TaskAccount, Waiting};
 use crate::facts::TextFacts;
@@ -23,44 +24,42 @@ use text_places::{TextPlace, TextPlaces};
 
 // Where a task waits that has ended so, if it waits.
 fn wait_of(
-    alloc: Global,
     facts: &TextFacts<'_>,
     world: &World<'_>,
     t: TaskId,
     end: &TaskEnd,
 ) -> Result<Option<Waiting>, NoMemory>
-    requires known { IsKnown facts.now }
+    requires known { AreKnownFacts facts.now }
     requires unfolds { plan_of facts.now.program.now ≡ Ok world.now.plan }
     requires checked { IsCheckedPlan world.now.plan }
     requires reachable { IsReachable world.now.plan (places_of world.now) }
     requires task { t.0 < length world.now.plan.parents }
     requires end { end_of (state_of world.now) t.0 ≡ end.now }
-    ensures { IfOk result (HasWait (layout_of facts.now) facts.now.program.now world.now.plan (places_of world.now) t.0 end.now) }
+    ensures { IfOk result (HasWait (kept_layout facts.now) facts.now.program.now world.now.plan (places_of world.now) t.0 end.now) }
 {
     match end {
-        TaskEnd::Blocked(event) => Ok(Some(waiting_of(alloc, facts, world, t, *event)?)),
+        TaskEnd::Blocked(event) => Ok(Some(waiting_of(facts, world, t, *event)?)),
         TaskEnd::Done | TaskEnd::Refused(_) | TaskEnd::Unforked => Ok(None),
     }
 }
 
 // What is known of a task that has ended so.
 fn task_account(
-    alloc: Global,
     facts: &TextFacts<'_>,
     world: &World<'_>,
     t: TaskId,
     end: &TaskEnd,
 ) -> Result<TaskAccount, NoMemory>
-    requires known { IsKnown facts.now }
+    requires known { AreKnownFacts facts.now }
     requires unfolds { plan_of facts.now.program.now ≡ Ok world.now.plan }
     requires checked { IsCheckedPlan world.now.plan }
     requires reachable { IsReachable world.now.plan (places_of world.now) }
     requires task { t.0 < length world.now.plan.parents }
     requires end { end_of (state_of world.now) t.0 ≡ end.now }
-    ensures { IfOk result (IsTaskAccount (layout_of facts.now) facts.now.program.now world.now.plan (places_of world.now) t.0) }
+    ensures { IfOk result (IsTaskAccount (kept_layout facts.now) facts.now.program.now world.now.plan (places_of world.now) t.0) }
 {
-    let drawn = facts.drawn(alloc, t)?;
-    let wait = wait_of(alloc, facts, world, t, end)?;
+    let drawn = facts.drawn(t)?;
+    let wait = wait_of(facts, world, t, end)?;
     Ok(TaskAccount {
         drawn,
         fork: facts.forked(world.plan(), t),
@@ -71,31 +70,30 @@ fn task_account(
 
 // What is known of the tasks, which have ended so.
 fn task_accounts(
-    alloc: Global,
     facts: &TextFacts<'_>,
     world: &World<'_>,
     ends: &[TaskEnd],
 ) -> Result<List<TaskAccount>, NoMemory>
-    requires known { IsKnown facts.now }
+    requires known { AreKnownFacts facts.now }
     requires unfolds { plan_of facts.now.program.now ≡ Ok world.now.plan }
     requires ends { ends.now ≡ list_below (end_of (state_of world.now)) (length world.now.plan.parents) }
-    ensures { IfOk result (AreTold (layout_of facts.now) facts.now.program.now world.now.plan (places_of world.now) (length world.now.plan.parents)) }
+    ensures { IfOk result (AreTold (kept_layout facts.now) facts.now.program.now world.now.plan (places_of world.now) (length world.now.plan.parents)) }
 {
     let plan = world.plan();
-    let mut all = Vec::with_capacity(alloc, ends.len())?;
+    let mut all = Vec::with_capacity(facts.alloc, ends.len())?;
     for t in 0..plan.tasks() {
-        all.push(task_account(alloc, facts, world, TaskId(t), &ends[t as usize])?)?;
+        all.push(task_account(facts, world, TaskId(t), &ends[t as usize])?)?;
     }
     Ok(List::from_vec(all))
 }
 
 // Where the phasers are made.
-fn phaser_places(alloc: Global, facts: &TextFacts<'_>) -> Result<List<TextPlace>, NoMemory>
-    requires { IsKnown facts.now }
-    ensures { IfOk result (λ made. made ≡ map (statement_place (layout_of facts.now)) (phaser_origins facts.now.program.now)) }
+fn phaser_places(facts: &TextFacts<'_>) -> Result<List<TextPlace>, NoMemory>
+    requires { AreKnownFacts facts.now }
+    ensures { IfOk result (λ made. made ≡ map (statement_place (kept_layout facts.now)) (phaser_origins facts.now.program.now)) }
 {
     let phasers = facts.origins.phasers();
-    let mut made = Vec::with_capacity(alloc, phasers.len())?;
+    let mut made = Vec::with_capacity(facts.alloc, phasers.len())?;
     for n in phasers {
         made.push(facts.statement(*n))?;
     }
@@ -104,18 +102,17 @@ fn phaser_places(alloc: Global, facts: &TextFacts<'_>) -> Result<List<TextPlace>
 
 // The account, by what is known from the text.
 fn account_with(
-    alloc: Global,
     facts: &TextFacts<'_>,
     world: &World<'_>,
     ends: &[TaskEnd],
 ) -> Result<Account, NoMemory>
-    requires known { IsKnown facts.now }
+    requires known { AreKnownFacts facts.now }
     requires unfolds { plan_of facts.now.program.now ≡ Ok world.now.plan }
     requires ends { ends.now ≡ list_below (end_of (state_of world.now)) (length world.now.plan.parents) }
     ensures { IfOk result (IsAccount facts.now.places.now facts.now.program.now world.now.plan (places_of world.now)) }
 {
-    let tasks = task_accounts(alloc, facts, world, ends)?;
-    let phasers = phaser_places(alloc, facts)?;
+    let tasks = task_accounts(facts, world, ends)?;
+    let phasers = phaser_places(facts)?;
     Ok(Account { tasks, phasers })
 }
 
@@ -138,5 +135,5 @@ pub fn account_of(
     ensures account { IfOk result (IsAccount places.now program.now world.now.plan (places_of world.now)) }
 {
     let facts = TextFacts::new(alloc, places, program, forks)?;
-    account_with(alloc, &facts, world, ends)
+    account_with(&facts, world, ends)
 }

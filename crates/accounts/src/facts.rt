@@ -6,7 +6,7 @@ ghost use Rattle.pl_syntax.specs.Tree.{count};
 ghost use Rattle.origins.specs.Origins.{last_origin};
 ghost use Rattle.origins.specs.inside.Tables.{coming_of};
 ghost use Rattle.accounts.specs.Accounts.{brace_of, drawn_of, end_place, ended_of, forked_of, drawn_name, numbered, place_or_end, statement_place};
-ghost use Rattle.accounts.specs.inside.Facts.{IsKnown, layout_of};
+ghost use Rattle.accounts.specs.calls.Known.{AreKnownFacts, kept_layout};
 
 use crate::account::{Drawn, Ended, Forked};
 use armus_base::{List, NoMemory, Plan, TaskId};
@@ -17,12 +17,19 @@ use text_places::{TextPlace, TextPlaces};
 
 /// What is known from a text alone: where its statements and the bodies of these stand, and from which of them tasks, phasers and ops come.
 #[derive(Drop)]
-pub(crate) struct TextFacts<'a> {
-    pub(crate) places: &'a TextPlaces<'a>,
-    pub(crate) program: &'a Program,
-    pub(crate) origins: Origins<'a>,
-    pub(crate) offsets: List<u32>,
-    pub(crate) ends: List<Option<u32>>,
+pub struct TextFacts<'a> {
+    /// The allocator.
+    pub alloc: Global,
+    /// The places of the text.
+    pub places: &'a TextPlaces<'a>,
+    /// Its program.
+    pub program: &'a Program,
+    /// From which statements ops, phasers and tasks come.
+    pub origins: Origins<'a>,
+    /// The offset of each statement, in order of number.
+    pub offsets: List<u32>,
+    /// The offset of the brace that closes the body of each statement, in order of number.
+    pub ends: List<Option<u32>>,
 }
 
 // The place of this byte of the text, and the end of the text where there is none.
@@ -69,8 +76,8 @@ fn name_of(alloc: Global, stmt: Option<&Stmt>) -> Result<List<u8>, NoMemory>
 }
 
 impl<'a> TextFacts<'a> {
-    // What is known of this text and its program, by the forks that `unfold` answers.
-    pub(crate) fn new(
+    /// What is known of this text and its program, by the forks that `unfold` answers.
+    pub fn new(
         alloc: Global,
         places: &'a TextPlaces<'a>,
         program: &'a Program,
@@ -79,7 +86,7 @@ impl<'a> TextFacts<'a> {
         requires few { count program.now.body + 1 < 2 ^ 32 }
         requires reads { IsText places.now program.now }
         requires forks { forks.items ≡ fork_statements program.now }
-        ensures known { IfOk result (λ facts. IsKnown facts) }
+        ensures known { IfOk result (λ facts. AreKnownFacts facts) }
         ensures text { IfOk result (λ facts. facts.places.now ≡ places.now) }
         ensures program { IfOk result (λ facts. facts.program.now ≡ program.now) }
     {
@@ -87,6 +94,7 @@ impl<'a> TextFacts<'a> {
         let ends = body_ends(alloc, places.text(), program)?;
         let origins = Origins::new(alloc, program, forks)?;
         Ok(TextFacts {
+            alloc,
             places,
             program,
             origins,
@@ -95,29 +103,29 @@ impl<'a> TextFacts<'a> {
         })
     }
 
-    // The place of a statement.
-    pub(crate) fn statement(&self, n: u32) -> TextPlace
-        ensures { result ≡ statement_place (layout_of self.now) n }
+    /// The place of a statement; the end of the text where it has none of this number.
+    pub fn statement(&self, n: u32) -> TextPlace
+        ensures { result ≡ statement_place (kept_layout self.now) n }
     {
         place_or_end(self.places, offset_at(self.offsets.as_slice(), n))
     }
 
-    // The place at which the body of a fork ends.
-    fn end(&self, fork: u32) -> TextPlace
-        ensures { result ≡ end_place (layout_of self.now) fork }
+    /// The place at which the body of a fork ends.
+    pub fn end(&self, fork: u32) -> TextPlace
+        ensures { result ≡ end_place (kept_layout self.now) fork }
     {
         place_or_end(self.places, end_at(self.ends.as_slice(), fork))
     }
 
     // Where a task is drawn.
-    pub(crate) fn drawn(&self, alloc: Global, t: TaskId) -> Result<Option<Drawn>, NoMemory>
-        requires { IsKnown self.now }
-        ensures { IfOk result (λ drawn. drawn ≡ drawn_of (layout_of self.now) self.now.program.now t.0) }
+    pub(crate) fn drawn(&self, t: TaskId) -> Result<Option<Drawn>, NoMemory>
+        requires { AreKnownFacts self.now }
+        ensures { IfOk result (λ drawn. drawn ≡ drawn_of (kept_layout self.now) self.now.program.now t.0) }
     {
         let Some(n) = self.origins.task(t) else {
             return Ok(None);
         };
-        let name = name_of(alloc, self.origins.statement(n))?;
+        let name = name_of(self.alloc, self.origins.statement(n))?;
         Ok(Some(Drawn {
             at: self.statement(n),
             name,
@@ -126,9 +134,9 @@ impl<'a> TextFacts<'a> {
 
     // Where a task is forked.
     pub(crate) fn forked(&self, plan: &Plan, t: TaskId) -> Option<Forked>
-        requires known { IsKnown self.now }
+        requires known { AreKnownFacts self.now }
         requires task { t.0 < length plan.now.parents }
-        ensures { result ≡ forked_of (layout_of self.now) self.now.program.now plan.now t.0 }
+        ensures { result ≡ forked_of (kept_layout self.now) self.now.program.now plan.now t.0 }
     {
         let n = self.origins.fork(t)?;
         let by = plan.parent(t)?;
@@ -140,8 +148,8 @@ impl<'a> TextFacts<'a> {
 
     // The place of the statement of a task's last visit.
     fn last(&self, t: TaskId) -> Option<TextPlace>
-        requires { IsKnown self.now }
-        ensures { result ≡ option_map (statement_place (layout_of self.now)) (last_origin self.now.program.now t.0) }
+        requires { AreKnownFacts self.now }
+        ensures { result ≡ option_map (statement_place (kept_layout self.now)) (last_origin self.now.program.now t.0) }
     {
         match self.origins.last(self.program, t) {
             Some(n) => Some(self.statement(n)),
@@ -151,8 +159,8 @@ impl<'a> TextFacts<'a> {
 
     // Where the code of a task ends.
     pub(crate) fn ended(&self, t: TaskId) -> Option<Ended>
-        requires { IsKnown self.now }
-        ensures { result ≡ ended_of (layout_of self.now) self.now.program.now t.0 }
+        requires { AreKnownFacts self.now }
+        ensures { result ≡ ended_of (kept_layout self.now) self.now.program.now t.0 }
     {
         let fork = self.origins.fork(t)?;
         Some(Ended {

@@ -6,9 +6,12 @@ mod accounts;
 mod facts;
 mod laws;
 mod waiting;
+mod words;
 
 pub use account::{Account, Drawn, Ended, Forked, TaskAccount, Turn, Waiting};
 pub use accounts::account_of;
+pub use facts::TextFacts;
 pub use laws::{
     account_exists, forkers_fork, one_account, statements_have_places, tasks_are_of_text,
 };
+pub use words::{put_await, put_number, put_words};

@@ -1,5 +1,5 @@
 // Where a task waits.
-ghost use Rattle.std.specs.Prelude.{◌≡◌, ◌++◌, ◌<◌, IfOk, OnOk, length, option_map, Ok};
+ghost use Rattle.std.specs.Prelude.{◌≡◌, ◌<◌, IfOk, length, option_map, Ok};
 ghost use Rattle.armus_base.specs.declared.ending.TaskEnd.TheVariants.{Blocked};
 ghost use Rattle.armus_base.specs.CheckedPlans.{IsCheckedPlan};
 ghost use Rattle.armus_base.specs.Finals.{end_of};
@@ -9,44 +9,24 @@ ghost use Rattle.origins.specs.Turns.{op_turns};
 ghost use Rattle.origins.specs.inside.Tables.{coming_of};
 ghost use Rattle.pl_core.specs.calls.Worlds.{places_of, state_of};
 ghost use Rattle.pl_plan.specs.Unfolding.{plan_of};
-ghost use Rattle.pl_syntax.specs.Printed.{offset_text};
 ghost use Rattle.accounts.specs.Accounts.{IsWaiting, placed_turns, words_of};
 ghost use Rattle.accounts.specs.AwaitWords.{await_text};
-ghost use Rattle.accounts.specs.inside.Facts.{IsKnown, layout_of};
+ghost use Rattle.accounts.specs.calls.Known.{AreKnownFacts, kept_layout};
 
 use crate::account::{Turn, Waiting};
 use crate::facts::TextFacts;
+use crate::words::put_await;
 use armus_base::{Event, List, NoMemory, Offset, TaskId};
 use pl_core::World;
 use pl_syntax::{Name, Stmt};
-use std::alloc::{AllocError, Global};
-
-// Appends how far an await looks back or ahead.
-fn put_offset(alloc: Global, out: &mut Vec<u8>, off: Offset) -> Result<(), AllocError>
-    ensures { OnOk result (out.new.items ≡ out.old.items ++ offset_text off) }
-{
-    match off {
-        Offset::Here => {}
-        Offset::Back(k) => {
-            let number = format!(in alloc; " - {k}")?;
-            out.extend_from_slice(number.as_bytes())?;
-        }
-        Offset::Ahead(k) => {
-            let number = format!(in alloc; " + {k}")?;
-            out.extend_from_slice(number.as_bytes())?;
-        }
-    }
-    Ok(())
-}
+use std::alloc::Global;
 
 // The words of an await.
-fn await_text(alloc: Global, x: &Name, off: Offset) -> Result<List<u8>, AllocError>
+fn await_text(alloc: Global, x: &Name, off: Offset) -> Result<List<u8>, NoMemory>
     ensures { IfOk result (λ words. words ≡ await_text x.now off) }
 {
-    let mut out = Vec::from_slice(alloc, b"await(")?;
-    out.extend_from_slice(x.as_bytes())?;
-    put_offset(alloc, &mut out, off)?;
-    out.extend_from_slice(b")")?;
+    let mut out = Vec::new(alloc);
+    put_await(alloc, &mut out, x, off)?;
     Ok(List::from_vec(out))
 }
 
@@ -55,18 +35,18 @@ fn words_of(alloc: Global, stmt: Option<&Stmt>) -> Result<List<u8>, NoMemory>
     ensures { IfOk result (λ words. words ≡ words_of (option_map (λ s. coming_of s.now) stmt.entry)) }
 {
     match stmt {
-        Some(Stmt::Await { x, off }) => Ok(await_text(alloc, x, *off)?),
+        Some(Stmt::Await { x, off }) => await_text(alloc, x, *off),
         _ => Ok(List::new(alloc)),
     }
 }
 
 // The turns of op i of a task, with the places of their loops.
-fn turns_of(alloc: Global, facts: &TextFacts<'_>, t: TaskId, i: u32) -> Result<List<Turn>, NoMemory>
-    requires { IsKnown facts.now }
-    ensures { IfOk result (λ turns. turns ≡ placed_turns (layout_of facts.now) (op_turns facts.now.program.now t.0 i)) }
+fn turns_of(facts: &TextFacts<'_>, t: TaskId, i: u32) -> Result<List<Turn>, NoMemory>
+    requires { AreKnownFacts facts.now }
+    ensures { IfOk result (λ turns. turns ≡ placed_turns (kept_layout facts.now) (op_turns facts.now.program.now t.0 i)) }
 {
-    let found = facts.origins.turns(alloc, facts.program, t, i)?;
-    let mut turns = Vec::with_capacity(alloc, found.as_slice().len())?;
+    let found = facts.origins.turns(facts.alloc, facts.program, t, i)?;
+    let mut turns = Vec::with_capacity(facts.alloc, found.as_slice().len())?;
     for turn in found.as_slice() {
         turns.push(Turn {
             turn: turn.turn,
@@ -78,19 +58,18 @@ fn turns_of(alloc: Global, facts: &TextFacts<'_>, t: TaskId, i: u32) -> Result<L
 
 // Where a task waits for this event in a world.
 pub(crate) fn waiting_of(
-    alloc: Global,
     facts: &TextFacts<'_>,
     world: &World<'_>,
     t: TaskId,
     event: Event,
 ) -> Result<Waiting, NoMemory>
-    requires known { IsKnown facts.now }
+    requires known { AreKnownFacts facts.now }
     requires unfolds { plan_of facts.now.program.now ≡ Ok world.now.plan }
     requires checked { IsCheckedPlan world.now.plan }
     requires reachable { IsReachable world.now.plan (places_of world.now) }
     requires task { t.0 < length world.now.plan.parents }
     requires waits { end_of (state_of world.now) t.0 ≡ Blocked event }
-    ensures { IfOk result (IsWaiting (layout_of facts.now) facts.now.program.now world.now.plan (places_of world.now) t.0 event) }
+    ensures { IfOk result (IsWaiting (kept_layout facts.now) facts.now.program.now world.now.plan (places_of world.now) t.0 event) }
 {
     let op = world.op(t);
     let Some(n) = facts.origins.op(facts.program, t, op) else {
@@ -101,9 +80,9 @@ pub(crate) fn waiting_of(
     };
     Ok(Waiting {
         at: facts.statement(n),
-        words: words_of(alloc, facts.origins.statement(n))?,
+        words: words_of(facts.alloc, facts.origins.statement(n))?,
         event,
         phase,
-        turns: turns_of(alloc, facts, t, op)?,
+        turns: turns_of(facts, t, op)?,
     })
 }

@@ -2,7 +2,8 @@
 ghost use Rattle.std.specs.Prelude.{◌≡◌, ◌++◌, OnOk, count_by};
 ghost use Rattle.clock_sayings.specs.ClockExplanations.{ended_counts, is_ended, is_unstarted, waits_there, nobody_line, some_activity_waits, waiting_counts};
 
-use crate::words::{put_number, put_words};
+use crate::words::put_number;
+use accounts::put_words;
 use armus_base::{NoMemory, TaskEnd};
 use std::alloc::Global;
 

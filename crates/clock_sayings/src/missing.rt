@@ -5,7 +5,7 @@ ghost use Rattle.clock_sayings.specs.ClockWords.{activity_words};
 
 use crate::facts::Facts;
 use crate::text_facts::ClockTextFacts;
-use crate::words::put_words;
+use accounts::put_words;
 use armus_base::{Event, Member, NoMemory, Status};
 
 // Whether this is a phase of that clock or finish, and below the phase that is waited for.

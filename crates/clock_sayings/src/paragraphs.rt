@@ -5,7 +5,8 @@ ghost use Rattle.clock_sayings.specs.ClockExplanations.{lines_below, activity_pa
 
 use crate::facts::Facts;
 use crate::text_facts::ClockTextFacts;
-use crate::words::{put_number, put_words};
+use crate::words::put_number;
+use accounts::put_words;
 use armus_base::{Event, NoMemory, TaskEnd};
 use clock_origins::{ClockBegun, ClockThing};
 

@@ -4,7 +4,7 @@ ghost use Rattle.clock_sayings.specs.ClockExplanations.{line_if_pending, lines_b
 
 use crate::facts::Facts;
 use crate::text_facts::ClockTextFacts;
-use crate::words::put_words;
+use accounts::put_words;
 use armus_base::{Event, NoMemory, PhaserId};
 use clock_origins::ClockThing;
 

@@ -7,7 +7,8 @@ ghost use Rattle.clock_syntax.specs.Grammar.{IsClockText};
 ghost use Rattle.clock_origins.specs.ClockOffsets.{clock_offsets};
 ghost use Rattle.clock_sayings.specs.ClockRefusals.{clock_fault_lines, clock_numbers, clock_syntax_lines, fault_lines, fault_words, syntax_words};
 
-use crate::words::{offset_of, put_words};
+use crate::words::offset_of;
+use accounts::put_words;
 use armus_base::{List, NoMemory};
 use clock_origins::clock_offsets;
 use clock_syntax::ClockProgram;

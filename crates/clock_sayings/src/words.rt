@@ -3,18 +3,11 @@ ghost use Rattle.std.specs.Prelude.{◌≡◌, ◌++◌, ℕ, List, OnOk, decima
 ghost use Rattle.clock_sayings.specs.ClockWords.{activity_words, async_words, front_of, made_clock_words, made_finish_words, offset_of, statement_place_words, standing_words, started_words, clock_statement_place};
 
 use crate::text_facts::ClockTextFacts;
+use accounts::put_words;
 use armus_base::NoMemory;
 use clock_origins::ClockBegun;
 use std::alloc::Global;
 use text_places::TextPlace;
-
-// Appends words.
-pub(crate) fn put_words(out: &mut Vec<u8>, words: &[u8]) -> Result<(), NoMemory>
-    ensures { OnOk result (out.new.items ≡ out.old.items ++ words.now) }
-{
-    out.extend_from_slice(words)?;
-    Ok(())
-}
 
 // Appends a number.
 pub(crate) fn put_number(alloc: Global, out: &mut Vec<u8>, number: usize) -> Result<(), NoMemory>

@@ -2,7 +2,7 @@
 ghost use Rattle.std.specs.Prelude.{◌≡◌, ◌++◌, ◌+◌, ◌<◌, ◌^◌, ℕ, OnOk, Some, codes, decimal, length, option_copied, option_map};
 ghost use Rattle.armus_base.specs.Plans.{code_of};
 ghost use Rattle.armus_base.specs.States.{IsActive};
-ghost use Rattle.pl_core.specs.calls.Stands.{IsBeforeOp, IsEnabled};
+ghost use Rattle.pl_core.specs.calls.Stands.{IsEnabled};
 ghost use Rattle.pl_core.specs.Tasks.{IsAtOp};
 ghost use Rattle.pl_core.specs.calls.Worlds.{action_by_code, places_of, state_of};
 ghost use Rattle.pl_core.specs.inside.Ops.{action_of};
@@ -12,11 +12,11 @@ ghost use Rattle.clock_sayings.specs.ClockWords.{activity_words, made_clock_word
 ghost use Rattle.clock_steps.specs.ClockStepWords.{awaited_event_words, clock_change_words, clock_wait_words, left_finish_words, left_words, making_words, registered_words, said_of_thing, signalled_words};
 
 use crate::facts::ClockOpFacts;
+use accounts::{put_number, put_words};
 use armus_base::{Event, NoMemory, Op, Phase, TaskId};
 use clock_origins::ClockThing;
 use pl_core::{Stand, World};
 use step_lines::{put_phase_change, put_with_phase, ready_op};
-use task_sayings::{put_number, put_words};
 
 // The words with which an activity leaves a finish, by an op of this origin.
 fn left_finish_words(origin: Option<u32>) -> &'static [u8]
@@ -263,24 +263,6 @@ impl<'a> ClockOpFacts<'a> {
         }
     }
 
-    // Appends what the next step of an activity changes that stands before op `i` of its code, of this origin, which is no await.
-    fn put_ready(
-        &self,
-        out: &mut Vec<u8>,
-        world: &World<'_>,
-        t: TaskId,
-        i: u32,
-        origin: Option<u32>,
-    ) -> Result<(), NoMemory>
-        requires task { t.0 < length world.now.plan.parents }
-        requires ready { IsBeforeOp world.now t.0 }
-        requires at { IsAtOp (code_of world.now.plan t.0) (places_of world.now t.0).done i }
-        ensures { OnOk result (out.new.items ≡ out.old.items ++ said_of (clock_change_words self.now.of_text (state_of world.now) t.0 origin) (action_by_code world.now t.0)) }
-    {
-        let op = ready_op(world, t, i);
-        self.put_op(out, world, t, op, origin)
-    }
-
     // Appends what the next step of an activity changes that may go on and stands at op `i` of its code, of this origin.
     pub(crate) fn put_change(
         &self,
@@ -296,7 +278,7 @@ impl<'a> ClockOpFacts<'a> {
         ensures { OnOk result (out.new.items ≡ out.old.items ++ said_of (clock_change_words self.now.of_text (state_of world.now) t.0 origin) (action_by_code world.now t.0)) }
     {
         match world.stand(t) {
-            Stand::Ready => self.put_ready(out, world, t, i, origin),
+            Stand::Ready => self.put_op(out, world, t, ready_op(world, t, i), origin),
             Stand::Await(event) => self.put_waits(out, event),
             Stand::Waits(_) => put_words(out, b"goes on"),
             Stand::Unforked | Stand::Done | Stand::Refused(_) => unreachable!(),

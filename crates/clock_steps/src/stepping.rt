@@ -12,13 +12,13 @@ ghost use Rattle.clock_steps.specs.calls.Known.{known_ops};
 ghost use Rattle.clock_steps.specs.calls.SteppedClocks.{IsSteppedClockRun};
 
 use crate::facts::ClockOpFacts;
+use accounts::{put_number, put_words};
 use armus_base::{NoMemory, Plan, TaskId};
 use clock_sayings::ClockLayout;
 use clock_syntax::ClockProgram;
 use pl_core::World;
 use std::alloc::Global;
 use step_lines::{SteppedRun, TellsSteps, op_at, step_to_end};
-use task_sayings::{put_number, put_words};
 use text_places::TextPlaces;
 
 impl<'a> TellsSteps for ClockOpFacts<'a> {

@@ -5,9 +5,9 @@ ghost use Rattle.clock_steps.specs.ClockStepWords.{behind_comma, clock_statement
 ghost use Rattle.clock_steps.specs.calls.Known.{clock_part_of, known_ops};
 
 use crate::facts::ClockOpFacts;
+use accounts::put_words;
 use armus_base::{NoMemory, Op};
 use clock_syntax::{ClockName, ClockStmt};
-use task_sayings::put_words;
 
 // Appends a name behind others in a list.
 fn put_behind_comma(out: &mut Vec<u8>, x: &ClockName) -> Result<(), NoMemory>

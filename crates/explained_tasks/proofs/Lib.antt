@@ -1,5 +1,4 @@
 pub mod Pieces
-pub mod FirstThat
 pub mod VerdictWalks
 pub mod NextInside
 pub mod Starts
@@ -11,6 +10,7 @@ pub mod AccountTold
 pub mod ImpedersAre
 pub mod Numbered
 pub mod FitsEnds
+pub mod OutlineFits
 pub mod RestsAtEnd
 pub mod OneVerdict
 pub mod TasksThat

@@ -10,7 +10,7 @@ use Rattle.armus_base.proofs.Lists.{none_first}
 use Rattle.task_sayings.specs.declared.situation.Situation.{Situation}
 use Rattle.task_sayings.specs.Facts.{FactsValue, situation_of, tasks_that}
 use Rattle.task_sayings.proofs.Filters.{below_is, passed_from, passed_is}
-use Rattle.explained_tasks.proofs.FirstThat.{first_stays}
+use Rattle.task_sayings.proofs.FirstThat.{first_stays}
 use Rattle.explained_tasks.proofs.NextInside.{first_contains}
 
 -- each task below a bound is one of those below it

@@ -1,8 +1,7 @@
 // The explanation of the state in which a run has ended.
 ghost use Rattle.explained_tasks.specs.Explanations.{Explains, IsExplanationAt};
-ghost use Rattle.std.specs.Prelude.{◌≡◌, ◌<◌, ◌^◌, IfOk, length, option_copied};
+ghost use Rattle.std.specs.Prelude.{◌≡◌, IfOk, option_copied};
 ghost use Rattle.armus_base.specs.Finals.{final_of};
-ghost use Rattle.task_sayings.specs.Facts.{facts_of};
 ghost use Rattle.explained_tasks.specs.RunEnds.{IsAccountOf};
 ghost use Rattle.explained_tasks.specs.calls.RunEnds.{WaitersStay};
 ghost use Rattle.task_sayings.specs.calls.Fitting.{FactsFitPlan};
@@ -57,12 +56,8 @@ fn has_waiting(verdict: &Verdict) -> bool
     }
 }
 
-/// Explains what is known, behind this line of counts.
-pub(crate) fn explain_facts(
-    facts: &Facts,
-    world: &World,
-    counts: List<u8>,
-) -> Result<Explanation, NoMemory>
+// Explains what is known, behind this line of counts.
+fn explain_facts(facts: &Facts, world: &World, counts: List<u8>) -> Result<Explanation, NoMemory>
     requires fits { FactsFitPlan facts.now world.now.plan }
     requires wait { WaitForSome facts.now (state_of world.now).phases }
     ensures { IfOk result (λ e. Explains facts.now (state_of world.now).phases counts e.lines e.has_waiting) }
@@ -76,30 +71,6 @@ pub(crate) fn explain_facts(
         lines: List::from_vec(out),
         has_waiting: has_waiting(&verdict),
     })
-}
-
-// Explains what is known, where the standings and the line of counts are those of an outline.
-fn explain_outline(
-    alloc: Global,
-    places: &TextPlaces,
-    file: Option<&[u8]>,
-    account: &Account,
-    world: &World,
-    outline: Outline,
-) -> Result<Explanation, NoMemory>
-    requires few { length outline.standings < 2 ^ 32 }
-    requires fits { FactsFitPlan (facts_of places.now (option_copied file) account.now outline.standings) world.now.plan }
-    requires wait { WaitForSome (facts_of places.now (option_copied file) account.now outline.standings) (state_of world.now).phases }
-    ensures { IfOk result (λ e. Explains (facts_of places.now (option_copied file.entry) account.now outline.standings) (state_of world.now).phases outline.counts e.lines e.has_waiting) }
-{
-    let Outline {
-        standings,
-        counts,
-        cycle: _,
-        has_dead: _,
-    } = outline;
-    let facts = Facts::new(alloc, places, file, account, standings.as_slice());
-    explain_facts(&facts, world, counts)
 }
 
 /// Explains the state of a world in which no task that waits may go on. The world's plan is that of the text with these places, of which this is the account;
@@ -119,5 +90,12 @@ pub fn explanation_of(
 {
     let _plan = world.plan();
     let outline = outline_of(alloc, end)?;
-    explain_outline(alloc, places, file, account, world, outline)
+    let Outline {
+        standings,
+        counts,
+        cycle: _,
+        has_dead: _,
+    } = outline;
+    let facts = Facts::new(alloc, places, file, account, standings.as_slice());
+    explain_facts(&facts, world, counts)
 }

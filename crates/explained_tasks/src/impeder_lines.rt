@@ -10,13 +10,11 @@ ghost use Rattle.task_sayings.specs.Places.{said_of};
 ghost use Rattle.pl_core.specs.calls.Worlds.{state_of};
 ghost use Rattle.task_sayings.specs.calls.SayingValues.{forking_said, said_by};
 
-use accounts::Forked;
+use accounts::{Forked, put_number, put_words};
 use armus_base::{NoMemory, TaskId};
 use pl_core::World;
 use std::alloc::Global;
-use task_sayings::{
-    Facts, ForkingWords, Impeder, Saying, put_by_number, put_kept, put_list, put_number, put_words,
-};
+use task_sayings::{Facts, ForkingWords, Impeder, Saying, put_by_number, put_kept, put_list};
 
 /// How many groups of impeders have a line of their own.
 const MOST_GROUPS: usize = 3;

@@ -5,28 +5,20 @@ ghost use Rattle.task_sayings.specs.calls.Grouped.{AddsTold, IsSized};
 ghost use Rattle.explained_tasks.specs.inside.Grouped.{AreParagraphs, own_told, said_in};
 ghost use Rattle.explained_tasks.specs.inside.GroupTexts.{paragraph_text, texts_in};
 ghost use Rattle.explained_tasks.specs.inside.Numbered.{AreNumbers};
-ghost use Rattle.std.specs.Prelude.{◌≡◌, ◌∷◌, ◌++◌, if◌then◌else◌, [], IfOk, OnOk, length, map};
+ghost use Rattle.std.specs.Prelude.{◌≡◌, ◌++◌, [], IfOk, OnOk, length, map};
 ghost use Rattle.task_sayings.specs.calls.Fitting.{FactsFitPlan};
 ghost use Rattle.pl_core.specs.calls.Worlds.{state_of};
 ghost use Rattle.task_sayings.specs.calls.SayingValues.{said_by};
 
 use crate::impeder_lines::{put_forking, put_impeders};
 use crate::numbers::numbers_of;
+use accounts::put_words;
 use armus_base::{NoMemory, TaskId};
 use pl_core::World;
 use task_sayings::{
-    Facts, Grouping, Saying, is_unforked, is_waiting, put_by_number, put_kept, put_list, put_words,
+    Facts, Grouping, Saying, is_unforked, is_waiting, passing_below, put_by_number, put_kept,
+    put_list,
 };
-
-// Appends a task, if it passes a test.
-fn push_if(all: &mut Vec<TaskId>, t: TaskId, passes: bool) -> Result<(), NoMemory>
-    ensures { OnOk result (all.new.items ≡ all.old.items ++ (if passes then t ∷ [] else [])) }
-{
-    if passes {
-        all.push(t)?;
-    }
-    Ok(())
-}
 
 // Appends the lines that say this of these tasks.
 fn put_own_lines(
@@ -82,22 +74,22 @@ fn shown_waiting(facts: &Facts, shown: &[TaskId]) -> Result<Vec<TaskId>, NoMemor
 fn waiting(facts: &Facts) -> Result<Vec<TaskId>, NoMemory>
     ensures { IfOk result (λ v. v.items ≡ tasks_that is_waiting facts.now) }
 {
-    let mut all = Vec::new(facts.alloc());
-    for t in 0..facts.count() {
-        push_if(&mut all, TaskId(t), is_waiting(facts.situation(TaskId(t))))?;
-    }
-    Ok(all)
+    passing_below(
+        facts.alloc(),
+        facts.count(),
+        |t| is_waiting(facts.situation(t)),
+    )
 }
 
 // The tasks that were not forked.
 fn unforked(facts: &Facts) -> Result<Vec<TaskId>, NoMemory>
     ensures { IfOk result (λ v. v.items ≡ tasks_that stands_unforked facts.now) }
 {
-    let mut all = Vec::new(facts.alloc());
-    for t in 0..facts.count() {
-        push_if(&mut all, TaskId(t), is_unforked(facts.situation(TaskId(t))))?;
-    }
-    Ok(all)
+    passing_below(
+        facts.alloc(),
+        facts.count(),
+        |t| is_unforked(facts.situation(t)),
+    )
 }
 
 // The tasks that are not done: first those that wait, then the others.

@@ -8,8 +8,9 @@ ghost use Rattle.explained_tasks.specs.VerdictWords.{circle_words, walk_end_word
 
 use crate::outcome::Verdict;
 use crate::walk::least_dead;
+use accounts::put_words;
 use armus_base::{NoMemory, TaskId};
-use task_sayings::{Facts, Situation, is_deadlocked, is_waiting, put_words};
+use task_sayings::{Facts, Situation, is_deadlocked, is_waiting};
 
 // Appends a shown task that stands so.
 fn put_shown_as(

@@ -12,7 +12,7 @@ use crate::outcome::Verdict;
 use armus_base::{List, NoMemory, TaskId};
 use pl_core::World;
 use std::alloc::Global;
-use task_sayings::{Facts, first_or, is_deadlocked, is_waiting};
+use task_sayings::{Facts, first_or, is_deadlocked, is_waiting, least_below};
 
 // Where a task stands in a list that has it.
 fn place(path: &[TaskId], t: TaskId) -> usize
@@ -48,24 +48,14 @@ fn chain_of(path: &[TaskId], t: TaskId) -> Verdict
 pub(crate) fn least_dead(facts: &Facts) -> Option<TaskId>
     ensures { result ≡ slice_get (tasks_that is_deadlocked facts.now) 0 }
 {
-    for t in 0..facts.count() {
-        if is_deadlocked(facts.situation(TaskId(t))) {
-            return Some(TaskId(t));
-        }
-    }
-    None
+    least_below(facts.count(), |t| is_deadlocked(facts.situation(t)))
 }
 
 // The least task that waits.
 fn least_waiting(facts: &Facts) -> Option<TaskId>
     ensures { result ≡ slice_get (tasks_that is_waiting facts.now) 0 }
 {
-    for t in 0..facts.count() {
-        if is_waiting(facts.situation(TaskId(t))) {
-            return Some(TaskId(t));
-        }
-    }
-    None
+    least_below(facts.count(), |t| is_waiting(facts.situation(t)))
 }
 
 // The task with which the walk begins.

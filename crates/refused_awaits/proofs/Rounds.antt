@@ -10,8 +10,8 @@ use Rattle.pl_core.specs.calls.Worlds.{IsOpeningWorld, places_at, places_of, sta
 use Rattle.pl_core.proofs.Opening.{first_places}
 use Rattle.pl_syntax.specs.declared.tree.Program.{Program}
 use Rattle.accounts.specs.Accounts.{Layout}
-use Rattle.step_lines.specs.calls.Known.{AreKnownFacts, kept_layout}
-use Rattle.step_lines.specs.declared.facts.StepFacts.{StepFacts}
+use Rattle.accounts.specs.calls.Known.{AreKnownFacts, kept_layout}
+use Rattle.accounts.specs.declared.facts.TextFacts.{TextFacts}
 use Rattle.refused_awaits.specs.AvoidedExplanations.{AreRefusalsOf}
 use Rattle.refused_awaits.specs.Refusals.{AreRefusals}
 use Rattle.refused_awaits.specs.calls.AvoidedRuns.{IsRunWithRefusals}
@@ -73,7 +73,7 @@ module _ (file : Option (List ℕ)) (l : Layout) (p : Program) (plan : Plan) whe
 
 -- what is handed out of it
 pub avoided_run :
-    (facts : StepFacts) → AreKnownFacts facts → (file : Option (List ℕ)) (plan : Plan) (a : Avoiding) → HasEndedSo file (kept_layout facts) facts.program.now plan a →
+    (facts : TextFacts) → AreKnownFacts facts → (file : Option (List ℕ)) (plan : Plan) (a : Avoiding) → HasEndedSo file (kept_layout facts) facts.program.now plan a →
     (refusals : List ℕ) (end : Final) → refusals ≡ a.refusals.items → end ≡ final_of a.world.plan (state_of a.world) → (text : List ℕ) (p : Program) →
     facts.places.now ≡ text → facts.program.now ≡ p → IsRunWithRefusals file text p plan (record { refusals = refusals; world = a.world; end = end })
 avoided_run facts known file plan a ended refusals end same end_is text p text_is program_is =

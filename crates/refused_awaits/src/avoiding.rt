@@ -6,7 +6,7 @@ ghost use Rattle.pl_core.specs.calls.Worlds.{state_of};
 ghost use Rattle.pl_plan.specs.Forks.{fork_statements};
 ghost use Rattle.pl_syntax.specs.Grammar.{IsText};
 ghost use Rattle.pl_syntax.specs.Tree.{count};
-ghost use Rattle.step_lines.specs.calls.Known.{AreKnownFacts, kept_layout};
+ghost use Rattle.accounts.specs.calls.Known.{AreKnownFacts, kept_layout};
 ghost use Rattle.world_runs.specs.inside.Turns.{TellsForked};
 ghost use Rattle.world_runs.specs.inside.WorldRounds.{LeavesLess};
 ghost use Rattle.refused_awaits.specs.calls.AvoidedRuns.{IsRunWithRefusals};
@@ -14,12 +14,12 @@ ghost use Rattle.refused_awaits.specs.inside.SoFar.{RoundsGoTo, HasDecided, HasE
 
 use crate::known_text::KnownText;
 use crate::refusal::{pending_of, put_freed, put_refusal};
+use accounts::TextFacts;
 use armus_base::{Event, Final, List, NoMemory, Plan, TaskId};
 use avoider::{Decision, Judge, Judging};
 use pl_core::{Stand, World};
 use pl_syntax::Program;
 use std::alloc::Global;
-use step_lines::StepFacts;
 use text_places::TextPlaces;
 
 /// The serial avoided run of a text.
@@ -215,7 +215,7 @@ pub fn avoid_through<'p>(
     requires forks { forks.items ≡ fork_statements program.now }
     ensures run { IfOk result (IsRunWithRefusals (option_copied file.entry) places.now program.now plan.now) }
 {
-    let facts = StepFacts::new(alloc, places, program, forks)?;
+    let facts = TextFacts::new(alloc, places, program, forks)?;
     let text = KnownText { facts, file };
     let Avoiding {
         world,

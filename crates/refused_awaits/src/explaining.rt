@@ -1,24 +1,21 @@
 // The explanation of a run that avoids deadlock.
-ghost use Rattle.std.specs.Prelude.{◌≡◌, ◌++◌, ◌<◌, ◌^◌, IfOk, OnOk, length, option_copied, slice_index_or};
+ghost use Rattle.std.specs.Prelude.{◌≡◌, ◌++◌, ◌<◌, ◌^◌, IfOk, OnOk, length, option_copied};
 ghost use Rattle.armus_base.specs.Finals.{final_of};
 ghost use Rattle.pl_core.specs.calls.Worlds.{places_of, state_of};
 ghost use Rattle.report.specs.Counts.{counts_of};
 ghost use Rattle.report.specs.Lines.{counts_line};
-ghost use Rattle.task_sayings.specs.Facts.{facts_of};
 ghost use Rattle.task_sayings.specs.calls.Fitting.{FactsFitPlan};
 ghost use Rattle.explained_tasks.specs.RunEnds.{IsAccountOf};
 ghost use Rattle.refused_awaits.specs.calls.AvoidedRuns.{IsExplainedRun};
-ghost use Rattle.report.specs.declared.standing.Standing.TheVariants.{Done};
 ghost use Rattle.refused_awaits.specs.AvoidedWords.{avoided_words, has_some, was_refused, waits_at_the_end, refused_line, somebody_stays, tasks_with, waiting_line};
 
 use crate::avoiding::AvoidedRun;
-use crate::listing::push_if;
-use accounts::Account;
+use accounts::{Account, put_words};
 use armus_base::{List, NoMemory, TaskId};
 use explained_tasks::put_paragraphs;
 use report::{Outline, Standing, outline_of};
 use std::alloc::Global;
-use task_sayings::{Facts, put_by_number, put_list, put_words};
+use task_sayings::{Facts, passing_below, put_by_number, put_list, standing_at};
 use text_places::TextPlaces;
 
 /// The explanation of a run that avoids deadlock, and whether somebody was refused or waits for ever.
@@ -50,27 +47,14 @@ fn is_waiting(standing: Standing) -> bool
     }
 }
 
-// The standing at this index, or Done.
-fn standing_at(standings: &[Standing], t: usize) -> Standing
-    ensures { result ≡ slice_index_or standings.now t Done }
-{
-    match standings.get(t) {
-        Some(standing) => *standing,
-        None => Standing::Done,
-    }
-}
-
 // The tasks that were refused.
 fn refused(alloc: Global, standings: &[Standing]) -> Result<Vec<TaskId>, NoMemory>
     requires few { length standings.now < 2 ^ 32 }
     ensures { IfOk result (λ v. v.items ≡ tasks_with was_refused standings.now) }
 {
-    let mut all = Vec::new(alloc);
-    for t in 0..standings.len() as u32 {
-        let passes = is_refused(standing_at(standings, t as usize));
-        push_if(&mut all, TaskId(t), passes)?;
-    }
-    Ok(all)
+    passing_below(alloc, standings.len() as u32, |t| {
+        is_refused(standing_at(standings, t))
+    })
 }
 
 // The tasks that wait.
@@ -78,12 +62,9 @@ fn waiting(alloc: Global, standings: &[Standing]) -> Result<Vec<TaskId>, NoMemor
     requires few { length standings.now < 2 ^ 32 }
     ensures { IfOk result (λ v. v.items ≡ tasks_with waits_at_the_end standings.now) }
 {
-    let mut all = Vec::new(alloc);
-    for t in 0..standings.len() as u32 {
-        let passes = is_waiting(standing_at(standings, t as usize));
-        push_if(&mut all, TaskId(t), passes)?;
-    }
-    Ok(all)
+    passing_below(alloc, standings.len() as u32, |t| {
+        is_waiting(standing_at(standings, t))
+    })
 }
 
 // Whether one of two lists has a task.
@@ -155,32 +136,6 @@ fn explain_standings(
     })
 }
 
-// Explains the end of a run, where the standings and the line of counts are those of an outline.
-fn explain_outline(
-    alloc: Global,
-    places: &TextPlaces,
-    file: Option<&[u8]>,
-    account: &Account,
-    run: &AvoidedRun,
-    outline: Outline,
-) -> Result<AvoidedExplanation, NoMemory>
-    requires few { length outline.standings < 2 ^ 32 }
-    requires counts { outline.counts ≡ counts_line (counts_of outline.standings) }
-    requires fits { FactsFitPlan (facts_of places.now (option_copied file) account.now outline.standings) run.now.world.plan }
-    ensures lines { IfOk result (λ x. x.lines
-        ≡ avoided_words (facts_of places.now (option_copied file.entry) account.now outline.standings) (state_of run.now.world).phases run.now.refusals) }
-    ensures tells { IfOk result (λ x. x.somebody_stays ≡ somebody_stays outline.standings) }
-{
-    let Outline {
-        standings,
-        counts,
-        cycle: _,
-        has_dead: _,
-    } = outline;
-    let facts = Facts::new(alloc, places, file, account, standings.as_slice());
-    explain_standings(&facts, run, counts, standings.as_slice())
-}
-
 /// Explains the end of a serial avoided run of the text with these places, of which this is the account there; `file` is the name of the text's file, if it
 /// comes from one. The only error is want of memory.
 pub fn avoided_explanation_of(
@@ -196,6 +151,14 @@ pub fn avoided_explanation_of(
 {
     let _plan = run.world.plan();
     let outline = outline_of(alloc, &run.end)?;
-    let explanation = explain_outline(alloc, places, file, account, run, outline)?;
+    let Outline {
+        standings,
+        counts,
+        cycle: _,
+        has_dead: _,
+    } = outline;
+    let stand = standings.as_slice();
+    let facts = Facts::new(alloc, places, file, account, stand);
+    let explanation = explain_standings(&facts, run, counts, stand)?;
     Ok(explanation)
 }

@@ -1,9 +1,9 @@
 // What is known of a text whose run is explained.
-use step_lines::StepFacts;
+use accounts::TextFacts;
 
 /// What is known of a text, and the name of its file, if it comes from one.
 #[derive(Drop)]
 pub(crate) struct KnownText<'a> {
-    pub(crate) facts: StepFacts<'a>,
+    pub(crate) facts: TextFacts<'a>,
     pub(crate) file: Option<&'a [u8]>,
 }

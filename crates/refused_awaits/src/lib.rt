@@ -5,7 +5,6 @@ mod avoiding;
 mod explaining;
 mod known_text;
 mod laws;
-mod listing;
 mod refusal;
 
 pub use avoiding::{AvoidedRun, avoid_through};

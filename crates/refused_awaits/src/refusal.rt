@@ -13,19 +13,19 @@ ghost use Rattle.text_places.specs.PlaceWords.{front_words};
 ghost use Rattle.task_sayings.specs.Places.{said_of};
 ghost use Rattle.task_sayings.specs.TaskLists.{separator};
 ghost use Rattle.step_lines.specs.StepWords.{statement_words};
-ghost use Rattle.step_lines.specs.calls.Known.{AreKnownFacts, kept_layout};
+ghost use Rattle.accounts.specs.calls.Known.{AreKnownFacts, kept_layout};
 ghost use Rattle.refused_awaits.specs.RefusalWords.{avoided_circle_words, event_words, refused_forked_words, avoided_link_words, member_words, left_phasers, refused_phase_words, phaser_list, going_on_words, place_of, refusal_by, refused_words, refused_turn_words, refused_whence_words};
 ghost use Rattle.refused_awaits.specs.inside.Freed.{AreThoseBelow, IsFreed, StoodBelow};
 ghost use Rattle.refused_awaits.specs.inside.SoFar.{StandAt};
 
 use crate::known_text::KnownText;
-use crate::listing::push_if;
+use accounts::{TextFacts, put_number, put_words};
 use armus_base::{Event, NoMemory, Phase, PhaserId, TaskId};
 use origins::LoopTurn;
 use pl_core::{Stand, World};
 use std::alloc::Global;
-use step_lines::{StepFacts, put_statement};
-use task_sayings::{put_list, put_number, put_words, separator};
+use step_lines::{put_statement, put_task};
+use task_sayings::{push_if, put_list, separator};
 
 /// An await of a task, as it stands when it is decided on.
 #[derive(Drop)]
@@ -92,7 +92,7 @@ pub(crate) fn pending_of(
 }
 
 // Appends the place of a statement, if there is one.
-fn put_place(facts: &StepFacts<'_>, out: &mut Vec<u8>, n: Option<u32>) -> Result<(), NoMemory>
+fn put_place(facts: &TextFacts<'_>, out: &mut Vec<u8>, n: Option<u32>) -> Result<(), NoMemory>
     requires known { AreKnownFacts facts.now }
     ensures { OnOk result (out.new.items ≡ out.old.items ++ said_of (place_of (kept_layout facts.now)) n) }
 {
@@ -104,7 +104,7 @@ fn put_place(facts: &StepFacts<'_>, out: &mut Vec<u8>, n: Option<u32>) -> Result
 
 // Appends the place of a statement with which a line begins, if there is one.
 fn put_front(
-    facts: &StepFacts<'_>,
+    facts: &TextFacts<'_>,
     file: Option<&[u8]>,
     out: &mut Vec<u8>,
     n: Option<u32>,
@@ -122,7 +122,7 @@ fn put_front(
 }
 
 // Appends a statement as it is printed, if there is one.
-fn put_printed(facts: &StepFacts<'_>, out: &mut Vec<u8>, n: Option<u32>) -> Result<(), NoMemory>
+fn put_printed(facts: &TextFacts<'_>, out: &mut Vec<u8>, n: Option<u32>) -> Result<(), NoMemory>
     requires known { AreKnownFacts facts.now }
     ensures { OnOk result (out.new.items
         ≡ out.old.items ++ said_of (λ n. statement_words (statement_in (written_statements facts.now.program.now.body) n)) n) }
@@ -165,7 +165,7 @@ fn put_event(alloc: Global, out: &mut Vec<u8>, event: Event) -> Result<(), NoMem
 
 // Appends which await was refused: at op i of the code of task t.
 fn put_refused(
-    facts: &StepFacts<'_>,
+    facts: &TextFacts<'_>,
     file: Option<&[u8]>,
     out: &mut Vec<u8>,
     t: TaskId,
@@ -179,7 +179,7 @@ fn put_refused(
     let n = facts.origins.op(facts.program, t, i);
     put_front(facts, file, out, n)?;
     put_words(out, b": ")?;
-    facts.put_task(out, t)?;
+    put_task(facts, out, t)?;
     put_words(out, b" was refused: ")?;
     put_printed(facts, out, n)?;
     put_phase(facts.alloc, out, waits.event, waits.phase)?;
@@ -188,7 +188,7 @@ fn put_refused(
 }
 
 // Appends where a task was forked; nothing for task 0.
-fn put_forked(facts: &StepFacts<'_>, out: &mut Vec<u8>, t: TaskId) -> Result<(), NoMemory>
+fn put_forked(facts: &TextFacts<'_>, out: &mut Vec<u8>, t: TaskId) -> Result<(), NoMemory>
     requires known { AreKnownFacts facts.now }
     ensures { OnOk result (out.new.items ≡ out.old.items ++ refused_forked_words (kept_layout facts.now) facts.now.program.now t.0) }
 {
@@ -204,7 +204,7 @@ fn put_forked(facts: &StepFacts<'_>, out: &mut Vec<u8>, t: TaskId) -> Result<(),
 }
 
 // Appends a turn of a loop.
-fn put_turn(facts: &StepFacts<'_>, out: &mut Vec<u8>, turn: LoopTurn) -> Result<(), NoMemory>
+fn put_turn(facts: &TextFacts<'_>, out: &mut Vec<u8>, turn: LoopTurn) -> Result<(), NoMemory>
     requires known { AreKnownFacts facts.now }
     ensures { OnOk result (out.new.items ≡ out.old.items ++ refused_turn_words (kept_layout facts.now) turn) }
 {
@@ -215,7 +215,7 @@ fn put_turn(facts: &StepFacts<'_>, out: &mut Vec<u8>, turn: LoopTurn) -> Result<
 }
 
 // Appends these turns of loops.
-fn put_turns(facts: &StepFacts<'_>, out: &mut Vec<u8>, turns: &[LoopTurn]) -> Result<(), NoMemory>
+fn put_turns(facts: &TextFacts<'_>, out: &mut Vec<u8>, turns: &[LoopTurn]) -> Result<(), NoMemory>
     requires known { AreKnownFacts facts.now }
     ensures { OnOk result (out.new.items ≡ out.old.items ++ flat_map (refused_turn_words (kept_layout facts.now)) turns.now) }
 {
@@ -227,7 +227,7 @@ fn put_turns(facts: &StepFacts<'_>, out: &mut Vec<u8>, turns: &[LoopTurn]) -> Re
 
 // Appends whence a task and the phaser of its await come, and in which turns of loops it came to the await, op i of its code.
 fn put_whence(
-    facts: &StepFacts<'_>,
+    facts: &TextFacts<'_>,
     out: &mut Vec<u8>,
     t: TaskId,
     p: PhaserId,
@@ -250,7 +250,7 @@ fn put_whence(
 
 // Appends a task of a deadlock, with the place where it stands.
 fn put_member(
-    facts: &StepFacts<'_>,
+    facts: &TextFacts<'_>,
     out: &mut Vec<u8>,
     world: &World<'_>,
     t: TaskId,
@@ -262,7 +262,7 @@ fn put_member(
 {
     let i = world.op(t);
     let n = facts.origins.op(facts.program, t, i);
-    facts.put_task(out, t)?;
+    put_task(facts, out, t)?;
     put_words(out, b" at ")?;
     put_place(facts, out, n)?;
     Ok(())
@@ -281,7 +281,7 @@ fn link(k: usize) -> &'static [u8]
 
 // Appends task k of a deadlock, with its link.
 fn put_linked(
-    facts: &StepFacts<'_>,
+    facts: &TextFacts<'_>,
     out: &mut Vec<u8>,
     world: &World<'_>,
     k: usize,
@@ -299,7 +299,7 @@ fn put_linked(
 
 // Appends the tasks of a deadlock, each with its link.
 fn put_members(
-    facts: &StepFacts<'_>,
+    facts: &TextFacts<'_>,
     out: &mut Vec<u8>,
     world: &World<'_>,
     cycle: &[TaskId],
@@ -317,7 +317,7 @@ fn put_members(
 
 // Appends the tasks of a deadlock.
 fn put_circle(
-    facts: &StepFacts<'_>,
+    facts: &TextFacts<'_>,
     out: &mut Vec<u8>,
     world: &World<'_>,
     cycle: &[TaskId],
@@ -336,7 +336,7 @@ fn put_circle(
         }
         [t, _, ..] => {
             put_members(facts, out, world, cycle)?;
-            facts.put_task(out, *t)?;
+            put_task(facts, out, *t)?;
             Ok(())
         }
     }
@@ -369,7 +369,7 @@ fn put_phasers(alloc: Global, out: &mut Vec<u8>, phasers: &[u32]) -> Result<(), 
 
 // Appends the line of the deadlock that an await would have closed.
 fn put_deadlock(
-    facts: &StepFacts<'_>,
+    facts: &TextFacts<'_>,
     out: &mut Vec<u8>,
     world: &World<'_>,
     cycle: &[TaskId],

@@ -27,10 +27,10 @@ use Rattle.step_lines.specs.SerialRuns.{IsSerialRun, TaskMayGoOn}
 use Rattle.step_lines.specs.ShownSteps.{AreLinesOf, IsLineOf, LineWords, first_steps, most_shown, more_steps_line}
 use Rattle.step_lines.specs.StepWords.{shown_step_line}
 use Rattle.step_lines.specs.calls.SteppedRuns.{HasNextLine, IsRunBy, IsSteppedRun, next_line}
-use Rattle.step_lines.specs.declared.facts.StepFacts.{StepFacts}
+use Rattle.accounts.specs.declared.facts.TextFacts.{TextFacts}
 use Rattle.step_lines.specs.declared.stepping.SteppedRun.{SteppedRun}
 use Rattle.step_lines.specs.declared.stepping.Stepping.{Stepping}
-use Rattle.step_lines.specs.calls.Known.{AreKnownFacts, kept_layout}
+use Rattle.accounts.specs.calls.Known.{AreKnownFacts, kept_layout}
 use Rattle.step_lines.specs.inside.SoFar.{IsSoFar}
 
 -- ---- which steps are shown
@@ -191,7 +191,7 @@ module _ (words : LineWords) (plan : Plan) (run : Stepping) (h : List Step) (so_
   run_by = let s : SteppedRun = record { lines = lines; world = run.world; end = end } in subst (λ (q : Plan). IsRunBy words q s) same by_world
 
 -- by what is known of a text it is a run of the text's plan
-pub stepped_run : (facts : StepFacts) → AreKnownFacts facts → (plan : Plan) (s : SteppedRun) (text : List ℕ) (p : Program) → facts.places.now ≡ text
+pub stepped_run : (facts : TextFacts) → AreKnownFacts facts → (plan : Plan) (s : SteppedRun) (text : List ℕ) (p : Program) → facts.places.now ≡ text
     → facts.program.now ≡ p → IsRunBy (λ q. shown_step_line (kept_layout facts) facts.program.now) plan s → IsSteppedRun text p plan s
 stepped_run facts known plan s text p text_is program_is run =
     let by_facts : IsSteppedRun facts.places.now facts.program.now plan s =

@@ -1,4 +1,3 @@
-pub mod Known
 pub mod SerialRuns
 pub mod SteppedRuns
 pub mod Laws

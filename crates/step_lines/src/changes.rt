@@ -8,14 +8,14 @@ ghost use Rattle.pl_core.specs.calls.Worlds.{action_by_code, places_of, state_of
 ghost use Rattle.pl_core.specs.inside.Ops.{action_of};
 ghost use Rattle.task_sayings.specs.Places.{said_of};
 ghost use Rattle.step_lines.specs.StepWords.{change_words, phase_change, made_phaser_words, drawn_task_words, waits_words, with_phase_words};
-ghost use Rattle.step_lines.specs.calls.Known.{AreKnownFacts};
+ghost use Rattle.accounts.specs.calls.Known.{AreKnownFacts};
 ghost use Rattle.step_lines.specs.inside.SoFar.{IsNoAwait};
 
-use crate::facts::StepFacts;
+use crate::words::{put_phaser, put_task};
+use accounts::{TextFacts, put_number, put_words};
 use armus_base::{Event, NoMemory, Op, Phase, PhaserId, Plan, TaskId};
 use pl_core::{Stand, World};
 use std::alloc::Global;
-use task_sayings::{put_number, put_words};
 
 /// The op of a task's code at this index: none where it has no such op. The time is linear in the index.
 pub fn op_at(plan: &Plan, t: TaskId, i: u32) -> Option<Op>
@@ -81,146 +81,131 @@ pub fn put_phase_change(
     }
 }
 
-impl<'a> StepFacts<'a> {
-    // Appends the event that a task waits for.
-    fn put_waits(&self, out: &mut Vec<u8>, event: Event) -> Result<(), NoMemory>
-        requires known { AreKnownFacts self.now }
-        ensures { OnOk result (out.new.items ≡ out.old.items ++ waits_words self.now.program.now (Some event)) }
-    {
-        put_words(out, b"waits for phase ")?;
-        put_number(self.alloc, out, event.n)?;
-        put_words(out, b" of ")?;
-        self.put_phaser(out, event.p)?;
-        Ok(())
-    }
+// Appends the event that a task waits for.
+fn put_waits(facts: &TextFacts<'_>, out: &mut Vec<u8>, event: Event) -> Result<(), NoMemory>
+    requires known { AreKnownFacts facts.now }
+    ensures { OnOk result (out.new.items ≡ out.old.items ++ waits_words facts.now.program.now (Some event)) }
+{
+    put_words(out, b"waits for phase ")?;
+    put_number(facts.alloc, out, event.n)?;
+    put_words(out, b" of ")?;
+    put_phaser(facts, out, event.p)?;
+    Ok(())
+}
 
-    // Appends what a `reg` changes.
-    fn put_reg(
-        &self,
-        out: &mut Vec<u8>,
-        c: TaskId,
-        p: PhaserId,
-        phase: Option<Phase>,
-    ) -> Result<(), NoMemory>
-        requires known { AreKnownFacts self.now }
-        ensures { OnOk result (out.new.items ≡ out.old.items ++ (codes "registers " ++ drawn_task_words self.now.program.now c.0 ++ codes " on "
-            ++ made_phaser_words self.now.program.now p.0 ++ with_phase_words phase)) }
-    {
-        put_words(out, b"registers ")?;
-        self.put_task(out, c)?;
-        put_words(out, b" on ")?;
-        self.put_phaser(out, p)?;
-        put_with_phase(self.alloc, out, phase)
-    }
+// Appends what a `reg` changes.
+fn put_reg(
+    facts: &TextFacts<'_>,
+    out: &mut Vec<u8>,
+    c: TaskId,
+    p: PhaserId,
+    phase: Option<Phase>,
+) -> Result<(), NoMemory>
+    requires known { AreKnownFacts facts.now }
+    ensures { OnOk result (out.new.items ≡ out.old.items ++ (codes "registers " ++ drawn_task_words facts.now.program.now c.0 ++ codes " on "
+        ++ made_phaser_words facts.now.program.now p.0 ++ with_phase_words phase)) }
+{
+    put_words(out, b"registers ")?;
+    put_task(facts, out, c)?;
+    put_words(out, b" on ")?;
+    put_phaser(facts, out, p)?;
+    put_with_phase(facts.alloc, out, phase)
+}
 
-    // Appends what an `adv` changes.
-    fn put_adv(&self, out: &mut Vec<u8>, p: PhaserId, phase: Option<Phase>) -> Result<(), NoMemory>
-        requires known { AreKnownFacts self.now }
-        requires room { (n : ℕ) → phase ≡ Some n → n + 1 < 2 ^ 32 }
-        ensures { OnOk result (out.new.items ≡ out.old.items ++ (made_phaser_words self.now.program.now p.0 ++ codes ": " ++ phase_change phase)) }
-    {
-        self.put_phaser(out, p)?;
-        put_words(out, b": ")?;
-        put_phase_change(self.alloc, out, phase)
-    }
+// Appends what an `adv` changes.
+fn put_adv(
+    facts: &TextFacts<'_>,
+    out: &mut Vec<u8>,
+    p: PhaserId,
+    phase: Option<Phase>,
+) -> Result<(), NoMemory>
+    requires known { AreKnownFacts facts.now }
+    requires room { (n : ℕ) → phase ≡ Some n → n + 1 < 2 ^ 32 }
+    ensures { OnOk result (out.new.items ≡ out.old.items ++ (made_phaser_words facts.now.program.now p.0 ++ codes ": " ++ phase_change phase)) }
+{
+    put_phaser(facts, out, p)?;
+    put_words(out, b": ")?;
+    put_phase_change(facts.alloc, out, phase)
+}
 
-    // Appends what a `newPhaser` changes.
-    fn put_make(&self, out: &mut Vec<u8>, p: PhaserId) -> Result<(), NoMemory>
-        requires known { AreKnownFacts self.now }
-        ensures { OnOk result (out.new.items ≡ out.old.items ++ (codes "makes " ++ made_phaser_words self.now.program.now p.0 ++ with_phase_words (Some 0))) }
-    {
-        put_words(out, b"makes ")?;
-        self.put_phaser(out, p)?;
-        put_with_phase(self.alloc, out, Some(0))
-    }
+// Appends what a `newPhaser` changes.
+fn put_make(facts: &TextFacts<'_>, out: &mut Vec<u8>, p: PhaserId) -> Result<(), NoMemory>
+    requires known { AreKnownFacts facts.now }
+    ensures { OnOk result (out.new.items ≡ out.old.items ++ (codes "makes " ++ made_phaser_words facts.now.program.now p.0 ++ with_phase_words (Some 0))) }
+{
+    put_words(out, b"makes ")?;
+    put_phaser(facts, out, p)?;
+    put_with_phase(facts.alloc, out, Some(0))
+}
 
-    // Appends what a `fork` changes.
-    fn put_fork(&self, out: &mut Vec<u8>, c: TaskId) -> Result<(), NoMemory>
-        requires known { AreKnownFacts self.now }
-        ensures { OnOk result (out.new.items ≡ out.old.items ++ (codes "forks " ++ drawn_task_words self.now.program.now c.0)) }
-    {
-        put_words(out, b"forks ")?;
-        self.put_task(out, c)
-    }
+// Appends what a `fork` changes.
+fn put_fork(facts: &TextFacts<'_>, out: &mut Vec<u8>, c: TaskId) -> Result<(), NoMemory>
+    requires known { AreKnownFacts facts.now }
+    ensures { OnOk result (out.new.items ≡ out.old.items ++ (codes "forks " ++ drawn_task_words facts.now.program.now c.0)) }
+{
+    put_words(out, b"forks ")?;
+    put_task(facts, out, c)
+}
 
-    // Appends what a `dereg` changes, and a task's end.
-    fn put_drop(&self, out: &mut Vec<u8>, p: PhaserId) -> Result<(), NoMemory>
-        requires known { AreKnownFacts self.now }
-        ensures { OnOk result (out.new.items ≡ out.old.items ++ (codes "leaves " ++ made_phaser_words self.now.program.now p.0)) }
-    {
-        put_words(out, b"leaves ")?;
-        self.put_phaser(out, p)
-    }
+// Appends what a `dereg` changes, and a task's end.
+fn put_drop(facts: &TextFacts<'_>, out: &mut Vec<u8>, p: PhaserId) -> Result<(), NoMemory>
+    requires known { AreKnownFacts facts.now }
+    ensures { OnOk result (out.new.items ≡ out.old.items ++ (codes "leaves " ++ made_phaser_words facts.now.program.now p.0)) }
+{
+    put_words(out, b"leaves ")?;
+    put_phaser(facts, out, p)
+}
 
-    // Appends what an op changes that is no await.
-    fn put_op(
-        &self,
-        out: &mut Vec<u8>,
-        world: &World<'_>,
-        t: TaskId,
-        op: Op,
-    ) -> Result<(), NoMemory>
-        requires known { AreKnownFacts self.now }
-        requires task { t.0 < length world.now.plan.parents }
-        requires active { IsActive (state_of world.now) t.0 }
-        requires next { action_by_code world.now t.0 ≡ Some (action_of op) }
-        requires kind { IsNoAwait op }
-        ensures { OnOk result (out.new.items ≡ out.old.items ++ change_words self.now.program.now (state_of world.now) t.0 (action_of op)) }
-    {
-        let _plan = world.plan();
-        match op {
-            Op::Make { p } => self.put_make(out, p),
-            Op::Reg { c, p } => {
-                let phase = world.phase(p, t);
-                self.put_reg(out, c, p, phase)
-            }
-            Op::Fork { c } => self.put_fork(out, c),
-            Op::Adv { p } => {
-                let phase = world.phase(p, t);
-                self.put_adv(out, p, phase)
-            }
-            Op::Drop { p } => self.put_drop(out, p),
-            Op::Await { p: _, off: _ } => unreachable!(),
+// Appends what an op changes that is no await.
+fn put_op(
+    facts: &TextFacts<'_>,
+    out: &mut Vec<u8>,
+    world: &World<'_>,
+    t: TaskId,
+    op: Op,
+) -> Result<(), NoMemory>
+    requires known { AreKnownFacts facts.now }
+    requires task { t.0 < length world.now.plan.parents }
+    requires active { IsActive (state_of world.now) t.0 }
+    requires next { action_by_code world.now t.0 ≡ Some (action_of op) }
+    requires kind { IsNoAwait op }
+    ensures { OnOk result (out.new.items ≡ out.old.items ++ change_words facts.now.program.now (state_of world.now) t.0 (action_of op)) }
+{
+    let _plan = world.plan();
+    match op {
+        Op::Make { p } => put_make(facts, out, p),
+        Op::Reg { c, p } => {
+            let phase = world.phase(p, t);
+            put_reg(facts, out, c, p, phase)
         }
-    }
-
-    // Appends what the next step of a task changes that stands before op i of its code, which is no await.
-    fn put_ready(
-        &self,
-        out: &mut Vec<u8>,
-        world: &World<'_>,
-        t: TaskId,
-        i: u32,
-    ) -> Result<(), NoMemory>
-        requires known { AreKnownFacts self.now }
-        requires task { t.0 < length world.now.plan.parents }
-        requires ready { IsBeforeOp world.now t.0 }
-        requires at { IsAtOp (code_of world.now.plan t.0) (places_of world.now t.0).done i }
-        ensures { OnOk result (out.new.items ≡ out.old.items ++ said_of (change_words self.now.program.now (state_of world.now) t.0) (action_by_code world.now t.0)) }
-    {
-        let op = ready_op(world, t, i);
-        self.put_op(out, world, t, op)
-    }
-
-    // Appends what the next step of a task changes that may go on and stands at op i of its code.
-    pub(crate) fn put_change(
-        &self,
-        out: &mut Vec<u8>,
-        world: &World<'_>,
-        t: TaskId,
-        i: u32,
-    ) -> Result<(), NoMemory>
-        requires known { AreKnownFacts self.now }
-        requires task { t.0 < length world.now.plan.parents }
-        requires enabled { IsEnabled world.now t.0 }
-        requires at { IsAtOp (code_of world.now.plan t.0) (places_of world.now t.0).done i }
-        ensures { OnOk result (out.new.items ≡ out.old.items ++ said_of (change_words self.now.program.now (state_of world.now) t.0) (action_by_code world.now t.0)) }
-    {
-        match world.stand(t) {
-            Stand::Ready => self.put_ready(out, world, t, i),
-            Stand::Await(event) => self.put_waits(out, event),
-            Stand::Waits(_) => put_words(out, b"goes on"),
-            Stand::Unforked | Stand::Done | Stand::Refused(_) => unreachable!(),
+        Op::Fork { c } => put_fork(facts, out, c),
+        Op::Adv { p } => {
+            let phase = world.phase(p, t);
+            put_adv(facts, out, p, phase)
         }
+        Op::Drop { p } => put_drop(facts, out, p),
+        Op::Await { p: _, off: _ } => unreachable!(),
+    }
+}
+
+// Appends what the next step of a task changes that may go on and stands at op i of its code.
+pub(crate) fn put_change(
+    facts: &TextFacts<'_>,
+    out: &mut Vec<u8>,
+    world: &World<'_>,
+    t: TaskId,
+    i: u32,
+) -> Result<(), NoMemory>
+    requires known { AreKnownFacts facts.now }
+    requires task { t.0 < length world.now.plan.parents }
+    requires enabled { IsEnabled world.now t.0 }
+    requires at { IsAtOp (code_of world.now.plan t.0) (places_of world.now t.0).done i }
+    ensures { OnOk result (out.new.items ≡ out.old.items ++ said_of (change_words facts.now.program.now (state_of world.now) t.0) (action_by_code world.now t.0)) }
+{
+    match world.stand(t) {
+        Stand::Ready => put_op(facts, out, world, t, ready_op(world, t, i)),
+        Stand::Await(event) => put_waits(facts, out, event),
+        Stand::Waits(_) => put_words(out, b"goes on"),
+        Stand::Unforked | Stand::Done | Stand::Refused(_) => unreachable!(),
     }
 }

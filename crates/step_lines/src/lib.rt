@@ -2,15 +2,13 @@
 #![tactic(auto)]
 
 mod changes;
-mod facts;
 mod laws;
 mod stepping;
 mod telling;
 mod words;
 
 pub use changes::{op_at, put_phase_change, put_with_phase, ready_op};
-pub use facts::StepFacts;
 pub use laws::{one_serial_run, one_showing, serial_run_replays};
 pub use stepping::{MOST_SHOWN, SteppedRun, step_through, step_to_end};
 pub use telling::TellsSteps;
-pub use words::put_statement;
+pub use words::{put_statement, put_task};

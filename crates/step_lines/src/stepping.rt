@@ -9,13 +9,12 @@ ghost use Rattle.step_lines.specs.ShownSteps.{most_shown, more_steps_line};
 ghost use Rattle.step_lines.specs.calls.SteppedRuns.{HasNextLine, IsRunBy, IsSteppedRun};
 ghost use Rattle.step_lines.specs.inside.SoFar.{IsSoFar};
 
-use crate::facts::StepFacts;
 use crate::telling::TellsSteps;
+use accounts::{TextFacts, put_number, put_words};
 use armus_base::{Final, List, NoMemory, Plan, TaskId};
 use pl_core::World;
 use pl_syntax::Program;
 use std::alloc::Global;
-use task_sayings::{put_number, put_words};
 use text_places::TextPlaces;
 
 /// How many steps are shown at most.
@@ -174,7 +173,7 @@ pub fn step_through<'p>(
     requires forks { forks.items ≡ fork_statements program.now }
     ensures run { IfOk result (IsSteppedRun places.now program.now plan.now) }
 {
-    let facts = StepFacts::new(alloc, places, program, forks)?;
+    let facts = TextFacts::new(alloc, places, program, forks)?;
     let run = step_to_end(alloc, &facts, plan)?;
     Ok(run)
 }

@@ -3,10 +3,11 @@ ghost use Rattle.std.specs.Prelude.{◌<◌, OnOk, length};
 ghost use Rattle.pl_core.specs.calls.Stands.{IsEnabled};
 ghost use Rattle.step_lines.specs.calls.SteppedRuns.{HasNextLine};
 
-use crate::facts::StepFacts;
+use crate::changes::put_change;
+use crate::words::{put_task, put_whence};
+use accounts::{TextFacts, put_number, put_words};
 use armus_base::{NoMemory, TaskId};
 use pl_core::World;
-use task_sayings::{put_number, put_words};
 
 /// What is known of a text, by which each step of its run has a line.
 pub trait TellsSteps {
@@ -32,9 +33,9 @@ pub trait TellsSteps {
         ensures { OnOk result (HasNextLine (words self.now) number world.now t.0 out.old.items out.new.items) };
 }
 
-impl<'a> TellsSteps for StepFacts<'a> {
+impl<'a> TellsSteps for TextFacts<'a> {
     ghost use Rattle.step_lines.specs.StepWords.{shown_step_line};
-    ghost use Rattle.step_lines.specs.calls.Known.{AreKnownFacts, kept_layout};
+    ghost use Rattle.accounts.specs.calls.Known.{AreKnownFacts, kept_layout};
 
     ghost known = { AreKnownFacts };
 
@@ -50,11 +51,11 @@ impl<'a> TellsSteps for StepFacts<'a> {
         let i = world.op(t);
         put_number(self.alloc, out, number)?;
         put_words(out, b": ")?;
-        self.put_task(out, t)?;
+        put_task(self, out, t)?;
         put_words(out, b" at ")?;
-        self.put_whence(out, t, i)?;
+        put_whence(self, out, t, i)?;
         put_words(out, b": ")?;
-        self.put_change(out, world, t, i)?;
+        put_change(self, out, world, t, i)?;
         put_words(out, b"\n")?;
         Ok(())
     }

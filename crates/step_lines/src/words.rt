@@ -1,20 +1,17 @@
 // The words for tasks and phasers, and for where a step is made.
 ghost use Rattle.std.specs.Prelude.{◌≡◌, ◌++◌, OnOk, codes, option_map};
-ghost use Rattle.pl_syntax.specs.Printed.{offset_text};
 ghost use Rattle.origins.specs.Origins.{fork_origin, op_origin};
 ghost use Rattle.origins.specs.inside.Tables.{coming_of};
 ghost use Rattle.text_places.specs.PlaceWords.{place_words};
 ghost use Rattle.accounts.specs.Accounts.{end_place};
-ghost use Rattle.accounts.specs.AwaitWords.{await_text};
 ghost use Rattle.task_sayings.specs.Places.{said_of};
 ghost use Rattle.step_lines.specs.StepWords.{given_name, given_name_words, made_phaser_words, statement_words, drawn_task_words, whence_words};
-ghost use Rattle.step_lines.specs.calls.Known.{AreKnownFacts, kept_layout};
+ghost use Rattle.accounts.specs.calls.Known.{AreKnownFacts, kept_layout};
 
-use crate::facts::StepFacts;
-use armus_base::{NoMemory, Offset, PhaserId, TaskId};
+use accounts::{TextFacts, put_await, put_number, put_words};
+use armus_base::{NoMemory, PhaserId, TaskId};
 use pl_syntax::{Name, Stmt};
 use std::alloc::Global;
-use task_sayings::{put_number, put_words};
 
 // Appends the name to which a statement gives a task or a phaser.
 fn put_given(out: &mut Vec<u8>, stmt: Option<&Stmt>) -> Result<(), NoMemory>
@@ -24,23 +21,6 @@ fn put_given(out: &mut Vec<u8>, stmt: Option<&Stmt>) -> Result<(), NoMemory>
         Some(Stmt::NewTask { x }) => put_words(out, x.as_bytes()),
         Some(Stmt::NewPhaser { x }) => put_words(out, x.as_bytes()),
         _ => Ok(()),
-    }
-}
-
-// Appends how far an await looks back or ahead.
-fn put_offset(alloc: Global, out: &mut Vec<u8>, off: Offset) -> Result<(), NoMemory>
-    ensures { OnOk result (out.new.items ≡ out.old.items ++ offset_text off) }
-{
-    match off {
-        Offset::Here => Ok(()),
-        Offset::Back(k) => {
-            put_words(out, b" - ")?;
-            put_number(alloc, out, u32::from(k))
-        }
-        Offset::Ahead(k) => {
-            put_words(out, b" + ")?;
-            put_number(alloc, out, u32::from(k))
-        }
     }
 }
 
@@ -72,16 +52,6 @@ fn put_reg(out: &mut Vec<u8>, x: &Name, y: &Name) -> Result<(), NoMemory>
     put_words(out, b")")
 }
 
-// Appends an `await`.
-fn put_await(alloc: Global, out: &mut Vec<u8>, x: &Name, off: Offset) -> Result<(), NoMemory>
-    ensures { OnOk result (out.new.items ≡ out.old.items ++ await_text x.now off) }
-{
-    put_words(out, b"await(")?;
-    put_words(out, x.as_bytes())?;
-    put_offset(alloc, out, off)?;
-    put_words(out, b")")
-}
-
 /// Appends a statement that makes an op, without its semicolon and its body.
 pub fn put_statement(alloc: Global, out: &mut Vec<u8>, stmt: Option<&Stmt>) -> Result<(), NoMemory>
     ensures { OnOk result (out.new.items ≡ out.old.items ++ statement_words (option_map (λ s. coming_of s.now) stmt.entry)) }
@@ -97,76 +67,83 @@ pub fn put_statement(alloc: Global, out: &mut Vec<u8>, stmt: Option<&Stmt>) -> R
     }
 }
 
-impl<'a> StepFacts<'a> {
-    // Appends the name that this statement gives, behind a number.
-    fn put_name(&self, out: &mut Vec<u8>, origin: Option<u32>) -> Result<(), NoMemory>
-        requires known { AreKnownFacts self.now }
-        ensures { OnOk result (out.new.items ≡ out.old.items ++ said_of (given_name_words self.now.program.now) origin) }
-    {
-        match origin {
-            Some(n) => {
-                put_words(out, b" (")?;
-                put_given(out, self.origins.statement(n))?;
-                put_words(out, b")")
-            }
-            None => Ok(()),
+// Appends the name that this statement gives, behind a number.
+fn put_name(facts: &TextFacts<'_>, out: &mut Vec<u8>, origin: Option<u32>) -> Result<(), NoMemory>
+    requires known { AreKnownFacts facts.now }
+    ensures { OnOk result (out.new.items ≡ out.old.items ++ said_of (given_name_words facts.now.program.now) origin) }
+{
+    match origin {
+        Some(n) => {
+            put_words(out, b" (")?;
+            put_given(out, facts.origins.statement(n))?;
+            put_words(out, b")")
         }
+        None => Ok(()),
     }
+}
 
-    /// Appends a task with its name: `t3 (worker)`.
-    pub fn put_task(&self, out: &mut Vec<u8>, t: TaskId) -> Result<(), NoMemory>
-        requires known { AreKnownFacts self.now }
-        ensures { OnOk result (out.new.items ≡ out.old.items ++ drawn_task_words self.now.program.now t.0) }
-    {
-        put_words(out, b"t")?;
-        put_number(self.alloc, out, t.0)?;
-        self.put_name(out, self.origins.task(t))
+/// Appends a task with its name: `t3 (worker)`.
+pub fn put_task(facts: &TextFacts<'_>, out: &mut Vec<u8>, t: TaskId) -> Result<(), NoMemory>
+    requires known { AreKnownFacts facts.now }
+    ensures { OnOk result (out.new.items ≡ out.old.items ++ drawn_task_words facts.now.program.now t.0) }
+{
+    put_words(out, b"t")?;
+    put_number(facts.alloc, out, t.0)?;
+    put_name(facts, out, facts.origins.task(t))
+}
+
+// Appends a phaser.
+pub(crate) fn put_phaser(
+    facts: &TextFacts<'_>,
+    out: &mut Vec<u8>,
+    p: PhaserId,
+) -> Result<(), NoMemory>
+    requires known { AreKnownFacts facts.now }
+    ensures { OnOk result (out.new.items ≡ out.old.items ++ made_phaser_words facts.now.program.now p.0) }
+{
+    put_words(out, b"p")?;
+    put_number(facts.alloc, out, p.0)?;
+    put_name(facts, out, facts.origins.phaser(p))
+}
+
+// Appends the place of a statement and what it says.
+fn put_at_statement(facts: &TextFacts<'_>, out: &mut Vec<u8>, n: u32) -> Result<(), NoMemory>
+    requires known { AreKnownFacts facts.now }
+    ensures { OnOk result (out.new.items ≡ out.old.items ++ whence_words (kept_layout facts.now) facts.now.program.now 0 (Some n)) }
+{
+    facts.places.put(facts.alloc, out, facts.statement(n))?;
+    put_words(out, b": ")?;
+    put_statement(facts.alloc, out, facts.origins.statement(n))
+}
+
+// Appends the place where the code of a task ends.
+fn put_end_place(facts: &TextFacts<'_>, out: &mut Vec<u8>, t: TaskId) -> Result<(), NoMemory>
+    requires known { AreKnownFacts facts.now }
+    ensures { OnOk result (out.new.items ≡ out.old.items
+        ++ said_of (λ f. place_words facts.now.places.now (end_place (kept_layout facts.now) f)) (fork_origin facts.now.program.now t.0)) }
+{
+    match facts.origins.fork(t) {
+        Some(f) => facts.places.put(facts.alloc, out, facts.end(f)),
+        None => Ok(()),
     }
+}
 
-    // Appends a phaser.
-    pub(crate) fn put_phaser(&self, out: &mut Vec<u8>, p: PhaserId) -> Result<(), NoMemory>
-        requires known { AreKnownFacts self.now }
-        ensures { OnOk result (out.new.items ≡ out.old.items ++ made_phaser_words self.now.program.now p.0) }
-    {
-        put_words(out, b"p")?;
-        put_number(self.alloc, out, p.0)?;
-        self.put_name(out, self.origins.phaser(p))
-    }
-
-    // Appends the place of a statement and what it says.
-    fn put_at_statement(&self, out: &mut Vec<u8>, n: u32) -> Result<(), NoMemory>
-        requires known { AreKnownFacts self.now }
-        ensures { OnOk result (out.new.items ≡ out.old.items ++ whence_words (kept_layout self.now) self.now.program.now 0 (Some n)) }
-    {
-        self.places.put(self.alloc, out, self.statement(n))?;
-        put_words(out, b": ")?;
-        put_statement(self.alloc, out, self.origins.statement(n))
-    }
-
-    // Appends the place where the code of a task ends.
-    fn put_end_place(&self, out: &mut Vec<u8>, t: TaskId) -> Result<(), NoMemory>
-        requires known { AreKnownFacts self.now }
-        ensures { OnOk result (out.new.items ≡ out.old.items
-            ++ said_of (λ f. place_words self.now.places.now (end_place (kept_layout self.now) f)) (fork_origin self.now.program.now t.0)) }
-    {
-        match self.origins.fork(t) {
-            Some(f) => self.places.put(self.alloc, out, self.end(f)),
-            None => Ok(()),
-        }
-    }
-
-    // Appends where a task makes op i of its code, and at which statement.
-    pub(crate) fn put_whence(&self, out: &mut Vec<u8>, t: TaskId, i: u32) -> Result<(), NoMemory>
-        requires known { AreKnownFacts self.now }
-        ensures { OnOk result (out.new.items ≡ out.old.items
-            ++ whence_words (kept_layout self.now) self.now.program.now t.0 (op_origin self.now.program.now t.0 i)) }
-    {
-        match self.origins.op(self.program, t, i) {
-            Some(n) => self.put_at_statement(out, n),
-            None => {
-                self.put_end_place(out, t)?;
-                put_words(out, b": end")
-            }
+// Appends where a task makes op i of its code, and at which statement.
+pub(crate) fn put_whence(
+    facts: &TextFacts<'_>,
+    out: &mut Vec<u8>,
+    t: TaskId,
+    i: u32,
+) -> Result<(), NoMemory>
+    requires known { AreKnownFacts facts.now }
+    ensures { OnOk result (out.new.items ≡ out.old.items
+        ++ whence_words (kept_layout facts.now) facts.now.program.now t.0 (op_origin facts.now.program.now t.0 i)) }
+{
+    match facts.origins.op(facts.program, t, i) {
+        Some(n) => put_at_statement(facts, out, n),
+        None => {
+            put_end_place(facts, out, t)?;
+            put_words(out, b": end")
         }
     }
 }

@@ -1,5 +1,5 @@
-pub mod Texts
 pub mod Filters
+pub mod FirstThat
 pub mod EachOnce
 pub mod SameSaid
 pub mod GroupedTasks

@@ -1,4 +1,5 @@
 pub mod Fitting
 pub mod SayingValues
 pub mod Grouped
+pub mod Passing
 pub mod Laws

@@ -31,11 +31,11 @@ impl<'a> Model for Facts<'a> {
     ghost invariant = { λ f. length f.standings.now < 2 ^ 32 };
 }
 
-// The standing at this index, or Done.
-fn standing_at(standings: &[Standing], t: usize) -> Standing
-    ensures { result ≡ slice_index_or standings.now t Done }
+/// How a task stands, and Done where there is no such task.
+pub fn standing_at(standings: &[Standing], t: TaskId) -> Standing
+    ensures { result ≡ slice_index_or standings.now t.0 Done }
 {
-    match standings.get(t) {
+    match standings.get(t.0 as usize) {
         Some(standing) => *standing,
         None => Standing::Done,
     }
@@ -128,6 +128,6 @@ impl<'a> Facts<'a> {
     pub fn situation(&self, t: TaskId) -> Situation
         ensures { result ≡ situation_of self.now t.0 }
     {
-        situation_by(standing_at(self.standings, t.0 as usize), self.fork(t))
+        situation_by(standing_at(self.standings, t), self.fork(t))
     }
 }

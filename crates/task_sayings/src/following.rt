@@ -83,24 +83,20 @@ impl<'a> Facts<'a> {
     fn least_deadlocked(&self, impeders: &[Impeder]) -> Option<TaskId>
         ensures { result ≡ least_that is_deadlocked self.now impeders.now }
     {
-        for impeder in impeders {
-            if is_deadlocked(self.situation(impeder.t)) {
-                return Some(impeder.t);
-            }
-        }
-        None
+        impeders
+            .iter()
+            .find(|impeder| is_deadlocked(self.situation(impeder.t)))
+            .map(|impeder| impeder.t)
     }
 
     // The least held one of these impeders.
     fn least_held(&self, impeders: &[Impeder]) -> Option<TaskId>
         ensures { result ≡ least_that stands_held self.now impeders.now }
     {
-        for impeder in impeders {
-            if is_held(self.situation(impeder.t)) {
-                return Some(impeder.t);
-            }
-        }
-        None
+        impeders
+            .iter()
+            .find(|impeder| is_held(self.situation(impeder.t)))
+            .map(|impeder| impeder.t)
     }
 
     /// The next of a task that stands so and has these impeders.

@@ -7,8 +7,7 @@ use crate::facts::Facts;
 use crate::impeders::Impeder;
 use crate::saying::{ForkingWords, Saying};
 use crate::situation::Situation;
-use crate::words::{put_number, put_words};
-use accounts::{Ended, Forked, Turn, Waiting};
+use accounts::{Ended, Forked, Turn, Waiting, put_number, put_words};
 use armus_base::{NoMemory, PhaserId, TaskId};
 use std::alloc::Global;
 

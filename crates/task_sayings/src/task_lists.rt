@@ -2,7 +2,8 @@
 ghost use Rattle.std.specs.Prelude.{◌≡◌, ◌==◌, ◌+◌, ◌++◌, IfOk, OnOk, flat_map};
 ghost use Rattle.task_sayings.specs.TaskLists.{item_words, items_of, joined_items, list_words, runs_of, separator};
 
-use crate::words::{put_task, put_words};
+use crate::words::put_task;
+use accounts::put_words;
 use armus_base::{NoMemory, TaskId};
 use std::alloc::Global;
 

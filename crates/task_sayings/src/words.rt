@@ -3,26 +3,10 @@ ghost use Rattle.std.specs.Prelude.{◌≡◌, ◌++◌, OnOk, codes, decimal};
 ghost use Rattle.task_sayings.specs.TaskLists.{by_number};
 
 use crate::facts::Facts;
+use accounts::put_words;
 use armus_base::{NoMemory, TaskId};
 use std::alloc::Global;
 use text_places::TextPlace;
-
-/// Appends a number.
-pub fn put_number(alloc: Global, out: &mut Vec<u8>, number: u32) -> Result<(), NoMemory>
-    ensures { OnOk result (out.new.items ≡ out.old.items ++ decimal number) }
-{
-    let text = format!(in alloc; "{number}")?;
-    out.extend_from_slice(text.as_bytes())?;
-    Ok(())
-}
-
-/// Appends words.
-pub fn put_words(out: &mut Vec<u8>, words: &[u8]) -> Result<(), NoMemory>
-    ensures { OnOk result (out.new.items ≡ out.old.items ++ words.now) }
-{
-    out.extend_from_slice(words)?;
-    Ok(())
-}
 
 /// Appends words that are kept.
 pub fn put_kept(out: &mut Vec<u8>, words: &Vec<u8>) -> Result<(), NoMemory>

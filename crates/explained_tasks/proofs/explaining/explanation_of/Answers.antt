@@ -1,65 +1,77 @@
-use Rattle.std.proofs.Common.{◌<◌, ◌^◌, ℕ, List, subst, sym, length, arith}
+use Rattle.std.proofs.Common.{ℕ, List, ◌∙◌, ap, subst, sym}
 use Rattle.std.specs.Prelude.{option_copied}
 use Rattle.std.proofs.lemmas.Result.{IfOk-weaker}
-use Rattle.armus_base.specs.declared.ending.Final.{Final}
-use Rattle.armus_base.specs.Deadlocks.{IsDeadBy}
-use Rattle.armus_base.specs.Finals.{is_awaited}
-use Rattle.armus_base.specs.calls.Statuses.{IsInOrder}
-use Rattle.armus_base.proofs.StatusesAre.{statuses_are}
 use Rattle.pl_core.specs.calls.Worlds.{places_of, state_of}
-use Rattle.report.specs.Standings.{AreStandings}
+use Rattle.report.specs.Counts.{counts_of}
+use Rattle.report.specs.Lines.{counts_line}
+use Rattle.report.specs.declared.standing.Standing.{Standing}
 use Rattle.explained_tasks.specs.declared.explaining.Explanation.{Explanation}
 use Rattle.explained_tasks.specs.Explanations.{Explains, IsExplanationAt}
-use Rattle.task_sayings.specs.Facts.{facts_of}
+use Rattle.task_sayings.specs.Facts.{FactsValue, facts_of}
+use Rattle.task_sayings.specs.calls.Fitting.{FactsFitPlan}
 use Rattle.explained_tasks.specs.RunEnds.{AreFactsAt}
+use Rattle.explained_tasks.specs.inside.Fitting.{WaitForSome}
 use Rattle.explained_tasks.proofs.FitsEnds.{fits_plan, waits_for_some}
+use Rattle.explained_tasks.proofs.OutlineFits.{facts_at, few_standings, final_in_order}
 use Rattle.explained_tasks.proofs.explaining.explanation_of.Goals as goal
 
 pub outline_of-requires : goal.outline_of-requires
 outline_of-requires c =
-    let plan = c.args.world.now.plan in
-    let s = state_of c.args.world.now in
-    subst (λ (end : Final). IsInOrder end.blocked) (sym c.requires.end) (statuses_are plan s (is_awaited plan s) c.plan-plan.ensures.checked).in_order
+    final_in_order c.args.world.now.plan (state_of c.args.world.now) c.args.end.now c.plan-plan.ensures.checked c.requires.end
 
-pub explain_outline-requires : goal.explain_outline-requires
+pub new-facts-requires : goal.new-facts-requires
 unfolding state_of
-explain_outline-requires c =
+new-facts-requires c =
     let plan = c.args.world.now.plan in
     let a = places_of c.args.world.now in
-    let o = c.in_ok-outline.outline in
-    let f = facts_of c.args.places.now (option_copied c.args.file) c.args.account.now o.standings in
-    let at : AreFactsAt plan a f =
+    let f = facts_of c.args.places.now (option_copied c.args.file) c.args.account.now c.as_slice.result.now in
     record {
-      account = c.requires.account;
-      reachable = c.plan-plan.ensures.reachable;
-      stand = subst (λ (end : Final). AreStandings (IsDeadBy end.blocked) end.ends o.standings) c.requires.end c.in_ok-outline.ensures.stand;
-    } in
-    let fits = fits_plan plan a f at in
-    let sized = fits.sized in
-    let few = c.plan-plan.ensures.checked.limits.few_tasks in
-    let small : length o.standings < 2 ^ 32 = omega arith in
-    record { few = small; fits = fits; wait = waits_for_some plan a f at c.requires.rest }
+      few = few_standings plan a f
+          (facts_at plan a f c.args.end.now c.in_ok-outline.outline.standings c.requires.account c.plan-plan.ensures.reachable c.requires.end c.as_slice.ensures.items
+          c.in_ok-outline.ensures.stand)
+          c.plan-plan.ensures.checked;
+    }
+
+pub explain_facts-requires : goal.explain_facts-requires
+unfolding state_of
+explain_facts-requires c =
+    let plan = c.args.world.now.plan in
+    let a = places_of c.args.world.now in
+    let f = facts_of c.args.places.now (option_copied c.args.file) c.args.account.now c.as_slice.result.now in
+    let at : AreFactsAt plan a f =
+    facts_at plan a f c.args.end.now c.in_ok-outline.outline.standings c.requires.account c.plan-plan.ensures.reachable c.requires.end c.as_slice.ensures.items
+    c.in_ok-outline.ensures.stand in
+    record {
+      fits = subst (λ (g : FactsValue). FactsFitPlan g plan) (sym c.new-facts.ensures) (fits_plan plan a f at);
+      wait =
+          subst (λ (g : FactsValue). WaitForSome g (state_of c.args.world.now).phases) (sym c.new-facts.ensures) (waits_for_some plan a f at c.requires.rest);
+    }
 
 pub returns : goal.returns
 unfolding state_of
 returns c =
     let plan = c.args.world.now.plan in
+    let a = places_of c.args.world.now in
     let s = state_of c.args.world.now in
-    let text = c.args.places.now in
     let file = option_copied c.args.file in
-    let account = c.args.account.now in
-    let o = c.in_ok-outline.outline in
-    IfOk-weaker c.explain_outline.result
-    (λ (e : Explanation). Explains (facts_of text file account o.standings) s.phases o.counts e.lines e.has_waiting)
-    (λ (e : Explanation). IsExplanationAt file text plan (places_of c.args.world.now) e.lines e.has_waiting)
+    let counts = c.in_ok-outline.outline.counts in
+    let f = facts_of c.args.places.now file c.args.account.now c.as_slice.result.now in
+    let at : AreFactsAt plan a f =
+    facts_at plan a f c.args.end.now c.in_ok-outline.outline.standings c.requires.account c.plan-plan.ensures.reachable c.requires.end c.as_slice.ensures.items
+    c.in_ok-outline.ensures.stand in
+    IfOk-weaker c.explain_facts.result
+    (λ (e : Explanation). Explains c.new-facts.result s.phases counts e.lines e.has_waiting)
+    (λ (e : Explanation). IsExplanationAt file c.args.places.now plan a e.lines e.has_waiting)
     (λ e is. record {
-      account = account;
+      account = c.args.account.now;
       is_account = c.requires.account;
       explains = record {
-        standings = o.standings;
-        stand = subst (λ (end : Final). AreStandings (IsDeadBy end.blocked) end.ends o.standings) c.requires.end c.in_ok-outline.ensures.stand;
+        standings = c.as_slice.result.now;
+        stand = at.stand;
         explains =
-            subst (λ (t : List ℕ). Explains (facts_of text file account o.standings) s.phases t e.lines e.has_waiting) c.in_ok-outline.ensures.counts is;
+            subst (λ (t : List ℕ). Explains f s.phases t e.lines e.has_waiting)
+            (c.in_ok-outline.ensures.counts ∙ ap (λ (ss : List Standing). counts_line (counts_of ss)) (sym c.as_slice.ensures.items))
+            (subst (λ (g : FactsValue). Explains g s.phases counts e.lines e.has_waiting) c.new-facts.ensures is);
       };
     })
-    c.explain_outline.ensures
+    c.explain_facts.ensures

@@ -1,6 +1,6 @@
 use Rattle.std.proofs.Common.{◌++◌, ap, ◌∙◌}
 use Rattle.explained_tasks.specs.VerdictWords.{linked_words}
-use Rattle.task_sayings.proofs.Texts.{texts_all, texts_more}
+use Rattle.report.proofs.Texts.{texts_all, texts_more}
 use Rattle.explained_tasks.proofs.verdict_line.put_links.Goals as goal
 
 pub loop-k-preserved : goal.loop-k-preserved

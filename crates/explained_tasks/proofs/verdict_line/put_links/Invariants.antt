@@ -1,6 +1,6 @@
 use Rattle.std.proofs.Common.{◌≡◌, ◌++◌}
 use Rattle.explained_tasks.specs.VerdictWords.{linked_words}
-use Rattle.task_sayings.proofs.Texts.{first_texts}
+use Rattle.report.proofs.Texts.{first_texts}
 use Rattle.explained_tasks.proofs.verdict_line.put_links.Given as goal
 
 abbrev pub invariant-loop-k : goal.invariant-loop-k

@@ -4,7 +4,7 @@ use Rattle.std.proofs.lemmas.Grind.{common_steps}
 use Rattle.std.proofs.lemmas.List.{length-replicate}
 use Rattle.armus_base.specs.Plans.{Plan}
 use Rattle.avoider.proofs.NobodyDies.{opening_alive}
-use Rattle.step_lines.specs.calls.Known.{kept_layout}
+use Rattle.accounts.specs.calls.Known.{kept_layout}
 use Rattle.refused_awaits.proofs.Rounds.{none_yet, round_comes, round_ends}
 use Rattle.refused_awaits.proofs.avoiding.avoided_to_end.Goals as goal
 

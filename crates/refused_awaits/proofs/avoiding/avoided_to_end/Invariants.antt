@@ -1,6 +1,6 @@
 use Rattle.std.proofs.Common.{◌≡◌, length}
 use Rattle.std.specs.Prelude.{option_copied}
-use Rattle.step_lines.specs.calls.Known.{kept_layout}
+use Rattle.accounts.specs.calls.Known.{kept_layout}
 use Rattle.world_runs.specs.inside.Turns.{left_in}
 use Rattle.refused_awaits.specs.inside.SoFar.{NobodyDeadIn}
 use Rattle.refused_awaits.proofs.Rounds.{HasCome}

@@ -1,49 +1,65 @@
-use Rattle.std.proofs.Common.{◌<◌, ◌^◌, arith, length, subst, sym}
+use Rattle.std.proofs.Common.{◌≡◌, List, ◌∙◌, ap, subst, sym}
 use Rattle.std.specs.Prelude.{option_copied}
-use Rattle.armus_base.specs.declared.ending.Final.{Final}
-use Rattle.armus_base.specs.Deadlocks.{IsDeadBy}
-use Rattle.armus_base.specs.Finals.{is_awaited}
-use Rattle.armus_base.specs.calls.Statuses.{IsInOrder}
-use Rattle.armus_base.proofs.StatusesAre.{statuses_are}
 use Rattle.pl_core.specs.calls.Worlds.{places_of, state_of}
-use Rattle.report.specs.Standings.{AreStandings}
-use Rattle.task_sayings.specs.Facts.{facts_of}
+use Rattle.report.specs.Counts.{counts_of}
+use Rattle.report.specs.Lines.{counts_line}
+use Rattle.report.specs.declared.standing.Standing.{Standing}
+use Rattle.task_sayings.specs.Facts.{FactsValue, facts_of}
+use Rattle.task_sayings.specs.calls.Fitting.{FactsFitPlan}
 use Rattle.explained_tasks.specs.RunEnds.{AreFactsAt}
 use Rattle.explained_tasks.proofs.FitsEnds.{fits_plan}
+use Rattle.explained_tasks.proofs.OutlineFits.{facts_at, few_standings, final_in_order}
+use Rattle.refused_awaits.specs.AvoidedWords.{avoided_words}
 use Rattle.refused_awaits.proofs.explaining.avoided_explanation_of.Goals as goal
 
 pub outline_of-requires : goal.outline_of-requires
 outline_of-requires c =
-    let plan = c.args.run.now.world.plan in
-    let s = state_of c.args.run.now.world in
-    subst (λ (end : Final). IsInOrder end.blocked) (sym c.requires.end) (statuses_are plan s (is_awaited plan s) c.plan-plan.ensures.checked).in_order
+    final_in_order c.args.run.now.world.plan (state_of c.args.run.now.world) c.args.run.now.end c.plan-plan.ensures.checked c.requires.end
 
-pub explain_outline-requires : goal.explain_outline-requires
+pub new-facts-requires : goal.new-facts-requires
 unfolding state_of
-explain_outline-requires c =
+new-facts-requires c =
     let plan = c.args.run.now.world.plan in
     let a = places_of c.args.run.now.world in
-    let o = c.in_ok-outline.outline in
-    let f = facts_of c.args.places.now (option_copied c.args.file) c.args.account.now o.standings in
-    let at : AreFactsAt plan a f =
+    let f = facts_of c.args.places.now (option_copied c.args.file) c.args.account.now c.as_slice-stand.result.now in
     record {
-      account = c.requires.account;
-      reachable = c.plan-plan.ensures.reachable;
-      stand = subst (λ (end : Final). AreStandings (IsDeadBy end.blocked) end.ends o.standings) c.requires.end c.in_ok-outline.ensures.stand;
-    } in
-    let fits = fits_plan plan a f at in
-    let sized = fits.sized in
-    let few = c.plan-plan.ensures.checked.limits.few_tasks in
-    let small : length o.standings < 2 ^ 32 = omega arith in
-    record { few = small; counts = c.in_ok-outline.ensures.counts; fits = fits }
+      few = few_standings plan a f
+          (facts_at plan a f c.args.run.now.end c.in_ok-outline.outline.standings c.requires.account c.plan-plan.ensures.reachable c.requires.end c.as_slice-stand.ensures.items
+          c.in_ok-outline.ensures.stand)
+          c.plan-plan.ensures.checked;
+    }
+
+pub explain_standings-requires : goal.explain_standings-requires
+unfolding state_of
+explain_standings-requires c =
+    let plan = c.args.run.now.world.plan in
+    let a = places_of c.args.run.now.world in
+    let f = facts_of c.args.places.now (option_copied c.args.file) c.args.account.now c.as_slice-stand.result.now in
+    let at : AreFactsAt plan a f =
+    facts_at plan a f c.args.run.now.end c.in_ok-outline.outline.standings c.requires.account c.plan-plan.ensures.reachable c.requires.end c.as_slice-stand.ensures.items
+    c.in_ok-outline.ensures.stand in
+    record {
+      few = few_standings plan a f at c.plan-plan.ensures.checked;
+      stand = ap (λ (g : FactsValue). g.standings) c.new-facts.ensures;
+      counts = c.in_ok-outline.ensures.counts ∙ ap (λ (ss : List Standing). counts_line (counts_of ss)) (sym c.as_slice-stand.ensures.items);
+      fits = subst (λ (g : FactsValue). FactsFitPlan g plan) (sym c.new-facts.ensures) (fits_plan plan a f at);
+    }
 
 pub returns : goal.returns
 unfolding state_of
 returns c =
-    let o = c.in_ok-outline.outline in
+    let plan = c.args.run.now.world.plan in
+    let a = places_of c.args.run.now.world in
+    let run = c.args.run.now in
+    let f = facts_of c.args.places.now (option_copied c.args.file) c.args.account.now c.as_slice-stand.result.now in
+    let at : AreFactsAt plan a f =
+    facts_at plan a f c.args.run.now.end c.in_ok-outline.outline.standings c.requires.account c.plan-plan.ensures.reachable c.requires.end c.as_slice-stand.ensures.items
+    c.in_ok-outline.ensures.stand in
     record {
-      standings = o.standings;
-      stand = subst (λ (end : Final). AreStandings (IsDeadBy end.blocked) end.ends o.standings) c.requires.end c.in_ok-outline.ensures.stand;
-      lines_are = c.in_ok-explanation.ensures.lines;
+      standings = c.as_slice-stand.result.now;
+      stand = at.stand;
+      lines_are =
+          subst (λ (g : FactsValue). c.in_ok-explanation.explanation.lines ≡ avoided_words g (state_of run.world).phases run.refusals) c.new-facts.ensures
+          c.in_ok-explanation.ensures.lines;
       tells = c.in_ok-explanation.ensures.tells;
     }

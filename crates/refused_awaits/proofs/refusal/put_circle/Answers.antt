@@ -1,4 +1,4 @@
-use Rattle.step_lines.specs.calls.Known.{kept_layout}
+use Rattle.accounts.specs.calls.Known.{kept_layout}
 use Rattle.refused_awaits.proofs.Circles.{one_alone, several}
 use Rattle.refused_awaits.proofs.refusal.put_circle.Goals as goal
 

@@ -1,5 +1,5 @@
 use Rattle.std.proofs.Common.{codes}
-use Rattle.step_lines.specs.calls.Known.{kept_layout}
+use Rattle.accounts.specs.calls.Known.{kept_layout}
 use Rattle.refused_awaits.specs.RefusalWords.{avoided_circle_words}
 use Rattle.refused_awaits.proofs.Pieces.{three_pieces}
 use Rattle.refused_awaits.proofs.refusal.put_deadlock.Goals as goal

@@ -1,5 +1,5 @@
 use Rattle.std.proofs.Common.{◌∙◌, ◌++◌, ap}
-use Rattle.step_lines.specs.calls.Known.{kept_layout}
+use Rattle.accounts.specs.calls.Known.{kept_layout}
 use Rattle.step_lines.proofs.Pieces.{two_pieces}
 use Rattle.refused_awaits.specs.RefusalWords.{avoided_link_words, member_words}
 use Rattle.refused_awaits.proofs.refusal.put_linked.Goals as goal

@@ -4,7 +4,7 @@ use Rattle.origins.specs.Origins.{op_origin}
 use Rattle.pl_core.specs.calls.Worlds.{places_of}
 use Rattle.task_sayings.specs.Places.{said_of}
 use Rattle.step_lines.specs.StepWords.{drawn_task_words}
-use Rattle.step_lines.specs.calls.Known.{kept_layout}
+use Rattle.accounts.specs.calls.Known.{kept_layout}
 use Rattle.refused_awaits.specs.RefusalWords.{place_of}
 use Rattle.refused_awaits.proofs.Pieces.{three_pieces}
 use Rattle.refused_awaits.proofs.refusal.put_member.Goals as goal

@@ -1,6 +1,6 @@
 use Rattle.std.proofs.Common.{◌++◌, ap, ◌∙◌}
-use Rattle.task_sayings.proofs.Texts.{texts_all, texts_more}
-use Rattle.step_lines.specs.calls.Known.{kept_layout}
+use Rattle.report.proofs.Texts.{texts_all, texts_more}
+use Rattle.accounts.specs.calls.Known.{kept_layout}
 use Rattle.refused_awaits.specs.RefusalWords.{avoided_link_words, member_words}
 use Rattle.refused_awaits.proofs.refusal.put_members.Goals as goal
 

@@ -1,6 +1,6 @@
 use Rattle.std.proofs.Common.{◌≡◌, ◌++◌, ℕ}
-use Rattle.task_sayings.proofs.Texts.{first_texts}
-use Rattle.step_lines.specs.calls.Known.{kept_layout}
+use Rattle.report.proofs.Texts.{first_texts}
+use Rattle.accounts.specs.calls.Known.{kept_layout}
 use Rattle.refused_awaits.specs.RefusalWords.{avoided_link_words, member_words}
 use Rattle.refused_awaits.specs.inside.SoFar.{StandAt}
 use Rattle.refused_awaits.proofs.refusal.put_members.Given as goal

@@ -1,6 +1,6 @@
 use Rattle.std.proofs.Common.{◌++◌, ap, ◌∙◌, codes, decimal, length}
 use Rattle.task_sayings.specs.TaskLists.{separator}
-use Rattle.task_sayings.proofs.Texts.{texts_all, texts_more}
+use Rattle.report.proofs.Texts.{texts_all, texts_more}
 use Rattle.refused_awaits.proofs.refusal.put_phasers.Goals as goal
 
 pub loop-k-preserved : goal.loop-k-preserved

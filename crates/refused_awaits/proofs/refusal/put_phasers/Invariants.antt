@@ -1,6 +1,6 @@
 use Rattle.std.proofs.Common.{◌≡◌, ◌++◌, codes, decimal, length}
 use Rattle.task_sayings.specs.TaskLists.{separator}
-use Rattle.task_sayings.proofs.Texts.{first_texts}
+use Rattle.report.proofs.Texts.{first_texts}
 use Rattle.refused_awaits.proofs.refusal.put_phasers.Given as goal
 
 abbrev pub invariant-loop-k : goal.invariant-loop-k

@@ -3,7 +3,7 @@ use Rattle.std.specs.Prelude.{option_copied}
 use Rattle.armus_base.specs.Plans.{code_of}
 use Rattle.pl_core.specs.calls.Worlds.{places_of}
 use Rattle.pl_syntax.specs.Printed.{line}
-use Rattle.step_lines.specs.calls.Known.{kept_layout}
+use Rattle.accounts.specs.calls.Known.{kept_layout}
 use Rattle.step_lines.proofs.Pieces.{four_pieces, two_pieces}
 use Rattle.refused_awaits.specs.RefusalWords.{avoided_circle_words, phaser_list, refused_words, refused_whence_words}
 use Rattle.refused_awaits.proofs.refusal.put_refusal.Goals as goal

@@ -1,5 +1,5 @@
 use Rattle.std.proofs.Common.{◌≡◌, ◌++◌, flat_map, take}
-use Rattle.step_lines.specs.calls.Known.{kept_layout}
+use Rattle.accounts.specs.calls.Known.{kept_layout}
 use Rattle.refused_awaits.specs.RefusalWords.{refused_turn_words}
 use Rattle.refused_awaits.proofs.refusal.put_turns.Given as goal
 

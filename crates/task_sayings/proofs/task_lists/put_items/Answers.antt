@@ -1,6 +1,6 @@
 use Rattle.std.proofs.Common.{◌++◌, ap, ◌∙◌, length}
 use Rattle.task_sayings.specs.TaskLists.{item_words, separator}
-use Rattle.task_sayings.proofs.Texts.{texts_all, texts_more}
+use Rattle.report.proofs.Texts.{texts_all, texts_more}
 use Rattle.task_sayings.proofs.task_lists.put_items.Goals as goal
 
 pub loop-k-preserved : goal.loop-k-preserved

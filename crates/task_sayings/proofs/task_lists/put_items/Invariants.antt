@@ -1,6 +1,6 @@
 use Rattle.std.proofs.Common.{◌≡◌, ◌++◌, length}
 use Rattle.task_sayings.specs.TaskLists.{item_words, separator}
-use Rattle.task_sayings.proofs.Texts.{first_texts}
+use Rattle.report.proofs.Texts.{first_texts}
 use Rattle.task_sayings.proofs.task_lists.put_items.Given as goal
 
 abbrev pub invariant-loop-k : goal.invariant-loop-k

@@ -8,7 +8,7 @@ use Rattle.avoider.specs.declared.decision.Decision.{Decision}
 use Rattle.avoider.proofs.Supposing.{of_plan, phaser_of_await}
 use Rattle.pl_core.specs.calls.Worlds.{state_of}
 use Rattle.pl_syntax.specs.Printed.{line}
-use Rattle.step_lines.specs.calls.Known.{kept_layout}
+use Rattle.accounts.specs.calls.Known.{kept_layout}
 use Rattle.step_lines.proofs.Pieces.{two_pieces}
 use Rattle.refused_awaits.specs.RefusalWords.{going_on_words, left_phasers, refusal_by}
 use Rattle.refused_awaits.specs.inside.Freed.{AreThoseBelow, IsFreed}

@@ -5,7 +5,7 @@ use Rattle.armus_base.specs.Plans.{Aim, Blocks}
 use Rattle.avoider.specs.calls.Decisions.{HasGoneOn}
 use Rattle.avoider.proofs.NobodyDies.{no_block_else, step_kills_nobody}
 use Rattle.avoider.proofs.SamePlan.{gone_on_plan}
-use Rattle.step_lines.specs.calls.Known.{kept_layout}
+use Rattle.accounts.specs.calls.Known.{kept_layout}
 use Rattle.world_runs.proofs.Left.{gone_on_leaves_less}
 use Rattle.refused_awaits.proofs.Deciding.{goes_by_decision, goes_by_other, gone_on}
 use Rattle.refused_awaits.proofs.avoiding.Avoiding.go_on.Goals as goal

@@ -1,7 +1,7 @@
 use Rattle.std.proofs.Common.{inr, refl, sym, true}
 use Rattle.std.specs.Prelude.{option_copied}
 use Rattle.std.proofs.lemmas.Bool.{false≢true}
-use Rattle.step_lines.specs.calls.Known.{kept_layout}
+use Rattle.accounts.specs.calls.Known.{kept_layout}
 use Rattle.world_runs.proofs.WorldRounds.{leaves_none, leaves_on}
 use Rattle.refused_awaits.specs.inside.SoFar.{NobodyDeadIn}
 use Rattle.refused_awaits.proofs.Turning.{goes_more, goes_none}

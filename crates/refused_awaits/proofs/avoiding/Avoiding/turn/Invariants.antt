@@ -1,5 +1,5 @@
 use Rattle.std.specs.Prelude.{option_copied}
-use Rattle.step_lines.specs.calls.Known.{kept_layout}
+use Rattle.accounts.specs.calls.Known.{kept_layout}
 use Rattle.world_runs.specs.inside.Turns.{left_in}
 use Rattle.world_runs.specs.inside.WorldRounds.{LeavesLess}
 use Rattle.refused_awaits.specs.inside.SoFar.{RoundsGoTo, NobodyDeadIn}

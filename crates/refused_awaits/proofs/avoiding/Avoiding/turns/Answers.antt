@@ -5,7 +5,7 @@ use Rattle.std.proofs.lemmas.Option.{slice_get-get_or}
 use Rattle.armus_base.specs.Plans.{Plan}
 use Rattle.pl_core.specs.calls.Stands.{IsEnabled}
 use Rattle.pl_core.specs.calls.Worlds.{WorldValue}
-use Rattle.step_lines.specs.calls.Known.{kept_layout}
+use Rattle.accounts.specs.calls.Known.{kept_layout}
 use Rattle.world_runs.proofs.WorldRounds.{leaves_none, leaves_on}
 use Rattle.refused_awaits.specs.inside.SoFar.{NobodyDeadIn}
 use Rattle.refused_awaits.proofs.Turning.{round_begun, round_more, turn_quiet}

@@ -1,7 +1,7 @@
 use Rattle.std.proofs.Common.{◌≡◌, ◌<◌, ℕ, false}
 use Rattle.std.specs.Prelude.{option_copied}
 use Rattle.pl_core.specs.calls.Stands.{IsEnabled}
-use Rattle.step_lines.specs.calls.Known.{kept_layout}
+use Rattle.accounts.specs.calls.Known.{kept_layout}
 use Rattle.world_runs.specs.inside.WorldRounds.{LeavesLess}
 use Rattle.refused_awaits.specs.inside.SoFar.{NobodyDeadIn, RoundTo}
 use Rattle.refused_awaits.proofs.avoiding.Avoiding.turns.Given as goal

@@ -1,17 +1,17 @@
--- What the program keeps of a text.
+-- What is kept of a text alone.
 use Rattle.std.specs.Prelude.{◌+◌, ◌<◌, ◌^◌}
 use Rattle.pl_syntax.specs.Grammar.{IsText}
 use Rattle.pl_syntax.specs.Tree.{count}
 use Rattle.origins.specs.calls.OriginTables.{AreOrigins}
 use Rattle.accounts.specs.Accounts.{IsLayout, Layout}
-use Rattle.step_lines.specs.declared.facts.StepFacts.{StepFacts}
+use Rattle.accounts.specs.declared.facts.TextFacts.{TextFacts}
 
 -- the layout that is kept
-abbrev pub kept_layout : StepFacts → Layout
+abbrev pub kept_layout : TextFacts → Layout
 kept_layout f = record { text = f.places.now; offsets = f.offsets; ends = f.ends }
 
 -- what is kept is known of the program
-pub record AreKnownFacts (f : StepFacts) : Type 0 where
+pub record AreKnownFacts (f : TextFacts) : Type 0 where
   pub reads : IsText f.places.now f.program.now
   pub layout : IsLayout f.program.now (kept_layout f)
   pub origins : AreOrigins f.program.now f.origins

@@ -3,10 +3,10 @@ use Rattle.std.specs.Prelude.{OnOk}
 use Rattle.pl_core.specs.calls.Worlds.{state_of}
 use Rattle.task_sayings.specs.Places.{said_of}
 use Rattle.step_lines.specs.StepWords.{change_words}
-use Rattle.step_lines.proofs.facts.StepFacts.put_ready.Goals as goal
+use Rattle.step_lines.proofs.changes.put_change.Goals as goal
 
-pub returns : goal.returns
-returns c =
+pub returns-in-Ready : goal.returns-in-Ready
+returns-in-Ready c =
     subst (λ o. OnOk c.put_op.result (c.put_op.new.out.items ≡ c.args.out.now.items
-    ++ said_of (change_words c.args.self.now.program.now (state_of c.args.world.now) c.args.t.0) o))
-    (sym c.ready_op-op.ensures.next) c.put_op.ensures
+    ++ said_of (change_words c.args.facts.now.program.now (state_of c.args.world.now) c.args.t.0) o))
+    (sym c.ready_op.ensures.next) c.put_op.ensures

@@ -3,10 +3,10 @@ use Rattle.origins.specs.Origins.{op_origin}
 use Rattle.pl_core.specs.calls.Worlds.{action_by_code, state_of}
 use Rattle.task_sayings.specs.Places.{said_of}
 use Rattle.step_lines.specs.StepWords.{change_words, drawn_task_words, whence_words}
-use Rattle.step_lines.specs.calls.Known.{kept_layout}
+use Rattle.accounts.specs.calls.Known.{kept_layout}
 use Rattle.step_lines.proofs.LineSaid.{as_line}
 use Rattle.step_lines.proofs.Pieces.{eight_pieces}
-use Rattle.step_lines.proofs.telling.StepFactsTellsSteps.put_line.Goals as goal
+use Rattle.step_lines.proofs.telling.TextFactsTellsSteps.put_line.Goals as goal
 
 pub returns : goal.returns
 returns c =

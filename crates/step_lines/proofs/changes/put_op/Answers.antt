@@ -1,7 +1,7 @@
 use Rattle.std.proofs.Common.{◌∙◌, ap, Some, sym}
 use Rattle.pl_core.specs.inside.Ops.{action_of}
 use Rattle.step_lines.proofs.Phases.{phase_has_room, phaser_advanced, phaser_registered}
-use Rattle.step_lines.proofs.facts.StepFacts.put_op.Goals as goal
+use Rattle.step_lines.proofs.changes.put_op.Goals as goal
 
 pub phase-phase-requires-clause-phaser : goal.phase-phase-requires-clause-phaser
 phase-phase-requires-clause-phaser c =

@@ -1,7 +1,0 @@
-use Rattle.std.proofs.Common.{◌≡◌, drop}
-use Rattle.task_sayings.specs.Facts.{is_deadlocked}
-use Rattle.task_sayings.specs.Nexts.{least_that}
-use Rattle.task_sayings.proofs.facts.Facts.least_deadlocked.Given as goal
-
-abbrev pub invariant-loop-impeder : goal.invariant-loop-impeder
-invariant-loop-impeder l = least_that is_deadlocked l.self l.impeders ≡ least_that is_deadlocked l.self (drop l.impeder-index l.impeders)
