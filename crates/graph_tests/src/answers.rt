@@ -1,9 +1,9 @@
 // What the crates answer to statuses, as text.
-use crate::texts::{add_event, add_number, add_tasks, event, number};
 use adaptive::{Analysis, Used, Wanted, analyse, dead_by, dead_of};
 use armus_base::{List, NoMemory, Status, TaskId};
 use dep_state::{DepState, is_in_order, picked};
 use resource_graph::ResourceGraph;
+use row_texts::{add_event, add_tasks, task_and_event};
 use state_graph::{SgEnd, StateGraph};
 use std::alloc::Global;
 use verdict::{Cycle, check_cycle};
@@ -17,21 +17,21 @@ pub(crate) fn relations(alloc: Global, list: &[Status]) -> Result<String, NoMemo
         return Ok(text);
     }
     let deps = DepState::of(alloc, list)?;
-    add_relations(alloc, &mut text, &deps)?;
+    add_relations(&mut text, &deps)?;
     Ok(text)
 }
 
-fn add_relations(alloc: Global, text: &mut String, deps: &DepState) -> Result<(), NoMemory> {
+fn add_relations(text: &mut String, deps: &DepState) -> Result<(), NoMemory> {
     for t in 0..4 {
         if let Some(event) = deps.awaits(TaskId(t)) {
-            add_event(alloc, text, event)?;
+            add_event(text, event)?;
         }
-        add_tasks(alloc, text, deps.waits_for(TaskId(t)))?;
+        add_tasks(text, deps.waits_for(TaskId(t)))?;
         text.push_str("; ")?;
     }
     for event in deps.events() {
-        add_event(alloc, text, *event)?;
-        add_tasks(alloc, text, deps.impeders(*event))?;
+        add_event(text, *event)?;
+        add_tasks(text, deps.impeders(*event))?;
         text.push_str("; ")?;
     }
     Ok(())
@@ -41,13 +41,9 @@ fn add_relations(alloc: Global, text: &mut String, deps: &DepState) -> Result<()
 pub(crate) fn dead(alloc: Global, list: &[Status]) -> Result<String, NoMemory> {
     let mut text = String::new(alloc);
     if is_in_order(list) {
-        add_tasks(alloc, &mut text, dead_of(alloc, list)?.as_slice())?;
+        add_tasks(&mut text, dead_of(alloc, list)?.as_slice())?;
         text.push_str("; ")?;
-        add_tasks(
-            alloc,
-            &mut text,
-            dead_by(alloc, list, Wanted::Grg)?.as_slice(),
-        )?;
+        add_tasks(&mut text, dead_by(alloc, list, Wanted::Grg)?.as_slice())?;
     }
     Ok(text)
 }
@@ -67,36 +63,29 @@ pub(crate) fn graphs(alloc: Global, list: &[Status]) -> Result<String, NoMemory>
 
 fn add_wait(alloc: Global, text: &mut String, deps: &DepState) -> Result<(), NoMemory> {
     let graph = WaitGraph::build(alloc, deps)?;
-    text.push_str("wfg ")?;
-    add_number(alloc, text, graph.edges())?;
-    add_tasks(alloc, text, graph.dead(alloc)?.as_slice())?;
+    write!(text, "wfg {} ", graph.edges())?;
+    add_tasks(text, graph.dead(alloc)?.as_slice())?;
     Ok(())
 }
 
 fn add_state(alloc: Global, text: &mut String, deps: &DepState) -> Result<(), NoMemory> {
     let graph = StateGraph::build(alloc, deps)?;
-    text.push_str("sg ")?;
-    add_number(alloc, text, graph.edges())?;
-    add_tasks(alloc, text, graph.dead(alloc)?.as_slice())?;
+    write!(text, "sg {} ", graph.edges())?;
+    add_tasks(text, graph.dead(alloc)?.as_slice())?;
     Ok(())
 }
 
 fn add_resource(alloc: Global, text: &mut String, deps: &DepState) -> Result<(), NoMemory> {
     let graph = ResourceGraph::build(alloc, deps)?;
-    text.push_str("grg ")?;
-    add_number(alloc, text, graph.edges())?;
-    add_tasks(alloc, text, graph.dead(alloc)?.as_slice())?;
+    write!(text, "grg {} ", graph.edges())?;
+    add_tasks(text, graph.dead(alloc)?.as_slice())?;
     Ok(())
 }
 
 fn add_bounded(alloc: Global, text: &mut String, deps: &DepState) -> Result<(), NoMemory> {
     match StateGraph::build_bounded(alloc, deps) {
-        Ok(graph) => add_number(alloc, text, graph.edges())?,
-        Err(SgEnd::Left { k, edges }) => {
-            text.push_str("left ")?;
-            add_number(alloc, text, u64::from(k))?;
-            add_number(alloc, text, edges)?;
-        }
+        Ok(graph) => write!(text, "{} ", graph.edges())?,
+        Err(SgEnd::Left { k, edges }) => write!(text, "left {k} {edges} ")?,
         Err(SgEnd::NoMemory) => return Err(NoMemory),
     }
     Ok(())
@@ -107,20 +96,20 @@ pub(crate) fn choices(alloc: Global, list: &[Status]) -> Result<String, NoMemory
     let mut text = String::new(alloc);
     if is_in_order(list) {
         for wanted in [Wanted::Auto, Wanted::Wfg, Wanted::Sg, Wanted::Grg] {
-            add_analysis(alloc, &mut text, &analyse(alloc, list, wanted)?)?;
+            add_analysis(&mut text, &analyse(alloc, list, wanted)?)?;
         }
     }
     Ok(text)
 }
 
-fn add_analysis(alloc: Global, text: &mut String, analysis: &Analysis) -> Result<(), NoMemory> {
-    text.push_str(match analysis.used {
-        Used::Wfg => "wfg ",
-        Used::Sg => "sg ",
-        Used::Grg => "grg ",
-    })?;
-    add_number(alloc, text, analysis.edges)?;
-    add_tasks(alloc, text, analysis.dead.as_slice())?;
+fn add_analysis(text: &mut String, analysis: &Analysis) -> Result<(), NoMemory> {
+    let graph = match analysis.used {
+        Used::Wfg => "wfg",
+        Used::Sg => "sg",
+        Used::Grg => "grg",
+    };
+    write!(text, "{graph} {} ", analysis.edges)?;
+    add_tasks(text, analysis.dead.as_slice())?;
     text.push_str("; ")?;
     Ok(())
 }
@@ -130,9 +119,10 @@ fn links(alloc: Global, text: &str) -> Result<Cycle, NoMemory> {
     let mut tasks = List::new(alloc);
     let mut events = List::new(alloc);
     for part in text.split(",") {
-        if let Some((t, awaited)) = part.trim().split_once(" ") {
-            tasks.push(TaskId(number(t)))?;
-            events.push(event(awaited))?;
+        if !part.trim().is_empty() {
+            let (t, event) = task_and_event(part);
+            tasks.push(t)?;
+            events.push(event)?;
         }
     }
     Ok(Cycle { tasks, events })
@@ -154,6 +144,6 @@ pub(crate) fn picks(alloc: Global) -> Result<String, NoMemory> {
     let mut text = String::new(alloc);
     let tasks = [TaskId(0), TaskId(1), TaskId(2)];
     let list = picked(alloc, tasks.as_slice(), [false, true, true].as_slice())?;
-    add_tasks(alloc, &mut text, list.as_slice())?;
+    add_tasks(&mut text, list.as_slice())?;
     Ok(text)
 }

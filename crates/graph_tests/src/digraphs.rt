@@ -2,9 +2,9 @@
 // are, which nodes reach a cycle, and the cycle of the walk from node 0. `0 all 1` adds an edge to each of a list of one.
 ghost use Rattle.std.specs.Prelude.{◌<◌, length, IfOk, IsTrue};
 
-use crate::texts::{add_number, add_numbers, number};
 use armus_base::NoMemory;
 use digraph::{Digraph, least_marked, walk_cycle};
+use row_texts::{add_numbers, columns, cut, number};
 use std::alloc::Global;
 use std::test::Fail;
 
@@ -40,12 +40,12 @@ fn add_edge(alloc: Global, graph: &mut Digraph, edge: &str) -> Result<&'static s
     if let Some((a, b)) = edge.split_once(" all ") {
         return added_all(alloc, graph, number(a), number(b));
     }
-    let (a, b) = edge.split_once(" ").unwrap_or((edge, ""));
+    let (a, b) = cut(edge, " ");
     added(alloc, graph, number(a), number(b))
 }
 
 fn add_answers(alloc: Global, text: &mut String, graph: &Digraph) -> Result<(), NoMemory> {
-    add_number(alloc, text, graph.edges())?;
+    write!(text, "{} ", graph.edges())?;
     let answers = graph.reaching(alloc)?;
     for answer in answers.as_slice() {
         text.push_str(if *answer { "yes " } else { "no " })?;
@@ -58,7 +58,7 @@ fn add_cycle(alloc: Global, text: &mut String, graph: &Digraph) -> Result<(), No
         return Ok(());
     }
     match graph.cycle_from(alloc, 0)? {
-        Some(cycle) => add_numbers(alloc, text, cycle.as_slice())?,
+        Some(cycle) => add_numbers(text, cycle.as_slice())?,
         None => text.push_str("none")?,
     }
     Ok(())
@@ -78,8 +78,7 @@ fn answer(alloc: Global, nodes: &str, edges: &str) -> Result<String, NoMemory> {
 #[test]
 fn rows_of_graphs(rt: HostRuntime) -> Result<(), Fail> {
     for row in ROWS.lines() {
-        let (nodes, rest) = row.split_once("|").unwrap_or((row, ""));
-        let (edges, wanted) = rest.split_once("|").unwrap_or((rest, ""));
+        let (nodes, edges, wanted) = columns(row, "|");
         let found = answer(rt.alloc(), nodes.trim(), edges)?;
         assert!(rt; found.as_str().trim() == wanted.trim(), "{row}");
     }

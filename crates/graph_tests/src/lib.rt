@@ -9,5 +9,3 @@ mod digraphs;
 mod orders;
 #[cfg(test)]
 mod rows;
-#[cfg(test)]
-mod texts;

@@ -2,10 +2,10 @@
 ghost use Rattle.std.specs.Prelude.{All, IsTrue};
 ghost use Rattle.order_graph.specs.calls.Orders.{IsTaskOf};
 
-use crate::texts::{add_numbers, number, statuses};
 use armus_base::{NoMemory, TaskId};
 use dep_state::{DepState, is_in_order};
 use order_graph::{Added, Followed, Order};
+use row_texts::{add_numbers, columns, cut, first_word, number, statuses};
 use std::alloc::{AllocError, Global};
 use std::test::Fail;
 
@@ -50,20 +50,19 @@ fn edges_text(alloc: Global, tasks: &str, edges: &str) -> Result<String, NoMemor
     let mut text = String::new(alloc);
     let mut order = Order::start(alloc, number(tasks))?;
     for edge in edges.split(",") {
-        let (a, b) = edge.trim().split_once(" ").unwrap_or((edge, ""));
+        let (a, b) = first_word(edge);
         let cycle = added(alloc, &mut order, number(a), number(b))?;
-        add_numbers(alloc, &mut text, &cycle)?;
+        add_numbers(&mut text, &cycle)?;
         text.push_str("; ")?;
     }
-    add_numbers(alloc, &mut text, &by_position(alloc, &order)?)?;
+    add_numbers(&mut text, &by_position(alloc, &order)?)?;
     Ok(text)
 }
 
 #[test]
 fn rows_of_edges(rt: HostRuntime) -> Result<(), Fail> {
     for row in EDGES.lines() {
-        let (tasks, rest) = row.split_once("|").unwrap_or((row, ""));
-        let (edges, wanted) = rest.split_once("|").unwrap_or((rest, ""));
+        let (tasks, edges, wanted) = columns(row, "|");
         let found = edges_text(rt.alloc(), tasks.trim(), edges)?;
         assert!(rt; found.as_str().trim() == wanted.trim(), "{row}");
     }
@@ -222,10 +221,10 @@ fn has_tasks(order: &Order, deps: &DepState) -> bool
 fn followed(alloc: Global, order: &mut Order, text: &str) -> Result<String, NoMemory> {
     let mut told = String::new(alloc);
     let list = statuses(alloc, text)?;
-    if !is_in_order(&list) {
+    if !is_in_order(list.as_slice()) {
         return Ok(told);
     }
-    let deps = DepState::of(alloc, &list)?;
+    let deps = DepState::of(alloc, list.as_slice())?;
     if !has_tasks(order, &deps) {
         return Ok(told);
     }
@@ -233,7 +232,7 @@ fn followed(alloc: Global, order: &mut Order, text: &str) -> Result<String, NoMe
         Followed::Kept => "kept ",
         Followed::Dead => "dead ",
     })?;
-    add_numbers(alloc, &mut told, &by_position(alloc, order)?)?;
+    add_numbers(&mut told, &by_position(alloc, order)?)?;
     Ok(told)
 }
 
@@ -241,7 +240,7 @@ fn followed(alloc: Global, order: &mut Order, text: &str) -> Result<String, NoMe
 fn follows_statuses(rt: HostRuntime) -> Result<(), Fail> {
     let mut order = Order::start(rt.alloc(), 3)?;
     for row in LISTS.lines() {
-        let (list, wanted) = row.split_once("|").unwrap_or((row, ""));
+        let (list, wanted) = cut(row, "|");
         let found = followed(rt.alloc(), &mut order, list)?;
         assert!(rt; found.as_str().trim() == wanted.trim(), "{row}");
     }

@@ -1,7 +1,7 @@
 // Rows: a kind, statuses, what else is asked, and the answer.
 use crate::answers::{choices, cycle, dead, graphs, picks, relations};
-use crate::texts::statuses;
 use armus_base::NoMemory;
+use row_texts::{columns, cut, statuses};
 use std::alloc::Global;
 use std::test::Fail;
 
@@ -41,20 +41,20 @@ cycle | 1 0@2 0@1, 2 0@2 0@2 | 2 0@2 | no\n\
 
 fn answer(alloc: Global, kind: &str, text: &str, more: &str) -> Result<String, NoMemory> {
     let list = statuses(alloc, text)?;
+    let list = list.as_slice();
     match kind.trim() {
-        "relations" => relations(alloc, &list),
+        "relations" => relations(alloc, list),
         "picks" => picks(alloc),
-        "dead" => dead(alloc, &list),
-        "graphs" => graphs(alloc, &list),
-        "choices" => choices(alloc, &list),
-        _ => cycle(alloc, &list, more),
+        "dead" => dead(alloc, list),
+        "graphs" => graphs(alloc, list),
+        "choices" => choices(alloc, list),
+        _ => cycle(alloc, list, more),
     }
 }
 
 fn found(alloc: Global, row: &str) -> Result<bool, NoMemory> {
-    let (kind, rest) = row.split_once("|").unwrap_or((row, ""));
-    let (text, rest) = rest.split_once("|").unwrap_or((rest, ""));
-    let (more, wanted) = rest.split_once("|").unwrap_or((rest, ""));
+    let (kind, text, rest) = columns(row, "|");
+    let (more, wanted) = cut(rest, "|");
     let answer = answer(alloc, kind, text, more)?;
     Ok(answer.as_str().trim() == wanted.trim())
 }

@@ -1,16 +1,6 @@
 // Texts with a check fault: the file, the text and its lines.
-ghost use Rattle.std.specs.Prelude.{◌<◌, ◌≤◌, ◌^◌, length};
-ghost use Rattle.pl_syntax.specs.Grammar.{IsText};
-ghost use Rattle.pl_syntax.specs.Tree.{count};
-
-use crate::rows::{are_bytes_of, bytes_of};
-use armus_base::NoMemory;
-use check_refusals::{Statements, check_refusal};
-use check_scenes::scene_of;
-use pl_syntax::{MAX_PARSED_BYTES, Program, parse, statement_offsets};
-use std::alloc::Global;
+use crate::refused::is_met;
 use std::test::Fail;
-use text_places::TextPlaces;
 
 const ROWS: &str = "\
 k.pl$barrier = newPhaser();~loop 3 {~  worker = newTid();~  reg(worker, barrier);~  fork(worker) {~    adv(barier);~  }~}~$k.pl:6:5: 'barier' is not known here: no newTid or newPhaser names it before (check 1, statement 6)~        adv(barier);~        ^~  in t1 (worker), forked at 5:3~\n\
@@ -27,56 +17,6 @@ $pl 2; p = newPhaser();~loop 16 { loop 65535 { adv(p); } }~loop 15 { adv(p); }~$
 $loop 65535 { loop 65535 { } }~$1:14: 4194304 visits were made already: no more may be (check 10, statement 2)~    loop 65535 { loop 65535 { } }~                 ^~  turn 64 of the loop at 1:1~\n\
 $loop 256 { p = newPhaser(); }~loop 4095 { t = newTid(); }~$2:13: 4081 tasks and 256 phasers would be there: the tasks times one more than the phasers may be at most 1048576 (check 11, statement 4)~    loop 4095 { t = newTid(); }~                ^~  turn 4080 of the loop at 2:1~\n\
 ";
-
-// Whether the text of a file, or of none, that has this program is refused with these lines.
-fn has_lines(
-    alloc: Global,
-    file: Option<&[u8]>,
-    text: &[u8],
-    program: &Program,
-    lines: &str,
-) -> Result<bool, NoMemory>
-    requires short { length text.now ≤ MAX_PARSED_BYTES }
-    requires is_text { IsText text.now program.now }
-    requires few { count program.now.body < 2 ^ 32 }
-{
-    let Some(scene) = scene_of(alloc, program)? else {
-        return Ok(false);
-    };
-    let statements = Statements {
-        places: TextPlaces::new(alloc, text)?,
-        offsets: statement_offsets(alloc, text, program)?,
-        end: text.len() as u32,
-    };
-    let found = check_refusal(alloc, text, program, &statements, file, &scene)?;
-    Ok(are_bytes_of(found.as_slice(), lines))
-}
-
-fn is_refused_so(
-    alloc: Global,
-    file: Option<&[u8]>,
-    text: &[u8],
-    lines: &str,
-) -> Result<bool, NoMemory> {
-    if text.len() > MAX_PARSED_BYTES {
-        return Ok(false);
-    }
-    match parse(alloc, text) {
-        Ok(program) => has_lines(alloc, file, text, &program, lines),
-        Err(_e) => Ok(false),
-    }
-}
-
-fn is_met(alloc: Global, row: &str) -> Result<bool, NoMemory> {
-    let (file, rest) = row.split_once("$").unwrap_or((row, ""));
-    let (text, lines) = rest.split_once("$").unwrap_or((rest, ""));
-    let bytes = bytes_of(alloc, text)?;
-    if file.is_empty() {
-        is_refused_so(alloc, None, bytes.as_slice(), lines)
-    } else {
-        is_refused_so(alloc, Some(file.as_bytes()), bytes.as_slice(), lines)
-    }
-}
 
 #[test]
 fn check_refusals_of_texts(rt: HostRuntime) -> Result<(), Fail> {

@@ -4,6 +4,6 @@
 #[cfg(test)]
 mod checks;
 #[cfg(test)]
-mod rows;
+mod refused;
 #[cfg(test)]
 mod syntax;

@@ -1,11 +1,6 @@
 // Texts with a syntax fault: the file, the text and its lines.
-use crate::rows::{are_bytes_of, bytes_of};
-use armus_base::NoMemory;
-use pl_syntax::{MAX_PARSED_BYTES, ParseEnd, parse};
-use refusals::syntax_refusal;
-use std::alloc::Global;
+use crate::refused::is_met;
 use std::test::Fail;
-use text_places::TextPlaces;
 
 const ROWS: &str = "\
 k.pl$b = newPhaser(); /* the barrier */~$k.pl:1:18: '/' begins no token (syntax 1, byte 17)~    b = newPhaser(); /* the barrier */~                     ^~  hint: a comment begins with // and ends with its line~\n\
@@ -30,8 +25,8 @@ $b = newPhaser(); adv(b); await(b - 1);~$1:34: '-' begins no token (syntax 1, by
 $t = newTask();~$1:5: 'newTask' is no name: a name has lower-case letters, digits and _, and begins with a letter (syntax 1, byte 4)~    t = newTask();~        ^~  hint: only newTid and newPhaser have capitals~\n\
 $b = newPhaser();~pl 2;~$2:4: '=' is wanted here, not '2' (syntax 2, byte 20)~    pl 2;~       ^~  hint: pl 2; stands at the beginning of the text only~\n\
 $barrier(b);~$1:8: '=' is wanted here, not '(' (syntax 2, byte 7)~    barrier(b);~           ^~  hint: a statement is x = newTid(), x = newPhaser(), fork, reg, dereg, adv, await, loop or skip~\n\
-$[]|b = newPhaser();~$1:1: byte 239 begins no token (syntax 1, byte 0)~    []|b = newPhaser();~    ^~  hint: the text begins with a byte order mark~\n\
-$t!#r = newPhaser();~$1:2: byte 195 begins no token (syntax 1, byte 1)~    t!#r = newPhaser();~     ^~  hint: outside of comments all bytes are ASCII~\n\
+$\u{feff}b = newPhaser();~$1:1: byte 239 begins no token (syntax 1, byte 0)~    \u{feff}b = newPhaser();~    ^~  hint: the text begins with a byte order mark~\n\
+$t\u{fc}r = newPhaser();~$1:2: byte 195 begins no token (syntax 1, byte 1)~    t\u{fc}r = newPhaser();~     ^~  hint: outside of comments all bytes are ASCII~\n\
 $t = newTid(); fork(t) adv(b);~$1:23: '{' is wanted here, not 'adv' (syntax 2, byte 22)~    t = newTid(); fork(t) adv(b);~                          ^~\n\
 $b = newPhaser(); c = b;~$1:22: 'newTid' or 'newPhaser' is wanted here, not 'b' (syntax 2, byte 21)~    b = newPhaser(); c = b;~                         ^~\n\
 $pl$1:3: '=' or '2' is wanted here, not the end of the text (syntax 2, byte 2)~    pl~      ^~\n\
@@ -44,40 +39,9 @@ $aaaaaaaaaabbbbbbbbbbccccccccccdddddddddd$1:1: 'aaaaaaaaaabbbbbbbbbbccccccccccdd
 $loop 2 { } loop 2 { loop 3 {~} $2:3: a statement or '}' is wanted here, not the end of the text (syntax 2, byte 31)~    } ~      ^~  the brace at 1:19 is not closed~\n\
 k.pl$b = newPhaser(4); //@ A.java:3~$A.java:3: ')' is wanted here, not '4' (syntax 2, byte 14)~    b = newPhaser(4); //@ A.java:3~                  ^~\n\
 $\tskip;\t}&~$1:8: a statement or the end of the text is wanted here, not '}' (syntax 2, byte 7)~    \tskip;\t}~    \t     \t^~\n\
-$skip; skip; skip; skip; skip; skip; skip; skip; skip; skip; skip; skip; skip; skip; skip; skip; skip; skip; skip; skip; skip; skip; skip; skip; skip; skip; skip; skip; skip; skip; skip; skip; skip; s!$1:200: byte 195 begins no token (syntax 1, byte 199)~    skip; skip; skip; skip; skip; skip; skip; skip; skip; skip; skip; skip; skip; skip; skip; skip; skip; skip; skip; skip; skip; skip; skip; skip; skip; skip; skip; skip; skip; skip; skip; skip; skip; s!~                                                                                                                                                                                                           ^~  hint: outside of comments all bytes are ASCII~\n\
-$skip; skip; skip; skip; skip; skip; skip; skip; skip; skip; skip; skip; skip; skip; skip; skip; skip; skip; skip; skip; skip; skip; skip; skip; skip; skip; skip; skip; skip; skip; skip; skip; skip; ss!$1:201: byte 195 begins no token (syntax 1, byte 200)~  hint: outside of comments all bytes are ASCII~\n\
+$skip; skip; skip; skip; skip; skip; skip; skip; skip; skip; skip; skip; skip; skip; skip; skip; skip; skip; skip; skip; skip; skip; skip; skip; skip; skip; skip; skip; skip; skip; skip; skip; skip; s?$1:200: byte 195 begins no token (syntax 1, byte 199)~    skip; skip; skip; skip; skip; skip; skip; skip; skip; skip; skip; skip; skip; skip; skip; skip; skip; skip; skip; skip; skip; skip; skip; skip; skip; skip; skip; skip; skip; skip; skip; skip; skip; s?~                                                                                                                                                                                                           ^~  hint: outside of comments all bytes are ASCII~\n\
+$skip; skip; skip; skip; skip; skip; skip; skip; skip; skip; skip; skip; skip; skip; skip; skip; skip; skip; skip; skip; skip; skip; skip; skip; skip; skip; skip; skip; skip; skip; skip; skip; skip; ss?$1:201: byte 195 begins no token (syntax 1, byte 200)~  hint: outside of comments all bytes are ASCII~\n\
 ";
-
-// Whether these are the lines of a text.
-fn is_refused_so(
-    alloc: Global,
-    file: Option<&[u8]>,
-    text: &[u8],
-    lines: &str,
-) -> Result<bool, NoMemory> {
-    if text.len() > MAX_PARSED_BYTES {
-        return Ok(false);
-    }
-    let places = TextPlaces::new(alloc, text)?;
-    match parse(alloc, text) {
-        Err(ParseEnd::Syntax(fault)) => {
-            let found = syntax_refusal(alloc, text, &places, file, fault)?;
-            Ok(are_bytes_of(found.as_slice(), lines))
-        }
-        _ => Ok(false),
-    }
-}
-
-fn is_met(alloc: Global, row: &str) -> Result<bool, NoMemory> {
-    let (file, rest) = row.split_once("$").unwrap_or((row, ""));
-    let (text, lines) = rest.split_once("$").unwrap_or((rest, ""));
-    let bytes = bytes_of(alloc, text)?;
-    if file.is_empty() {
-        is_refused_so(alloc, None, bytes.as_slice(), lines)
-    } else {
-        is_refused_so(alloc, Some(file.as_bytes()), bytes.as_slice(), lines)
-    }
-}
 
 #[test]
 fn refusals_of_texts(rt: HostRuntime) -> Result<(), Fail> {
