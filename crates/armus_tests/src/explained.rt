@@ -1,8 +1,9 @@
 // Whole outputs of the program that explains texts. A row has words, a text, the calls at which reading and writing fail, the output and the status. ~
 // stands for LF, and behind # stand pieces, each with how often it stands there.
-use crate::texts::{bytes_of, call, number, words_of};
+use crate::texts::call;
 use armus_base::{List, MemSink, MemSource, NoMemory};
 use explain::explain;
+use row_texts::{bytes_of, columns, cut, number, words_of};
 use std::alloc::Global;
 use std::test::Fail;
 
@@ -52,7 +53,7 @@ k.pl$#1048577# $0$0$k.pl: the text has more than 1048576 bytes (length)~$3\n\
 
 fn source(alloc: Global, text: &str, reads: &str) -> Result<MemSource, NoMemory> {
     let bytes = List::from_vec(bytes_of(alloc, text)?);
-    let fails = call(alloc, u64::from(number(reads)))?;
+    let fails = call(alloc, number(reads))?;
     Ok(MemSource::new(bytes, 4000, fails))
 }
 
@@ -63,19 +64,17 @@ fn ends_so(
     src: &mut MemSource,
     wanted: &str,
 ) -> Result<bool, NoMemory> {
-    let (writes, wanted) = wanted.split_once("$").unwrap_or((wanted, ""));
-    let (output, status) = wanted.split_once("$").unwrap_or((wanted, ""));
+    let (writes, output, status) = columns(wanted, "$");
     let output = bytes_of(alloc, output)?;
-    let fails = call(alloc, u64::from(number(writes)))?;
+    let fails = call(alloc, number(writes))?;
     let mut out = MemSink::new(alloc, 4000, 16, fails)?;
     let end = explain(alloc, words, src, &mut out);
-    Ok(out.taken() == output.as_slice() && u32::from(end) == number(status))
+    Ok(out.taken() == output.as_slice() && end == number(status))
 }
 
 fn is_met(alloc: Global, row: &str) -> Result<bool, NoMemory> {
-    let (words, rest) = row.split_once("$").unwrap_or((row, ""));
-    let (text, rest) = rest.split_once("$").unwrap_or((rest, ""));
-    let (reads, wanted) = rest.split_once("$").unwrap_or((rest, ""));
+    let (words, text, rest) = columns(row, "$");
+    let (reads, wanted) = cut(rest, "$");
     let words = words_of(alloc, words)?;
     let mut src = source(alloc, text, reads)?;
     ends_so(alloc, &words, &mut src, wanted)

@@ -1,7 +1,8 @@
 // The program with tasks that a gate holds: each row ends only where others go on meanwhile.
 use crate::holding::Holding;
-use crate::texts::{AMPLE, bytes_of, ended, number};
+use crate::texts::{AMPLE, ended};
 use armus_base::{NoMemory, Point, TaskId};
+use row_texts::{bytes_of, columns, cut, number};
 use std::alloc::Global;
 use std::sync::Wait;
 use std::test::Fail;
@@ -32,7 +33,7 @@ fn point(text: &str) -> Point {
             count: number(count),
         };
     }
-    let (t, k) = text.split_once(".").unwrap_or((text, ""));
+    let (t, k) = cut(text, ".");
     Point::Op {
         t: TaskId(number(t)),
         k: number(k),
@@ -40,7 +41,7 @@ fn point(text: &str) -> Point {
 }
 
 fn points(text: &str) -> (Point, Point) {
-    let (held, until) = text.split_once(" until ").unwrap_or((text, ""));
+    let (held, until) = cut(text, " until ");
     (point(held), point(until))
 }
 
@@ -60,7 +61,7 @@ fn is_one_of(
     for output in outputs.split("|") {
         is_one = is_one || bytes_of(alloc, output)? == found.0;
     }
-    Ok(is_one && u32::from(found.1) == number(status))
+    Ok(is_one && found.1 == number(status))
 }
 
 // Whether a call of these words is as its row says behind them, and nobody waited in vain.
@@ -70,9 +71,8 @@ fn is_met<R: Threads + Wait + Sync>(
     words: &str,
     row: &str,
 ) -> Result<bool, NoMemory> {
-    let (holds, rest) = row.split_once("$").unwrap_or((row, ""));
-    let (text, rest) = rest.split_once("$").unwrap_or((rest, ""));
-    let (outputs, status) = rest.split_once("$").unwrap_or((rest, ""));
+    let (holds, text, rest) = columns(row, "$");
+    let (outputs, status) = cut(rest, "$");
     let gate = gate(holds);
     let found = ended(rt, alloc, words, bytes_of(alloc, text)?, AMPLE, &gate)?;
     Ok(is_one_of(alloc, &found, outputs, status)? && !gate.gave_up())
@@ -81,7 +81,7 @@ fn is_met<R: Threads + Wait + Sync>(
 #[test]
 fn others_go_on_while_tasks_are_held(rt: HostRuntime) -> Result<(), Fail> {
     for row in ROWS.lines() {
-        let (calls, rest) = row.split_once("$").unwrap_or((row, ""));
+        let (calls, rest) = cut(row, "$");
         for words in calls.split(",") {
             assert!(rt; is_met(&rt, rt.alloc(), words, rest)?, "{words}: {rest}");
         }

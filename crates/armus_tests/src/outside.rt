@@ -10,16 +10,19 @@ use std::thread::Threads;
 const BOTH_DEAD: &str =
     "dead t0 p0@1\ndead t1 p1@1\ntasks 2 done 0 dead 2 held 0 refused 0 unforked 0\nt0 dead p0@1\nt1 dead p1@1\ncycle t0 t1\ngraph sg 2\n";
 
-// The words on a text end with this output and this status.
+// The words of a call, and its text.
+const LIVE: (&str, &str) = ("run --live", CROSSED);
+
+// Whether the words on the text end with this output and this status.
 fn is_met<R: Threads + Wait + Sync>(
     rt: &R,
     alloc: Global,
-    words: &str,
-    text: &str,
+    call: (&str, &str),
     outside: Outside,
     output: &str,
     status: u8,
 ) -> Result<bool, NoMemory> {
+    let (words, text) = call;
     let input = text.as_bytes().to_vec(alloc)?;
     let (found, end) = ended(rt, alloc, words, input, outside, &Still)?;
     Ok(found.as_slice() == output.as_bytes() && end == status)
@@ -45,15 +48,7 @@ fn each_read_that_fails_ends_the_call(rt: HostRuntime) -> Result<(), Fail> {
             (BOTH_DEAD, 1)
         };
         let outside = failing(call, 0);
-        let met = is_met(
-            &rt,
-            rt.alloc(),
-            "run --live",
-            CROSSED,
-            outside,
-            output,
-            status,
-        )?;
+        let met = is_met(&rt, rt.alloc(), LIVE, outside, output, status)?;
         assert!(rt; met, "{call}");
     }
     Ok(())
@@ -67,15 +62,7 @@ fn each_write_that_fails_ends_the_call(rt: HostRuntime) -> Result<(), Fail> {
         let outside = failing(0, call);
         let taken = BOTH_DEAD.get(..call as usize - 1).unwrap_or("");
         let status = if call < last { 5 } else { 1 };
-        let met = is_met(
-            &rt,
-            rt.alloc(),
-            "run --live",
-            CROSSED,
-            outside,
-            taken,
-            status,
-        )?;
+        let met = is_met(&rt, rt.alloc(), LIVE, outside, taken, status)?;
         assert!(rt; met, "{call}");
     }
     Ok(())
@@ -95,7 +82,7 @@ fn a_sink_takes_a_part(rt: HostRuntime) -> Result<(), Fail> {
             room,
         };
         assert!(rt;
-            is_met(&rt, rt.alloc(), "run", "", outside, output, 5)?,
+            is_met(&rt, rt.alloc(), ("run", ""), outside, output, 5)?,
             "{output}"
         );
     }

@@ -1,7 +1,8 @@
 // The worked rows of the program, a line for each: words, input, output and status. ~ is LF, ^ is what the row before has, and behind # stand pieces, each
 // with how often it stands there.
-use crate::texts::{AMPLE, bytes_of, ended, number};
+use crate::texts::{AMPLE, ended};
 use armus_base::{NoMemory, Still};
+use row_texts::{bytes_of, columns, cut, number};
 use std::alloc::Global;
 use std::process::Abort;
 use std::sync::Wait;
@@ -365,9 +366,8 @@ fn is_met<R: Threads + Wait + Sync>(
     input: &mut Vec<u8>,
     output: &mut Vec<u8>,
 ) -> Result<bool, NoMemory> {
-    let (words, rest) = row.split_once("$").unwrap_or((row, ""));
-    let (given, rest) = rest.split_once("$").unwrap_or((rest, ""));
-    let (told, status) = rest.split_once("$").unwrap_or((rest, ""));
+    let (words, given, rest) = columns(row, "$");
+    let (told, status) = cut(rest, "$");
     if given != "^" {
         *input = bytes_of(alloc, given)?;
     }
@@ -375,7 +375,7 @@ fn is_met<R: Threads + Wait + Sync>(
         *output = bytes_of(alloc, told)?;
     }
     let (found, end) = ended(rt, alloc, words, input.to_vec(alloc)?, AMPLE, &Still)?;
-    Ok(found == *output && u32::from(end) == number(status))
+    Ok(found == *output && end == number(status))
 }
 
 fn all_are_met<R: Abort + Threads + Wait + Sync>(

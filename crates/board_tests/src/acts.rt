@@ -6,13 +6,14 @@ ghost use Rattle.board.specs.calls.Views.{next_action};
 ghost use Rattle.board.specs.calls.Seats.{IsOf, aim_at};
 ghost use Rattle.board_tests.specs.calls.Rooms.{IsRoomFor};
 
-use crate::texts::{cut, event, look, number, phase, seen};
+use crate::texts::{look, phase, seen};
 use crate::walker::{Halt, Walker};
 use crate::walks::steps;
 use armus_base::{NoMemory, Offset, Phase, PhaserId, Plan, TaskId};
 use avoider::{Decision, Judge, try_take};
 use board::{Board, Loads, TaskSeat};
 use phase_scan::{Cells, Look};
+use row_texts::{event, first_word, number};
 use std::alloc::Global;
 
 // The decision on the await of a task, which takes the lock for it; none where another task has the lock.
@@ -116,7 +117,7 @@ pub(crate) fn loads<L: Loads>(by: &mut L, board: &Board, verb: &str, rest: &str)
     requires made { IsOf (L.known by.old) board.now }
     ensures made { IsOf (L.known by.new) board.now }
 {
-    let (t, rest) = cut(rest);
+    let (t, rest) = first_word(rest);
     let t = TaskId(number(t));
     if t.0 >= board.tasks() {
         return false;
@@ -124,7 +125,7 @@ pub(crate) fn loads<L: Loads>(by: &mut L, board: &Board, verb: &str, rest: &str)
     if verb == "shows" {
         return by.load_await(board, t) == seen(rest);
     }
-    let (p, n) = cut(rest);
+    let (p, n) = first_word(rest);
     let p = PhaserId(number(p));
     p.0 < board.phasers() && verb == "finds" && by.load_phase(board, t, p) == phase(n)
 }
@@ -134,7 +135,7 @@ fn is_at(walker: &mut Walker<'_>, board: &Board, verb: &str, rest: &str) -> bool
     requires made { IsOf walker.old board.now }
     ensures made { IsOf walker.new board.now }
 {
-    let (word, more) = cut(rest);
+    let (word, more) = first_word(rest);
     match verb {
         "is" => walker.id() == TaskId(number(word)),
         "scanned" => walker.scanned() == number(word),

@@ -2,7 +2,7 @@
 use crate::acts::{acts, loads};
 use crate::counting::Counting;
 use crate::telling::{decision_is, verdict_is};
-use crate::texts::{cut, number, status_text};
+use crate::texts::statuses_are;
 use crate::walker::{Walker, begin_as};
 use adaptive::Wanted;
 use armus_base::{NoMemory, Plan};
@@ -10,6 +10,7 @@ use avoider::{Judge, Judging};
 use board::{Board, Mode};
 use collector::Collector;
 use phase_scan::Cells;
+use row_texts::{columns, first_word, number};
 use std::alloc::Global;
 use std::marker::Model;
 
@@ -94,12 +95,11 @@ impl<'p> BoardPlay<'p> {
     }
 
     fn step(&mut self, alloc: Global, step: &str) -> Result<bool, NoMemory> {
-        let (who, rest) = cut(step);
-        let (verb, rest) = cut(rest);
+        let (who, verb, rest) = columns(step.trim(), " ");
         match who {
             "board" => self.board_step(alloc, verb, rest),
             "view" => self.view_step(alloc, verb, rest),
-            _ => self.seat_step(alloc, number(who) as usize, verb, rest),
+            _ => self.seat_step(alloc, number(who), verb, rest),
         }
     }
 
@@ -190,7 +190,7 @@ impl<'p> BoardPlay<'p> {
 
     // Whether the board is for so many tasks and phasers, and detects deadlock.
     fn counts(&self, rest: &str) -> bool {
-        let (tasks, phasers) = cut(rest);
+        let (tasks, phasers) = first_word(rest);
         let is_detecting = self.board.mode() == Mode::Detect;
         is_detecting
             && self.board.tasks() == number(tasks)
@@ -208,7 +208,7 @@ impl<'p> BoardPlay<'p> {
 
     // Whether a pass names these, by the graph that is wanted.
     fn passes(&mut self, alloc: Global, rest: &str) -> Result<bool, NoMemory> {
-        let (word, names) = cut(rest);
+        let (word, names) = first_word(rest);
         let wanted = wanted_of(word);
         let verdict = self
             .collector
@@ -218,15 +218,11 @@ impl<'p> BoardPlay<'p> {
 
     // Whether the last pass found these statuses.
     fn watched(&self, alloc: Global, wanted: &str) -> Result<bool, NoMemory> {
-        let list = self.collector.statuses(alloc)?;
-        let text = status_text(alloc, list.as_slice())?;
-        Ok(text.as_str().trim() == wanted)
+        statuses_are(alloc, self.collector.statuses(alloc)?.as_slice(), wanted)
     }
 
     // Whether the last collect found these statuses.
     fn found(&self, alloc: Global, wanted: &str) -> Result<bool, NoMemory> {
-        let list = self.cells.statuses(alloc)?;
-        let text = status_text(alloc, list.as_slice())?;
-        Ok(text.as_str().trim() == wanted)
+        statuses_are(alloc, self.cells.statuses(alloc)?.as_slice(), wanted)
     }
 }

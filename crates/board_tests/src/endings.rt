@@ -5,11 +5,12 @@ ghost use Rattle.board.specs.calls.Locking.{IsBeforeAwait};
 ghost use Rattle.board.specs.calls.Seats.{IsOf};
 
 use crate::board_play::BoardPlay;
-use crate::texts::{cut, number, phase, seen};
+use crate::texts::{phase, seen};
 use crate::walker::Walker;
 use armus_base::{NoMemory, PhaserId, TaskId};
 use avoider::{release, try_take};
 use board::{Board, Loads, Mode, TaskSeat, Words};
+use row_texts::{columns, first_word, number};
 use std::alloc::Global;
 use std::thread::{Threads, join_mut};
 
@@ -17,8 +18,7 @@ use std::thread::{Threads, join_mut};
 fn word_is(words: &Words, counts: (u32, u32), part: &str) -> bool
     requires { (counts.0 ≡ length words.now.plan.parents) × (counts.1 ≡ length words.now.plan.makers) }
 {
-    let (verb, rest) = cut(part);
-    let (t, rest) = cut(rest);
+    let (verb, t, rest) = columns(part.trim(), " ");
     let t = TaskId(number(t));
     if t.0 >= counts.0 {
         return false;
@@ -26,7 +26,7 @@ fn word_is(words: &Words, counts: (u32, u32), part: &str) -> bool
     if verb == "shows" {
         return words.await_of(t) == seen(rest);
     }
-    let (p, n) = cut(rest);
+    let (p, n) = first_word(rest);
     let p = PhaserId(number(p));
     p.0 < counts.1 && verb == "finds" && words.phase_of(t, p) == phase(n)
 }
@@ -166,7 +166,7 @@ pub(crate) fn ends<R: Threads + Sync>(
     play: BoardPlay<'_>,
     end: &str,
 ) -> Result<bool, NoMemory> {
-    let (verb, rest) = cut(end);
+    let (verb, rest) = first_word(end);
     match verb {
         "words" => Ok(closes(play, rest)),
         "turns" | "halves" => ends_by_two(rt, alloc, play, verb, rest),

@@ -9,7 +9,9 @@ mod board_play;
 mod counting;
 #[cfg(test)]
 mod endings;
-pub mod plans;
+pub mod finals;
+#[cfg(test)]
+mod plans;
 #[cfg(test)]
 mod rounds;
 #[cfg(test)]

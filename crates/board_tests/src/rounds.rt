@@ -1,9 +1,9 @@
 // A round of turns on each kind of board.
-use crate::texts::{cut, number};
 use adaptive::Wanted;
 use armus_base::{NoMemory, Plan, Still};
 use board::{Board, Mode};
 use board_rounds::{Task, round};
+use row_texts::{first_word, number};
 use std::alloc::Global;
 use std::thread::Threads;
 
@@ -24,11 +24,11 @@ pub(crate) fn has_first_round<R: Threads + Sync>(
     mode: Mode,
     counts: &str,
 ) -> Result<bool, NoMemory> {
-    let (events, children) = cut(counts);
+    let (events, children) = first_word(counts);
     let (board, seat, _) = Board::start(alloc, plan, mode)?;
     let mut tasks = vec![in alloc; Task::new(alloc, seat, plan)]?;
     let turned = tasks.as_mut_slice();
     let made = round(rt, alloc, turned, &board, plan, Wanted::Auto, 2, &Still)?;
-    let is_forked = forked(alloc, &mut tasks) == number(children) as usize;
+    let is_forked = forked(alloc, &mut tasks) == number(children);
     Ok(made == number(events) && is_forked)
 }

@@ -5,11 +5,12 @@ use crate::board_play::BoardPlay;
 use crate::endings::ends;
 use crate::plans::small_plan;
 use crate::rounds::has_first_round;
-use crate::texts::{column, cut, number};
+use crate::texts::column;
 use crate::world_play::WorldPlay;
 use armus_base::{NoMemory, Plan};
 use board::Mode;
 use pl_syntax::MAX_PARSED_BYTES;
+use row_texts::{first_word, number};
 use std::alloc::Global;
 use std::test::Fail;
 use std::thread::Threads;
@@ -39,7 +40,7 @@ p = newPhaser(); q = newPhaser(); r = newPhaser(); t = newTid(); reg(t, p); reg(
 
 // The plan of a text, which has to have so many tasks and phasers.
 fn plan_of(alloc: Global, text: &str, counts: &str) -> Result<Plan, NoMemory> {
-    let (tasks, phasers) = cut(counts);
+    let (tasks, phasers) = first_word(counts);
     if text.len() > MAX_PARSED_BYTES {
         return Err(NoMemory);
     }

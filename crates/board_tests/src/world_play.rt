@@ -1,13 +1,14 @@
 // A world in play: tasks go on in it, and their awaits are decided, step by step as a row says.
 ghost use Rattle.std.specs.Prelude.{◌≡◌, ◌<◌, length};
 
+use crate::finals::final_state;
 use crate::telling::decision_is;
-use crate::texts::{add_event, cut, event, number};
 use adaptive::Wanted;
-use armus_base::{Final, NoMemory, Plan, TaskEnd, TaskId};
+use armus_base::{NoMemory, Plan, TaskEnd, TaskId};
 use avoider::{Judge, Judging, avoid_step, avoid_step_kept, go_on};
 use order_graph::Order;
 use pl_core::{Stand, World};
+use row_texts::{add_event, columns, event, number};
 use std::alloc::{AllocError, Global};
 use std::marker::Model;
 
@@ -49,8 +50,7 @@ impl<'p> WorldPlay<'p> {
     }
 
     fn step(&mut self, alloc: Global, step: &str) -> Result<bool, NoMemory> {
-        let (who, rest) = cut(step);
-        let (verb, rest) = cut(rest);
+        let (who, verb, rest) = columns(step.trim(), " ");
         match who {
             "order" => Ok(self.has_edges(rest)),
             "ends" => self.ends_so(alloc, rest),
@@ -70,8 +70,8 @@ impl<'p> WorldPlay<'p> {
         }
         match verb {
             "goes" => self.goes(alloc, t, number(rest)),
-            "decides" => self.decides(alloc, t, rest),
-            "keeps" => self.keeps(alloc, t, rest),
+            "decides" => self.decides(alloc, t, false, rest),
+            "keeps" => self.decides(alloc, t, true, rest),
             _ => Ok(self.stands(t, verb, rest)),
         }
     }
@@ -106,30 +106,25 @@ impl<'p> WorldPlay<'p> {
         }
     }
 
-    // Whether the await of a task is decided so.
-    fn decides(&mut self, alloc: Global, t: TaskId, wanted: &str) -> Result<bool, NoMemory>
+    // Whether the await of a task is decided so, by the order if that is kept.
+    fn decides(
+        &mut self,
+        alloc: Global,
+        t: TaskId,
+        kept: bool,
+        wanted: &str,
+    ) -> Result<bool, NoMemory>
         requires { t.0 < length self.old.plan.parents }
     {
-        match self.world.stand(t) {
-            Stand::Await(_) => {
-                let decision = avoid_step(alloc, &mut self.world, t, Wanted::Auto)?;
-                decision_is(alloc, &decision, wanted)
-            }
-            _ => Ok(false),
-        }
-    }
-
-    // Whether it is decided so by the order, which is kept.
-    fn keeps(&mut self, alloc: Global, t: TaskId, wanted: &str) -> Result<bool, NoMemory>
-        requires { t.0 < length self.old.plan.parents }
-    {
-        match self.world.stand(t) {
-            Stand::Await(_) => {
-                let decision = avoid_step_kept(alloc, &mut self.world, t, &mut self.order)?;
-                decision_is(alloc, &decision, wanted)
-            }
-            _ => Ok(false),
-        }
+        let Stand::Await(_) = self.world.stand(t) else {
+            return Ok(false);
+        };
+        let decision = if kept {
+            avoid_step_kept(alloc, &mut self.world, t, &mut self.order)?
+        } else {
+            avoid_step(alloc, &mut self.world, t, Wanted::Auto)?
+        };
+        decision_is(alloc, &decision, wanted)
     }
 
     // Whether the edges of the order are just these.
@@ -156,20 +151,10 @@ impl<'p> WorldPlay<'p> {
     }
 }
 
-// The final state; none where a task may go on.
-fn final_state(alloc: Global, world: &World<'_>) -> Result<Option<Final>, NoMemory> {
-    for t in 0..world.plan().tasks() {
-        if world.enabled(TaskId(t)) {
-            return Ok(None);
-        }
-    }
-    Ok(Some(world.finish(alloc)?))
-}
-
 // Whether a text is the edge from one task to another.
 fn is_edge(text: &str, a: u32, b: u32) -> bool {
     match text.split_once("-") {
-        Some((from, to)) => number(from) == a && number(to) == b,
+        Some((from, to)) => a == number(from) && b == number(to),
         None => false,
     }
 }
@@ -192,11 +177,11 @@ fn ends_text(alloc: Global, ends: &[TaskEnd]) -> Result<String, AllocError> {
             TaskEnd::Unforked => text.push_str("unforked ")?,
             TaskEnd::Blocked(event) => {
                 text.push_str("blocked ")?;
-                add_event(alloc, &mut text, *event)?;
+                add_event(&mut text, *event)?;
             }
             TaskEnd::Refused(event) => {
                 text.push_str("refused ")?;
-                add_event(alloc, &mut text, *event)?;
+                add_event(&mut text, *event)?;
             }
         }
     }

@@ -4,11 +4,12 @@ ghost use Rattle.std.specs.Prelude.{◌≡◌, ◌<◌, IfOk, length};
 
 use crate::plans::named_plan;
 use crate::runs::options_of;
-use crate::texts::{add_event, add_number};
-use armus_base::{List, MemSink, NoMemory, Phase, PhaserId, Plan, Still, TaskId};
+use crate::texts::{add_event, add_phase};
+use armus_base::{Gate, List, MemSink, NoMemory, PhaserId, Plan, Still, TaskId};
 use board::{Seen, Words};
 use pl_core::Place;
-use std::alloc::Global;
+use row_texts::columns;
+use std::alloc::{AllocError, Global};
 use std::test::Fail;
 use std::thread::Threads;
 use task_runner::{Ran, run_detect};
@@ -19,15 +20,21 @@ ending | 15 14 14 14 | idle - 1;idle - -;idle - -;idle - -;\n\
 two | 7 2 | waits p0@1 1 0;waits p1@1 0 1;\n\
 ";
 
-// What the run by two workers comes to, without live lines.
-fn ran<R: Threads + Sync>(rt: &R, alloc: Global, plan: &Plan) -> Result<Ran, NoMemory>
+/// What the run by so many workers comes to, without live lines.
+pub(crate) fn ran<R: Threads + Sync, G: Gate>(
+    rt: &R,
+    alloc: Global,
+    plan: &Plan,
+    workers: u32,
+    gate: &G,
+) -> Result<Ran, NoMemory>
     ensures { IfOk result (λ ran. ran.words.plan ≡ plan.now) }
 {
-    let Some(options) = options_of(2) else {
+    let Some(options) = options_of(workers) else {
         return Err(NoMemory);
     };
     let mut out = MemSink::new(alloc, 100, 100, List::new(alloc))?;
-    match run_detect(rt, alloc, plan, &options, &Still, &mut out) {
+    match run_detect(rt, alloc, plan, &options, gate, &mut out) {
         Ok(ran) => Ok(ran),
         Err(_) => Err(NoMemory),
     }
@@ -36,49 +43,32 @@ fn ran<R: Threads + Sync>(rt: &R, alloc: Global, plan: &Plan) -> Result<Ran, NoM
 fn places_text(alloc: Global, places: &[Place]) -> Result<String, NoMemory> {
     let mut text = String::new(alloc);
     for place in places {
-        add_number(alloc, &mut text, u64::from(place.events))?;
-        text.push_str(if place.refused { " refused " } else { " " })?;
+        let refused = if place.refused { "refused " } else { "" };
+        write!(text, "{} {refused}", place.events)?;
     }
     Ok(text)
 }
 
-fn add_seen(alloc: Global, text: &mut String, seen: Seen) -> Result<(), NoMemory> {
+fn add_seen(text: &mut String, seen: Seen) -> Result<(), AllocError> {
     match seen {
-        Seen::Idle => Ok(text.push_str("idle")?),
+        Seen::Idle => text.push_str("idle"),
         Seen::Waits(event) => {
             text.push_str("waits ")?;
-            add_event(alloc, text, event)
+            add_event(text, event)
         }
         Seen::Refused(event) => {
             text.push_str("refused ")?;
-            add_event(alloc, text, event)
+            add_event(text, event)
         }
     }
 }
 
-// A phase, or that the task is no member.
-fn add_phase(alloc: Global, text: &mut String, phase: Option<Phase>) -> Result<(), NoMemory> {
-    match phase {
-        Some(n) => {
-            text.push_str(" ")?;
-            add_number(alloc, text, u64::from(n))
-        }
-        None => Ok(text.push_str(" -")?),
-    }
-}
-
-fn add_phases(
-    alloc: Global,
-    text: &mut String,
-    plan: &Plan,
-    words: &Words,
-    t: TaskId,
-) -> Result<(), NoMemory>
+fn add_phases(text: &mut String, plan: &Plan, words: &Words, t: TaskId) -> Result<(), AllocError>
     requires plan { words.now.plan ≡ plan.now }
     requires task { t.0 < length plan.now.parents }
 {
     for p in 0..plan.phasers() {
-        add_phase(alloc, text, words.phase_of(t, PhaserId(p)))?;
+        add_phase(text, words.phase_of(t, PhaserId(p)))?;
     }
     Ok(())
 }
@@ -88,8 +78,8 @@ fn words_text(alloc: Global, plan: &Plan, words: &Words) -> Result<String, NoMem
 {
     let mut text = String::new(alloc);
     for t in 0..plan.tasks() {
-        add_seen(alloc, &mut text, words.await_of(TaskId(t)))?;
-        add_phases(alloc, &mut text, plan, words, TaskId(t))?;
+        add_seen(&mut text, words.await_of(TaskId(t)))?;
+        add_phases(&mut text, plan, words, TaskId(t))?;
         text.push_str(";")?;
     }
     Ok(text)
@@ -110,10 +100,9 @@ fn ends_so(
 }
 
 fn is_met<R: Threads + Sync>(rt: &R, alloc: Global, row: &str) -> Result<bool, NoMemory> {
-    let (word, rest) = row.split_once("|").unwrap_or((row, ""));
-    let (places, words) = rest.split_once("|").unwrap_or((rest, ""));
+    let (word, places, words) = columns(row, "|");
     let plan = named_plan(alloc, word)?;
-    let ran = ran(rt, alloc, &plan)?;
+    let ran = ran(rt, alloc, &plan, 2, &Still)?;
     ends_so(alloc, &plan, &ran, places, words)
 }
 

@@ -1,17 +1,15 @@
 // Runs whose awaits load much leave their board: workers act side by side before, and one thread goes on behind it, in order of number.
-ghost use Rattle.std.specs.Prelude.{◌≤◌, IfSome, false, ◌≡◌};
-
 use crate::coming::Coming;
-use crate::meeting::Meeting;
+use crate::detected::ran;
+use crate::meeting::{MAX_LOOKS, Meeting};
 use crate::plans::named_plan;
-use crate::runs::options_of;
-use crate::texts::{first_word, number};
-use armus_base::{Gate, List, MemSink, NoMemory, Plan, Point, TaskId};
+use crate::runs::run;
+use armus_base::{NoMemory, Point, TaskId};
+use row_texts::{columns, first_word, number};
 use std::alloc::Global;
 use std::sync::Wait;
 use std::test::Fail;
 use std::thread::Threads;
-use task_runner::{RunOptions, run_avoid, run_detect, run_pool};
 
 // A kind of run and a plan, two tasks, and whether they meet at the gate before their only op, with two workers. Task 0 forks them one after the other, when
 // all that were forked before have come to an await. On a board two workers let them act side by side: in the next round, or in a pool at once. A run that has
@@ -31,9 +29,6 @@ pool large | 1 2 | in vain\n\
 // How often a task looks for the other at the gate, where it is to wait in vain.
 const FEW_LOOKS: u32 = 1_000_000;
 
-// How often where they are to meet.
-const MANY_LOOKS: u32 = 200_000_000;
-
 // The op of a task.
 fn point(t: &str) -> Point {
     Point::Op {
@@ -42,58 +37,20 @@ fn point(t: &str) -> Point {
     }
 }
 
-fn run<R: Threads + Wait + Sync, G: Gate>(
-    rt: &R,
-    alloc: Global,
-    plan: &Plan,
-    kind: &str,
-    options: &RunOptions,
-    gate: &G,
-) -> Result<(), NoMemory>
-    requires workers { 1 ≤ options.now.workers × options.now.workers ≤ 64 }
-    requires quiet { options.now.live ≡ false }
-{
-    match kind {
-        "pool" => {
-            let _end = run_pool(rt, alloc, plan, options, gate)?;
-        }
-        "avoid" => {
-            let _end = run_avoid(rt, alloc, plan, options, gate)?;
-        }
-        _ => return detect(rt, alloc, plan, options, gate),
-    }
-    Ok(())
-}
-
-fn detect<R: Threads + Sync, G: Gate>(
-    rt: &R,
-    alloc: Global,
-    plan: &Plan,
-    options: &RunOptions,
-    gate: &G,
-) -> Result<(), NoMemory>
-    requires workers { 1 ≤ options.now.workers × options.now.workers ≤ 64 }
-{
-    let mut out = MemSink::new(alloc, 100, 100, List::new(alloc))?;
-    match run_detect(rt, alloc, plan, options, gate, &mut out) {
-        Ok(_) => Ok(()),
-        Err(_) => Err(NoMemory),
-    }
-}
-
 // Whether the two tasks meet, or one waits in vain, as it is said.
 fn is_met<R: Threads + Wait + Sync>(rt: &R, alloc: Global, row: &str) -> Result<bool, NoMemory> {
-    let (run_of, rest) = row.split_once("|").unwrap_or((row, ""));
-    let (tasks, wanted) = rest.split_once("|").unwrap_or((rest, ""));
+    let (run_of, tasks, wanted) = columns(row, "|");
     let (kind, word) = first_word(run_of);
     let (first, second) = first_word(tasks);
     let meet = wanted.trim() == "met";
-    let looks = if meet { MANY_LOOKS } else { FEW_LOOKS };
+    let looks = if meet { MAX_LOOKS } else { FEW_LOOKS };
     let gate = Meeting::between(point(first), point(second.trim()), looks);
-    let Some(options) = options_of(2) else {
-        return Err(NoMemory);
-    };
-    run(rt, alloc, &named_plan(alloc, word)?, kind, &options, &gate)?;
+    let plan = named_plan(alloc, word)?;
+    if kind == "run" {
+        let _ran = ran(rt, alloc, &plan, 2, &gate)?;
+    } else {
+        let _ended = run(rt, alloc, &plan, kind, 2, &gate)?;
+    }
     Ok(gate.gave_up() != meet)
 }
 
@@ -122,9 +79,6 @@ fn large_runs_leave_their_board(rt: HostRuntime) -> Result<(), Fail> {
 // Whether task 4,002 comes to its op before task 4,001 comes to its op behind 4,200 awaits, all of which it may pass at once, where one worker lets them act in
 // order of number.
 fn is_overtaken<R: Threads + Sync>(rt: &R, alloc: Global) -> Result<bool, NoMemory> {
-    let Some(options) = options_of(1) else {
-        return Err(NoMemory);
-    };
     let last = Point::Op {
         t: TaskId(4001),
         k: 8401,
@@ -134,7 +88,7 @@ fn is_overtaken<R: Threads + Sync>(rt: &R, alloc: Global) -> Result<bool, NoMemo
         k: 0,
     };
     let gate = Coming::new(last, other);
-    detect(rt, alloc, &named_plan(alloc, "awaits")?, &options, &gate)?;
+    let _ran = ran(rt, alloc, &named_plan(alloc, "awaits")?, 1, &gate)?;
     Ok(gate.second_came_first())
 }
 

@@ -3,8 +3,8 @@ use armus_base::{Gate, Point, TaskId};
 use std::sync::atomic::{AtomicBool, Ordering};
 use std::thread::yield_now;
 
-// How often a task looks for another at the gate before it gives up.
-const MAX_LOOKS: u32 = 200_000_000;
+/// How often a task looks for another at the gate before it gives up.
+pub(crate) const MAX_LOOKS: u32 = 200_000_000;
 
 /// A gate that holds who comes to one of two points until somebody has come to the other one.
 #[derive(Drop)]

@@ -1,9 +1,9 @@
 // Small plans, by a word for each, from their texts.
-use crate::texts::add_task;
 use armus_base::{NoMemory, PhaserId, Plan, TaskId};
 use pl_plan::plan;
 use pl_syntax::parse;
-use std::alloc::Global;
+use row_texts::cut;
+use std::alloc::{AllocError, Global};
 use std::test::Fail;
 
 // A plan, who forks each of its tasks, and who makes each of its phasers.
@@ -71,31 +71,28 @@ pub(crate) fn named_plan(alloc: Global, word: &str) -> Result<Plan, NoMemory> {
     }
 }
 
-fn add_parent(alloc: Global, text: &mut String, parent: Option<TaskId>) -> Result<(), NoMemory> {
+fn add_parent(text: &mut String, parent: Option<TaskId>) -> Result<(), AllocError> {
     match parent {
-        Some(t) => add_task(alloc, text, t),
-        None => Ok(text.push_str("-")?),
+        Some(t) => write!(text, "t{} ", t.0),
+        None => text.push_str("- "),
     }
 }
 
-fn add_plan(alloc: Global, text: &mut String, plan: &Plan) -> Result<(), NoMemory> {
+fn add_plan(text: &mut String, plan: &Plan) -> Result<(), AllocError> {
     for t in 0..plan.tasks() {
-        add_parent(alloc, text, plan.parent(TaskId(t)))?;
-        text.push_str(" ")?;
+        add_parent(text, plan.parent(TaskId(t)))?;
     }
     for p in 0..plan.phasers() {
-        text.push_str("by ")?;
-        add_task(alloc, text, plan.maker(PhaserId(p)))?;
-        text.push_str(" ")?;
+        write!(text, "by t{} ", plan.maker(PhaserId(p)).0)?;
     }
     Ok(())
 }
 
 fn is_met(alloc: Global, row: &str) -> Result<bool, NoMemory> {
-    let (word, wanted) = row.split_once("|").unwrap_or((row, ""));
+    let (word, wanted) = cut(row, "|");
     let plan = named_plan(alloc, word)?;
     let mut text = String::new(alloc);
-    add_plan(alloc, &mut text, &plan)?;
+    add_plan(&mut text, &plan)?;
     Ok(text.as_str().trim() == wanted.trim())
 }
 

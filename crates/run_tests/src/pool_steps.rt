@@ -3,8 +3,8 @@ ghost use Rattle.std.specs.Prelude.{◌≡◌, ◌<◌, [], ◌∷◌, map};
 ghost use Rattle.std.specs.Option.{option_to_list};
 ghost use Rattle.slot_pool.specs.calls.PoolValues.{IsOfPool, IsSameWorker};
 
-use crate::texts::{first_word, number};
 use armus_base::{List, TaskId};
+use row_texts::{columns, cut, first_word, number};
 use slot_pool::{Claim, Named, Pool, Worker};
 use std::alloc::Global;
 
@@ -110,7 +110,7 @@ fn is_told(found: Found, wanted: &str) -> bool {
     let (word, by) = first_word(wanted);
     match found {
         Found::Got => word == "got",
-        Found::Held(worker) => word == "held" && number(by) == worker,
+        Found::Held(worker) => word == "held" && worker == number(by),
         Found::Empty => word == "empty",
         Found::Placed => word == "placed",
         Found::Back => word == "back",
@@ -119,34 +119,7 @@ fn is_told(found: Found, wanted: &str) -> bool {
     }
 }
 
-// Whether the step, by the first worker or by the second, finds what it is to find.
-fn is_met(
-    pool: &Pool<Token>,
-    tasks: u32,
-    first: &mut TokenWorker,
-    second: &mut TokenWorker,
-    text: &str,
-) -> bool
-    requires first { IsOfPool first.old.worker pool.now }
-    requires second { IsOfPool second.old.worker pool.now }
-    requires tasks { pool.now.tasks ≡ tasks }
-    requires some { 0 < tasks }
-    ensures first { IsSameWorker first.old.worker first.new.worker }
-    ensures second { IsSameWorker second.old.worker second.new.worker }
-{
-    let (made, wanted) = text.split_once(" -> ").unwrap_or((text, ""));
-    let (who, rest) = first_word(made);
-    let (call, task) = first_word(rest);
-    let task = TaskId(number(task) % tasks);
-    let found = if who == "0" {
-        step(pool, first, call, task)
-    } else {
-        step(pool, second, call, task)
-    };
-    is_told(found, wanted)
-}
-
-// Whether each step in turn finds what it is to find.
+// Whether each step in turn, by the first worker or by the second, finds what it is to find.
 fn play(
     pool: &Pool<Token>,
     tasks: u32,
@@ -163,7 +136,15 @@ fn play(
 {
     let mut all = true;
     for text in steps.split(";") {
-        all = is_met(pool, tasks, first, second, text.trim()) && all;
+        let (made, wanted) = cut(text.trim(), " -> ");
+        let (who, call, task) = columns(made, " ");
+        let task = TaskId(number::<u32>(task) % tasks);
+        let found = if who == "0" {
+            step(pool, first, call, task)
+        } else {
+            step(pool, second, call, task)
+        };
+        all = is_told(found, wanted) && all;
     }
     all
 }
@@ -220,7 +201,7 @@ fn are_met(alloc: Global, tasks: u32, steps: &str, end: &str) -> Option<bool> {
     let mut first = idle(workers.pop()?);
     let found = play(&pool, tasks, &mut first, &mut second, steps);
     match close(pool, alloc, first, second) {
-        Some(entries) => Some(found && home(entries.as_slice()) == number(end) as usize),
+        Some(entries) => Some(found && home(entries.as_slice()) == number(end)),
         None => Some(found && end == "one is held"),
     }
 }
@@ -228,9 +209,8 @@ fn are_met(alloc: Global, tasks: u32, steps: &str, end: &str) -> Option<bool> {
 #[test]
 fn each_step_finds_what_is_there(rt: HostRuntime) {
     for row in ROWS.lines() {
-        let (tasks, rest) = row.split_once("|").unwrap_or((row, ""));
-        let (steps, end) = rest.split_once("|").unwrap_or((rest, ""));
-        let tasks = number(tasks.trim());
+        let (tasks, steps, end) = columns(row, "|");
+        let tasks = number(tasks);
         assert!(rt;
             are_met(rt.alloc(), tasks, steps, end.trim()) == Some(true),
             "{row}"

@@ -4,10 +4,11 @@ ghost use Rattle.std.specs.Prelude.{◌≡◌, ◌≤◌, IfSome, false};
 use crate::journals::begins_with;
 use crate::meeting::Meeting;
 use crate::plans::named_plan;
-use crate::texts::{add_event, add_number, first_word, number};
+use crate::texts::add_event;
 use adaptive::Wanted;
 use armus_base::{Final, Gate, List, NoMemory, Plan, Still, TaskEnd, TaskId};
-use std::alloc::Global;
+use row_texts::{columns, first_word, number};
+use std::alloc::{AllocError, Global};
 use std::sync::Wait;
 use std::test::Fail;
 use std::thread::Threads;
@@ -28,40 +29,36 @@ kept two | still 1 | done, refused p1@1, 0 blocked\n\
 kept two | still 3 | done, refused p1@1, 0 blocked\n\
 ";
 
-fn add_end(alloc: Global, text: &mut String, end: TaskEnd) -> Result<(), NoMemory> {
+fn add_end(text: &mut String, end: TaskEnd) -> Result<(), AllocError> {
     match end {
-        TaskEnd::Done => Ok(text.push_str("done")?),
+        TaskEnd::Done => text.push_str("done"),
         TaskEnd::Blocked(event) => {
             text.push_str("blocked ")?;
-            add_event(alloc, text, event)
+            add_event(text, event)
         }
         TaskEnd::Refused(event) => {
             text.push_str("refused ")?;
-            add_event(alloc, text, event)
+            add_event(text, event)
         }
-        TaskEnd::Unforked => Ok(text.push_str("unforked")?),
+        TaskEnd::Unforked => text.push_str("unforked"),
     }
 }
 
 /// How each task has ended, and how many are blocked.
-pub(crate) fn add_final(alloc: Global, text: &mut String, end: &Final) -> Result<(), NoMemory> {
+pub(crate) fn add_final(text: &mut String, end: &Final) -> Result<(), AllocError> {
     for end in end.ends.as_slice() {
-        add_end(alloc, text, *end)?;
+        add_end(text, *end)?;
         text.push_str(", ")?;
     }
-    add_number(alloc, text, end.blocked.as_slice().len() as u64)?;
-    text.push_str(" blocked")?;
-    Ok(())
+    write!(text, "{} blocked", end.blocked.as_slice().len())
 }
 
 // How many steps there are, and whether the first five are by task 0; nothing where there is no step.
-fn add_journal(alloc: Global, text: &mut String, journal: &[TaskId]) -> Result<(), NoMemory> {
+fn add_journal(text: &mut String, journal: &[TaskId]) -> Result<(), AllocError> {
     if journal.is_empty() {
         return Ok(());
     }
-    text.push_str(", ")?;
-    add_number(alloc, text, journal.len() as u64)?;
-    text.push_str(" steps")?;
+    write!(text, ", {} steps", journal.len())?;
     if begins_with(journal, TaskId(0)) {
         text.push_str(", the first by t0")?;
     }
@@ -83,23 +80,23 @@ pub(crate) fn options_of(workers: u32) -> Option<RunOptions>
     })
 }
 
-// The end of a run of this kind, and the journal of one that is recorded.
-fn run<R: Threads + Wait + Sync, G: Gate>(
+/// The end of a run of this kind by so many workers, and the journal of one that is recorded.
+pub(crate) fn run<R: Threads + Wait + Sync, G: Gate>(
     rt: &R,
     alloc: Global,
     plan: &Plan,
     kind: &str,
-    options: &RunOptions,
+    workers: u32,
     gate: &G,
-) -> Result<(Final, List<TaskId>), NoMemory>
-    requires workers { 1 ≤ options.now.workers × options.now.workers ≤ 64 }
-    requires quiet { options.now.live ≡ false }
-{
+) -> Result<(Final, List<TaskId>), NoMemory> {
+    let Some(options) = options_of(workers) else {
+        return Err(NoMemory);
+    };
     let end = match kind {
-        "pool" => run_pool(rt, alloc, plan, options, gate)?,
-        "avoid" => run_avoid(rt, alloc, plan, options, gate)?,
-        "kept" => run_avoid_kept(rt, alloc, plan, options, gate)?,
-        _ => return run_journal(rt, alloc, plan, options, gate),
+        "pool" => run_pool(rt, alloc, plan, &options, gate)?,
+        "avoid" => run_avoid(rt, alloc, plan, &options, gate)?,
+        "kept" => run_avoid_kept(rt, alloc, plan, &options, gate)?,
+        _ => return run_journal(rt, alloc, plan, &options, gate),
     };
     Ok((end, List::new(alloc)))
 }
@@ -110,16 +107,13 @@ fn run_text<R: Threads + Wait + Sync, G: Gate>(
     alloc: Global,
     plan: &Plan,
     kind: &str,
-    options: &RunOptions,
+    workers: u32,
     gate: &G,
-) -> Result<String, NoMemory>
-    requires workers { 1 ≤ options.now.workers × options.now.workers ≤ 64 }
-    requires quiet { options.now.live ≡ false }
-{
-    let (end, journal) = run(rt, alloc, plan, kind, options, gate)?;
+) -> Result<String, NoMemory> {
+    let (end, journal) = run(rt, alloc, plan, kind, workers, gate)?;
     let mut text = String::new(alloc);
-    add_final(alloc, &mut text, &end)?;
-    add_journal(alloc, &mut text, journal.as_slice())?;
+    add_final(&mut text, &end)?;
+    add_journal(&mut text, journal.as_slice())?;
     Ok(text)
 }
 
@@ -129,13 +123,10 @@ fn meeting_text<R: Threads + Wait + Sync>(
     alloc: Global,
     plan: &Plan,
     kind: &str,
-    options: &RunOptions,
-) -> Result<String, NoMemory>
-    requires workers { 1 ≤ options.now.workers × options.now.workers ≤ 64 }
-    requires quiet { options.now.live ≡ false }
-{
+    workers: u32,
+) -> Result<String, NoMemory> {
     let gate = Meeting::new();
-    let mut text = run_text(rt, alloc, plan, kind, options, &gate)?;
+    let mut text = run_text(rt, alloc, plan, kind, workers, &gate)?;
     if gate.gave_up() {
         text.push_str(", a task gave up")?;
     }
@@ -151,19 +142,15 @@ fn gated_text<R: Threads + Wait + Sync>(
     setting: &str,
 ) -> Result<String, NoMemory> {
     let (name, workers) = first_word(setting);
-    let Some(options) = options_of(number(workers)) else {
-        return Err(NoMemory);
-    };
     if name == "still" {
-        run_text(rt, alloc, plan, kind, &options, &Still)
+        run_text(rt, alloc, plan, kind, number(workers), &Still)
     } else {
-        meeting_text(rt, alloc, plan, kind, &options)
+        meeting_text(rt, alloc, plan, kind, number(workers))
     }
 }
 
 fn is_met<R: Threads + Wait + Sync>(rt: &R, alloc: Global, row: &str) -> Result<bool, NoMemory> {
-    let (run, rest) = row.split_once("|").unwrap_or((row, ""));
-    let (setting, wanted) = rest.split_once("|").unwrap_or((rest, ""));
+    let (run, setting, wanted) = columns(row, "|");
     let (kind, word) = first_word(run);
     let plan = named_plan(alloc, word)?;
     let text = gated_text(rt, alloc, &plan, kind, setting)?;

@@ -1,6 +1,7 @@
-// Schedules, and the text of each one's replay or the line of its fault. In a row a slash ends a line, and ^ stands for the byte 13.
+// Schedules, and the text of each one's replay or the line of its fault. In a row ~ stands for LF, and & for CR.
 use crate::plans::named_plan;
 use armus_base::{NoMemory, Plan};
+use row_texts::{are_bytes_of, bytes_of, columns};
 use schedule::{Line, ReplayEnd, ScheduleFault, read_lines, replay, replay_text, split_input};
 use std::alloc::Global;
 use std::test::Fail;
@@ -14,27 +15,14 @@ none | kind 1 line 1 |t 00\n\
 none | kind 1 line 1 |t  0\n\
 none | kind 1 line 1 |T 0\n\
 none | kind 1 line 1 |t 1000000000\n\
-none | kind 1 line 1 |/\n\
-none | kind 1 line 1 |l^\n\
-none | kind 5 line 2 |pass/pass\n\
-none | kind 4 line 3 |pass/l/l\n\
-none | end steps 0 passes 0 dead none/ |pass\n\
-none | pass 1 dead none/end steps 0 passes 1 dead none/ |pass/l/\n\
-two | pass 1 dead none/pass 2 dead t0 t1/end steps 9 passes 2 dead t0 t1/ |t 0/t 0/t 0/t 0/t 0/pass/l/t 0/t 0/t 1/t 1/l/l/pass/l/l/l/l/l/l/\n\
+none | kind 1 line 1 |~\n\
+none | kind 1 line 1 |l&\n\
+none | kind 5 line 2 |pass~pass\n\
+none | kind 4 line 3 |pass~l~l\n\
+none | end steps 0 passes 0 dead none~ |pass\n\
+none | pass 1 dead none~end steps 0 passes 1 dead none~ |pass~l~\n\
+two | pass 1 dead none~pass 2 dead t0 t1~end steps 9 passes 2 dead t0 t1~ |t 0~t 0~t 0~t 0~t 0~pass~l~t 0~t 0~t 1~t 1~l~l~pass~l~l~l~l~l~l~\n\
 ";
-
-// The bytes that a row means.
-fn meant(alloc: Global, text: &str) -> Result<Vec<u8>, NoMemory> {
-    let mut bytes = Vec::new(alloc);
-    for b in text.bytes() {
-        bytes.push(match b {
-            b'/' => b'\n',
-            b'^' => b'\r',
-            _ => b,
-        })?;
-    }
-    Ok(bytes)
-}
 
 fn fault_text(alloc: Global, fault: &ScheduleFault) -> Result<Vec<u8>, NoMemory> {
     let kind = fault.kind;
@@ -55,27 +43,20 @@ fn outcome(alloc: Global, plan: &Plan, lines: &[Line]) -> Result<Vec<u8>, NoMemo
 }
 
 // Whether the schedule has this outcome.
-fn says(alloc: Global, plan: &Plan, schedule: &[u8], wanted: &[u8]) -> Result<bool, NoMemory> {
+fn says(alloc: Global, plan: &Plan, schedule: &[u8], wanted: &str) -> Result<bool, NoMemory> {
     if schedule.len() > 1000 {
         return Err(NoMemory);
     }
     let lines = read_lines(alloc, schedule)?;
     let found = outcome(alloc, plan, lines.as_slice())?;
-    Ok(found.as_slice() == wanted)
-}
-
-// Whether the schedule in the row has the outcome there.
-fn row_says(alloc: Global, plan: &Plan, schedule: &str, wanted: &str) -> Result<bool, NoMemory> {
-    let schedule = meant(alloc, schedule)?;
-    let wanted = meant(alloc, wanted)?;
-    says(alloc, plan, schedule.as_slice(), wanted.as_slice())
+    Ok(are_bytes_of(found.as_slice(), wanted))
 }
 
 fn is_met(alloc: Global, row: &str) -> Result<bool, NoMemory> {
-    let (word, rest) = row.split_once("|").unwrap_or((row, ""));
-    let (wanted, schedule) = rest.split_once("|").unwrap_or((rest, ""));
+    let (word, wanted, schedule) = columns(row, "|");
     let plan = named_plan(alloc, word)?;
-    row_says(alloc, &plan, schedule, wanted.trim())
+    let schedule = bytes_of(alloc, schedule)?;
+    says(alloc, &plan, schedule.as_slice(), wanted.trim())
 }
 
 #[test]
@@ -89,25 +70,18 @@ fn faults_and_ends(rt: HostRuntime) -> Result<(), Fail> {
 // An input, its text, and its schedule.
 const INPUTS: &str = "\
 ||\n\
-%%/l/||l/\n\
-skip;/%%/t 0/|skip;/|t 0/\n\
-skip;/%%|skip;/|\n\
-skip; %%/%%%/|skip; %%/%%%/|\n\
-a/%%/b/%%/|a/|b/%%/\n\
+%%~l~||l~\n\
+skip;~%%~t 0~|skip;~|t 0~\n\
+skip;~%%|skip;~|\n\
+skip; %%~%%%~|skip; %%~%%%~|\n\
+a~%%~b~%%~|a~|b~%%~\n\
 ";
 
-// Whether these are the bytes that a row means.
-fn is_meant(alloc: Global, bytes: &[u8], text: &str) -> Result<bool, NoMemory> {
-    let wanted = meant(alloc, text)?;
-    Ok(bytes == wanted.as_slice())
-}
-
 fn is_split(alloc: Global, row: &str) -> Result<bool, NoMemory> {
-    let (input, rest) = row.split_once("|").unwrap_or((row, ""));
-    let (text, schedule) = rest.split_once("|").unwrap_or((rest, ""));
-    let input = meant(alloc, input)?;
+    let (input, text, schedule) = columns(row, "|");
+    let input = bytes_of(alloc, input)?;
     let found = split_input(input.as_slice());
-    Ok(is_meant(alloc, found.0, text)? && is_meant(alloc, found.1, schedule)?)
+    Ok(are_bytes_of(found.0, text) && are_bytes_of(found.1, schedule))
 }
 
 #[test]

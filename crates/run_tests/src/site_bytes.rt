@@ -2,8 +2,9 @@
 ghost use Rattle.std.specs.Prelude.{◌<◌, ◌^◌, length};
 ghost use Rattle.armus_base.specs.calls.Statuses.{IsInOrder};
 
-use crate::texts::{bytes_of, first_word, number, statuses_text};
+use crate::texts::add_statuses;
 use armus_base::{MAX_SITES, NoMemory};
+use row_texts::{columns, cut, first_word, number, numbers};
 use sites::{DecodeEnd, Snapshot, decode, encode};
 use std::alloc::Global;
 use std::test::Fail;
@@ -39,7 +40,9 @@ fn encoded_text(
     if snapshot.site != site || again.as_slice() != row {
         return Ok(String::from_str(alloc, "another")?);
     }
-    statuses_text(alloc, snapshot.statuses.as_slice())
+    let mut text = String::new(alloc);
+    add_statuses(&mut text, snapshot.statuses.as_slice())?;
+    Ok(text)
 }
 
 // The statuses of which these bytes are the row for the site.
@@ -96,9 +99,8 @@ fn turned_text(alloc: Global, site: u32, sites: u32, row: &mut [u8]) -> Result<S
 
 fn answer(alloc: Global, kind: &str, place: &str, bytes: &str) -> Result<String, NoMemory> {
     let (site, sites) = first_word(place);
-    let site = number(site);
-    let sites = number(sites);
-    let mut row = bytes_of(alloc, bytes)?;
+    let (site, sites) = (number(site), number(sites));
+    let mut row = numbers(alloc, bytes)?;
     match kind.trim() {
         "cut" => cut_text(alloc, site, sites, row.as_slice()),
         "turned" => turned_text(alloc, site, sites, row.as_mut_slice()),
@@ -107,9 +109,8 @@ fn answer(alloc: Global, kind: &str, place: &str, bytes: &str) -> Result<String,
 }
 
 fn is_met(alloc: Global, row: &str) -> Result<bool, NoMemory> {
-    let (kind, rest) = row.split_once("|").unwrap_or((row, ""));
-    let (place, rest) = rest.split_once("|").unwrap_or((rest, ""));
-    let (bytes, wanted) = rest.split_once("|").unwrap_or((rest, ""));
+    let (kind, place, rest) = columns(row, "|");
+    let (bytes, wanted) = cut(rest, "|");
     let answer = answer(alloc, kind, place, bytes)?;
     Ok(answer.as_str() == wanted.trim())
 }

@@ -2,9 +2,9 @@
 ghost use Rattle.std.specs.Prelude.{◌≡◌, ◌≤◌, ◌<◌, length};
 ghost use Rattle.armus_base.specs.calls.Limits.{max_sites};
 
-use crate::texts::{add_number, add_task, bytes_of, bytes_text, first_word, number};
 use adaptive::{Analysis, Used, Wanted};
 use armus_base::NoMemory;
+use row_texts::{add_numbers, first_word, number, numbers};
 use sites::{KeepEnd, Keeper, check_sites};
 use std::alloc::Global;
 
@@ -30,6 +30,12 @@ fn put_row<K: Keeper>(keeper: &mut K, site: u32, row: &[u8]) -> &'static str
     }
 }
 
+fn bytes_text(alloc: Global, bytes: &[u8]) -> Result<String, NoMemory> {
+    let mut text = String::new(alloc);
+    add_numbers(&mut text, bytes)?;
+    Ok(text)
+}
+
 // A call of `get`.
 fn get_row<K: Keeper>(alloc: Global, keeper: &mut K, site: u32) -> Result<String, NoMemory>
     requires site { site < length (K.rows keeper.old) }
@@ -43,25 +49,17 @@ fn get_row<K: Keeper>(alloc: Global, keeper: &mut K, site: u32) -> Result<String
     }
 }
 
-// Those that an analysis names.
-fn dead_text(alloc: Global, analysis: &Analysis) -> Result<String, NoMemory> {
-    let mut text = String::new(alloc);
-    for t in analysis.dead.as_slice() {
-        text.push_str(" ")?;
-        add_task(alloc, &mut text, *t)?;
-    }
-    Ok(text)
-}
-
-// By which graph, of how many edges, an analysis is made.
-fn graph_text(alloc: Global, analysis: &Analysis) -> Result<String, NoMemory> {
+// By which graph, of how many edges, an analysis is made, and those that it names.
+fn analysis_text(alloc: Global, analysis: &Analysis) -> Result<String, NoMemory> {
     let graph = match analysis.used {
-        Used::Wfg => "wfg ",
-        Used::Sg => "sg ",
-        Used::Grg => "grg ",
+        Used::Wfg => "wfg",
+        Used::Sg => "sg",
+        Used::Grg => "grg",
     };
-    let mut text = String::from_str(alloc, graph)?;
-    add_number(alloc, &mut text, analysis.edges)?;
+    let mut text = format!(in alloc; "{graph} {}", analysis.edges)?;
+    for t in analysis.dead.as_slice() {
+        write!(text, " t{}", t.0)?;
+    }
     Ok(text)
 }
 
@@ -109,18 +107,9 @@ impl<K: Keeper> Desk<K> {
     fn check(&mut self, alloc: Global) -> Result<(), NoMemory> {
         match check_sites(alloc, &mut self.keeper, self.sites, Wanted::Auto) {
             Ok(analysis) if analysis.dead.as_slice().is_empty() => self.tell("nobody"),
-            Ok(analysis) => self.tell_names(alloc, &analysis),
+            Ok(analysis) => self.tell(analysis_text(alloc, &analysis)?.as_str()),
             Err(_) => self.tell("no check"),
         }
-    }
-
-    // Tells by which graph an analysis names whom.
-    fn tell_names(&mut self, alloc: Global, analysis: &Analysis) -> Result<(), NoMemory> {
-        let graph = graph_text(alloc, analysis)?;
-        self.told.push_str(graph.as_str())?;
-        let dead = dead_text(alloc, analysis)?;
-        self.told.push_str(dead.as_str())?;
-        self.tell("")
     }
 
     /// Makes a call: `put` of a site and its bytes, `get` of a site, or `check`.
@@ -129,7 +118,7 @@ impl<K: Keeper> Desk<K> {
         let (site, bytes) = first_word(rest);
         match kind {
             "put" => {
-                let row = bytes_of(alloc, bytes)?;
+                let row = numbers(alloc, bytes)?;
                 self.put(number(site), row.as_slice())
             }
             "get" => self.get(alloc, number(site)),

@@ -2,8 +2,8 @@
 ghost use Rattle.std.specs.Prelude.{◌≤◌};
 
 use crate::site_desk::Desk;
-use crate::texts::{first_word, number};
 use armus_base::{List, MAX_SITES, NoMemory};
+use row_texts::{columns, first_word, number, numbers};
 use sites::{Keeper, MemKeeper, SafeKeeper};
 use std::alloc::Global;
 use std::test::Fail;
@@ -13,15 +13,6 @@ const ROWS: &str = "\
 mem 2 2 5 | put 1 7; put 0 8; get 0; get 1; get 1 | ok; fault; none; 7; fault;\n\
 safe 1 | put 0 1 2; put 0; get 0 | ok; ok; ;\n\
 ";
-
-/// The numbers in a text.
-pub(crate) fn numbers(alloc: Global, text: &str) -> Result<List<u64>, NoMemory> {
-    let mut all = List::new(alloc);
-    for word in text.split_whitespace() {
-        all.push(u64::from(number(word)))?;
-    }
-    Ok(all)
-}
 
 // Whether these calls of the keeper answer so.
 fn plays<K: Keeper>(
@@ -46,7 +37,7 @@ fn mem_plays(
 ) -> Result<bool, NoMemory>
     requires { 1 ≤ sites × sites ≤ MAX_SITES }
 {
-    let keeper = MemKeeper::new(alloc, sites, numbers(alloc, fails)?)?;
+    let keeper = MemKeeper::new(alloc, sites, List::from_vec(numbers(alloc, fails)?))?;
     plays(alloc, &mut Desk::new(alloc, keeper, sites), calls, wanted)
 }
 
@@ -60,8 +51,7 @@ fn safe_plays(alloc: Global, sites: u32, calls: &str, wanted: &str) -> Result<bo
 
 fn is_met(alloc: Global, row: &str) -> Result<bool, NoMemory> {
     let (kind, rest) = first_word(row);
-    let (given, rest) = rest.split_once("|").unwrap_or((rest, ""));
-    let (calls, wanted) = rest.split_once("|").unwrap_or((rest, ""));
+    let (given, calls, wanted) = columns(rest, "|");
     let (sites, fails) = first_word(given);
     let sites = number(sites);
     if sites < 1 || sites > MAX_SITES {

@@ -1,65 +1,21 @@
 // A pass of sites beside a round: the first task of the plan waits at its first op until the keeper is asked for a row, and the keeper until the task is there.
 ghost use Rattle.std.specs.Prelude.{◌≡◌, None, replicate};
 
+use crate::meeting::{MAX_LOOKS, Meeting};
 use crate::plans::named_plan;
 use crate::runs::options_of;
 use armus_base::{Gate, List, NoMemory, Plan, Point, TaskId};
 use sites::{KeepEnd, Keeper, MemKeeper};
 use std::alloc::Global;
-use std::sync::atomic::{AtomicBool, Ordering};
 use std::test::Fail;
-use std::thread::{Threads, yield_now};
+use std::thread::Threads;
 use task_runner::run_sites;
 
-// How often one of them looks for the other before it gives up.
-const MAX_LOOKS: u32 = 200_000_000;
+// Where the task waits for the keeper.
+const FIRST: Point = Point::Op { t: TaskId(0), k: 0 };
 
-const ROOT: TaskId = TaskId(0);
-
-// Whether the task has come, whether the keeper was asked, and whether one of them has waited in vain.
-#[derive(Drop)]
-struct Meeting {
-    task_came: AtomicBool,
-    keeper_came: AtomicBool,
-    gave_up: AtomicBool,
-}
-
-impl Meeting {
-    fn new() -> Meeting {
-        Meeting {
-            task_came: AtomicBool::new(false),
-            keeper_came: AtomicBool::new(false),
-            gave_up: AtomicBool::new(false),
-        }
-    }
-
-    fn wait_for(&self, other: &AtomicBool) {
-        for _ in 0..MAX_LOOKS {
-            if other.load(Ordering::SeqCst) {
-                return;
-            }
-            yield_now();
-        }
-        self.gave_up.store(true, Ordering::SeqCst);
-    }
-
-    fn ask(&self) {
-        self.keeper_came.store(true, Ordering::SeqCst);
-        self.wait_for(&self.task_came);
-    }
-}
-
-impl Gate for Meeting {
-    fn at(&self, point: Point) {
-        match point {
-            Point::Op { t: ROOT, k: 0 } => {
-                self.task_came.store(true, Ordering::SeqCst);
-                self.wait_for(&self.keeper_came);
-            }
-            _ => {}
-        }
-    }
-}
+// Where the keeper waits for the task: at an op of a task that the plan has not.
+const ASKED: Point = Point::Op { t: TaskId(2), k: 0 };
 
 // A keeper in memory that asks before it gives a row.
 #[derive(Drop)]
@@ -78,7 +34,7 @@ impl<'a> Keeper for AskingKeeper<'a> {
     }
 
     fn get(&mut self, alloc: Global, site: u32) -> Result<Option<List<u8>>, KeepEnd> {
-        self.meeting.ask();
+        self.meeting.at(ASKED);
         self.keeper.get(alloc, site)
     }
 }
@@ -100,14 +56,14 @@ fn runs<R: Threads + Sync>(
 }
 
 fn meets<R: Threads + Sync>(rt: &R, alloc: Global, plan: &Plan) -> Result<bool, NoMemory> {
-    let meeting = Meeting::new();
+    let meeting = Meeting::between(FIRST, ASKED, MAX_LOOKS);
     let keeper = MemKeeper::new(alloc, 2, List::new(alloc))?;
     let mut asking = AskingKeeper {
         keeper,
         meeting: &meeting,
     };
     let ended = runs(rt, alloc, plan, &mut asking, &meeting);
-    Ok(ended && !meeting.gave_up.load(Ordering::SeqCst))
+    Ok(ended && !meeting.gave_up())
 }
 
 #[test]

@@ -5,11 +5,12 @@ ghost use Rattle.board.specs.calls.Seats.{IsOf};
 
 use crate::plans::named_plan;
 use crate::site_desk::Desk;
-use crate::site_keepers::numbers;
 use adaptive::Wanted;
-use armus_base::{NoMemory, Plan, TaskId};
+use armus_base::{List, NoMemory, Plan, TaskId};
 use board::{Board, ViewSeat};
 use board_tests::walker::{Walker, begin};
+use board_tests::walks::{forks, steps};
+use row_texts::{cut, numbers};
 use sites::{Keeper, MemKeeper, SafeKeeper, encode, site_pass, snap};
 use std::alloc::Global;
 use std::test::Fail;
@@ -33,29 +34,10 @@ fn go<'p>(
     requires plan { (board.now.plan ≡ plan.now) × (board.now.mode ≡ Detect) }
     ensures made { IsOf walker.new board.now }
 {
-    for _ in 0..count {
-        if walker.go(alloc, board, plan).is_err() {
-            return Err(NoMemory);
-        }
-    }
-    Ok(())
-}
-
-// The child that a walker forks next.
-fn forked<'p>(
-    walker: &mut Walker<'p>,
-    alloc: Global,
-    board: &Board,
-    plan: &'p Plan,
-) -> Result<Walker<'p>, NoMemory>
-    requires made { IsOf walker.old board.now }
-    requires plan { (board.now.plan ≡ plan.now) × (board.now.mode ≡ Detect) }
-    ensures made { IsOf walker.new board.now }
-    ensures child { IfOk result (λ child. IsOf child board.now) }
-{
-    match walker.go(alloc, board, plan) {
-        Ok(Some(child)) => Ok(child),
-        _ => Err(NoMemory),
+    if steps(walker, alloc, board, plan, count) {
+        Ok(())
+    } else {
+        Err(NoMemory)
     }
 }
 
@@ -71,7 +53,7 @@ fn first_waits<'p>(
     ensures child { IfOk result (λ child. IsOf child board.now) }
 {
     go(&mut root, alloc, board, plan, 4)?;
-    let child = forked(&mut root, alloc, board, plan)?;
+    let child = forks(&mut root, alloc, board, plan).ok_or(NoMemory)?;
     go(&mut root, alloc, board, plan, 2)?;
     Ok(child)
 }
@@ -126,7 +108,7 @@ fn play(alloc: Global, plan: &Plan, desk: &mut Desk<MemKeeper>) -> Result<(), No
 
 // Whether the calls of a keeper of which these calls fail tell this.
 fn tells(alloc: Global, plan: &Plan, fails: &str, wanted: &str) -> Result<bool, NoMemory> {
-    let keeper = MemKeeper::new(alloc, 2, numbers(alloc, fails)?)?;
+    let keeper = MemKeeper::new(alloc, 2, List::from_vec(numbers(alloc, fails)?))?;
     let mut desk = Desk::new(alloc, keeper, 2);
     play(alloc, plan, &mut desk)?;
     Ok(desk.told().trim() == wanted.trim())
@@ -136,7 +118,7 @@ fn tells(alloc: Global, plan: &Plan, fails: &str, wanted: &str) -> Result<bool, 
 fn rows_of_two_moments(rt: HostRuntime) -> Result<(), Fail> {
     let plan = named_plan(rt.alloc(), "two")?;
     for row in ROWS.lines() {
-        let (fails, wanted) = row.split_once("|").unwrap_or((row, ""));
+        let (fails, wanted) = cut(row, "|");
         assert!(rt; tells(rt.alloc(), &plan, fails, wanted)?, "{row}");
     }
     Ok(())

@@ -44,8 +44,7 @@ fn fails_at<R: Threads + Sync>(
     plan: &Plan,
     call: u64,
 ) -> Result<bool, NoMemory> {
-    let mut fails = List::new(alloc);
-    fails.push(call)?;
+    let fails = List::from_vec(vec![in alloc; call]?);
     let mut keeper = MemKeeper::new(alloc, 2, fails)?;
     match ran(rt, alloc, plan, 1, &mut keeper) {
         Err(KeepEnd::Fault) => Ok(true),
@@ -90,7 +89,7 @@ fn holds(alloc: Global, keeper: MemKeeper, wanted: &str) -> Result<bool, NoMemor
 // Whether the run has ended so.
 fn has_ended(alloc: Global, end: &Final, wanted: &str) -> Result<bool, NoMemory> {
     let mut text = String::new(alloc);
-    add_final(alloc, &mut text, end)?;
+    add_final(&mut text, end)?;
     Ok(text.as_str() == wanted)
 }
 

@@ -1,20 +1,15 @@
 // The text of a world.
-ghost use Rattle.std.specs.Prelude.{◌≡◌, ℕ, ◌<◌, true, length};
-ghost use Rattle.pl_core.specs.calls.Stands.{IsEnabled};
+ghost use Rattle.std.specs.Prelude.{◌<◌, length};
 
-use crate::texts::{add_event, add_number, add_task, statuses_text};
-use armus_base::{Event, Final, NoMemory, Phase, PhaserId, TaskEnd, TaskId};
+use crate::texts::{add_event, add_phase, add_statuses, add_task};
+use armus_base::{Event, Final, NoMemory, PhaserId, TaskEnd, TaskId};
+use board_tests::finals::final_state;
 use pl_core::{Stand, World};
-use std::alloc::Global;
+use std::alloc::{AllocError, Global};
 
 // An event, and whether it is reached.
-fn add_reached(
-    alloc: Global,
-    text: &mut String,
-    world: &World,
-    event: Event,
-) -> Result<(), NoMemory> {
-    add_event(alloc, text, event)?;
+fn add_reached(text: &mut String, world: &World, event: Event) -> Result<(), AllocError> {
+    add_event(text, event)?;
     if event.p.0 < world.plan().phasers() && world.is_reached(event) {
         text.push_str(" reached")?;
     }
@@ -22,13 +17,7 @@ fn add_reached(
 }
 
 // Whether a task that awaits an event, and has not published it, impedes nobody, and which published task impedes it.
-fn add_impeder(
-    alloc: Global,
-    text: &mut String,
-    world: &World,
-    t: TaskId,
-    event: Event,
-) -> Result<(), NoMemory>
+fn add_impeder(text: &mut String, world: &World, t: TaskId, event: Event) -> Result<(), AllocError>
     requires task { t.0 < length world.now.plan.parents }
 {
     if event.p.0 >= world.plan().phasers() {
@@ -39,25 +28,25 @@ fn add_impeder(
     }
     if let Some(u) = world.published_impeder(t, event) {
         text.push_str(" impeded by ")?;
-        add_task(alloc, text, u)?;
+        add_task(text, u)?;
     }
     Ok(())
 }
 
 // How a task stands, and at which event.
-fn add_stand(alloc: Global, text: &mut String, world: &World, t: TaskId) -> Result<(), NoMemory>
+fn add_stand(text: &mut String, world: &World, t: TaskId) -> Result<(), AllocError>
     requires task { t.0 < length world.now.plan.parents }
 {
     let stand = world.stand(t);
     text.push_str(stand_word(stand))?;
     match stand {
         Stand::Unforked | Stand::Done | Stand::Ready => Ok(()),
-        Stand::Refused(event) => add_event(alloc, text, event),
+        Stand::Refused(event) => add_event(text, event),
         Stand::Await(event) => {
-            add_reached(alloc, text, world, event)?;
-            add_impeder(alloc, text, world, t, event)
+            add_reached(text, world, event)?;
+            add_impeder(text, world, t, event)
         }
-        Stand::Waits(event) => add_reached(alloc, text, world, event),
+        Stand::Waits(event) => add_reached(text, world, event),
     }
 }
 
@@ -73,50 +62,33 @@ fn stand_word(stand: Stand) -> &'static str {
 }
 
 // The index of a task's op, and whether it may go on.
-fn add_op(alloc: Global, text: &mut String, world: &World, t: TaskId) -> Result<(), NoMemory>
+fn add_op(text: &mut String, world: &World, t: TaskId) -> Result<(), AllocError>
     requires task { t.0 < length world.now.plan.parents }
 {
-    text.push_str(" op ")?;
-    add_number(alloc, text, u64::from(world.op(t)))?;
-    text.push_str(if world.enabled(t) { " +" } else { " ." })?;
-    Ok(())
+    let sign = if world.enabled(t) { "+" } else { "." };
+    write!(text, " op {} {sign}", world.op(t))
 }
 
-// A phase, or that the task is no member.
-fn add_phase(alloc: Global, text: &mut String, phase: Option<Phase>) -> Result<(), NoMemory> {
-    match phase {
-        Some(n) => add_number(alloc, text, u64::from(n)),
-        None => Ok(text.push_str("-")?),
-    }
-}
-
-fn add_phases(alloc: Global, text: &mut String, world: &World, t: TaskId) -> Result<(), NoMemory>
+fn add_phases(text: &mut String, world: &World, t: TaskId) -> Result<(), AllocError>
     requires task { t.0 < length world.now.plan.parents }
 {
     for p in 0..world.plan().phasers() {
-        text.push_str(" ")?;
-        add_phase(alloc, text, world.phase(PhaserId(p), t))?;
+        add_phase(text, world.phase(PhaserId(p), t))?;
     }
     Ok(())
 }
 
 // Each task: how it stands, the index of its op, and its phases.
-fn add_tasks(alloc: Global, text: &mut String, world: &World) -> Result<(), NoMemory> {
+fn add_tasks(text: &mut String, world: &World) -> Result<(), AllocError> {
     for number in 0..world.plan().tasks() {
         let t = TaskId(number);
-        add_task(alloc, text, t)?;
+        add_task(text, t)?;
         text.push_str(" ")?;
-        add_stand(alloc, text, world, t)?;
-        add_op(alloc, text, world, t)?;
-        add_phases(alloc, text, world, t)?;
+        add_stand(text, world, t)?;
+        add_op(text, world, t)?;
+        add_phases(text, world, t)?;
         text.push_str(";")?;
     }
-    Ok(())
-}
-
-fn add_statuses(alloc: Global, text: &mut String, world: &World) -> Result<(), NoMemory> {
-    let statuses = world.statuses(alloc)?;
-    text.push_str(statuses_text(alloc, statuses.as_slice())?.as_str())?;
     Ok(())
 }
 
@@ -131,39 +103,25 @@ fn end_word(end: TaskEnd) -> &'static str {
 }
 
 // The ends and the statuses of a final state.
-fn add_final(alloc: Global, text: &mut String, end: &Final) -> Result<(), NoMemory> {
+fn add_final(text: &mut String, end: &Final) -> Result<(), AllocError> {
     for end in end.ends.as_slice() {
         text.push_str(end_word(*end))?;
     }
-    text.push_str(statuses_text(alloc, end.blocked.as_slice())?.as_str())?;
-    Ok(())
-}
-
-// Whether no task may go on.
-fn is_quiet(world: &World) -> bool
-    ensures { result ≡ true → (t : ℕ) → t < length world.now.plan.parents → IsEnabled world.now t → ⊥ }
-{
-    for t in 0..world.plan().tasks() {
-        if world.enabled(TaskId(t)) {
-            return false;
-        }
-    }
-    true
+    add_statuses(text, end.blocked.as_slice())
 }
 
 fn add_end(alloc: Global, text: &mut String, world: &World) -> Result<(), NoMemory> {
-    if is_quiet(world) {
-        let end = world.finish(alloc)?;
-        add_final(alloc, text, &end)?;
+    if let Some(end) = final_state(alloc, world)? {
+        add_final(text, &end)?;
     }
     Ok(())
 }
 
 /// The state, its statuses, and what it is as a final one, if no task may go on.
 pub(crate) fn add_world(alloc: Global, text: &mut String, world: &World) -> Result<(), NoMemory> {
-    add_tasks(alloc, text, world)?;
+    add_tasks(text, world)?;
     text.push_str(" / ")?;
-    add_statuses(alloc, text, world)?;
+    add_statuses(text, world.statuses(alloc)?.as_slice())?;
     text.push_str(" / ")?;
     add_end(alloc, text, world)
 }

@@ -7,6 +7,7 @@ use crate::plans::named_plan;
 use crate::state_texts::add_world;
 use armus_base::{NoMemory, Plan, TaskId};
 use pl_core::{Place, Stand, World};
+use row_texts::columns;
 use std::alloc::Global;
 use std::test::Fail;
 
@@ -37,8 +38,8 @@ fn place_within(places: &[Place], at: usize) -> Place
     places[at]
 }
 
-// Makes the next event of the task in the world, and counts it in the places.
-fn step_both(world: &mut World, places: &mut Vec<Place>, t: TaskId)
+// Makes the next event of the task in the world, or refuses its await, and notes it in the places.
+fn turn_both(world: &mut World, places: &mut Vec<Place>, t: TaskId, refuses: bool)
     requires { places.old.items ≡ world.old.places }
     ensures same { places.new.items ≡ world.new.places }
     ensures plan { world.new.plan ≡ world.old.plan }
@@ -47,34 +48,20 @@ fn step_both(world: &mut World, places: &mut Vec<Place>, t: TaskId)
     if t.0 >= world.plan().tasks() || at >= places.len() {
         return;
     }
-    let place = place_within(places, at);
-    if place.events > 1000 || !world.enabled(t) {
-        return;
-    }
-    world.step(t);
-    places[at] = Place {
-        events: place.events + 1,
-        refused: place.refused,
-    };
-}
-
-// Refuses the await of the task in the world, and notes it in the places.
-fn refuse_both(world: &mut World, places: &mut Vec<Place>, t: TaskId)
-    requires { places.old.items ≡ world.old.places }
-    ensures same { places.new.items ≡ world.new.places }
-    ensures plan { world.new.plan ≡ world.old.plan }
-{
-    let at = t.0 as usize;
-    if t.0 >= world.plan().tasks() || at >= places.len() {
-        return;
-    }
-    let place = place_within(places, at);
+    let Place { events, refused } = place_within(places, at);
     match world.stand(t) {
-        Stand::Await(_) => {
+        Stand::Await(_) if refuses => {
             world.refuse(t);
             places[at] = Place {
-                events: place.events,
+                events,
                 refused: true,
+            };
+        }
+        _ if !refuses && events <= 1000 && world.enabled(t) => {
+            world.step(t);
+            places[at] = Place {
+                events: events + 1,
+                refused,
             };
         }
         _ => {}
@@ -88,8 +75,8 @@ fn take_turns(world: &mut World, places: &mut Vec<Place>, turns: &str)
 {
     for letter in turns.as_bytes() {
         match *letter {
-            b'r' => refuse_both(world, places, TaskId(1)),
-            digit => step_both(world, places, TaskId(u32::from(digit % 16))),
+            b'r' => turn_both(world, places, TaskId(1), true),
+            digit => turn_both(world, places, TaskId(u32::from(digit % 16)), false),
         }
     }
 }
@@ -123,8 +110,7 @@ fn both_read(alloc: Global, plan: &Plan, turns: &str, wanted: &str) -> Result<bo
 }
 
 fn is_met(alloc: Global, row: &str) -> Result<bool, NoMemory> {
-    let (word, rest) = row.split_once("|").unwrap_or((row, ""));
-    let (turns, wanted) = rest.split_once("|").unwrap_or((rest, ""));
+    let (word, turns, wanted) = columns(row, "|");
     let plan = named_plan(alloc, word)?;
     both_read(alloc, &plan, turns.trim(), wanted)
 }

@@ -5,19 +5,18 @@ ghost use Rattle.pl_plan.specs.Unfolding.{plan_of};
 ghost use Rattle.pl_syntax.specs.Grammar.{IsText};
 ghost use Rattle.pl_syntax.specs.Tree.{count};
 
-use crate::ended_worlds::{is_quiet, run};
-use crate::row_texts::{are_bytes_of, bytes_of};
 use accounts::{
     Account, TaskAccount, Waiting, account_exists, account_of, forkers_fork, one_account,
     statements_have_places, tasks_are_of_text,
 };
 use armus_base::{NoMemory, Plan};
-use pl_core::World;
 use pl_plan::{Unfolded, unfold};
 use pl_syntax::{Program, parse};
+use row_texts::{are_bytes_of, bytes_of, cut};
 use std::alloc::Global;
 use std::test::Fail;
 use text_places::{TextPlace, TextPlaces, line_names_one_place};
+use world_runs::run_to_world;
 
 // Of each phaser where it is made, and of each task where and by which name it is drawn, where and by whom it is forked, where its code ends, with the
 // statement of its last visit, and where it waits: at what, for which event, at which phase, and in which turns of loops. The rows: nobody waits; loops in a
@@ -116,7 +115,7 @@ fn lines_of(
     Ok(out)
 }
 
-// The account of the end of this plan's run, as lines, if that ends after so many steps of each task.
+// The account of the end of this plan's run, as lines.
 fn told(
     alloc: Global,
     text: &[u8],
@@ -130,14 +129,16 @@ fn told(
     requires unfolds { plan_of program.now ≡ Ok plan.now }
     requires forks { forks.items ≡ fork_statements program.now }
 {
-    let mut world = World::start(alloc, plan)?;
-    run(&mut world, 40);
-    if !is_quiet(&world) {
-        return Ok(Vec::new(alloc));
-    }
-    let end = world.finish(alloc)?;
+    let ended = run_to_world(alloc, plan)?;
     let places = TextPlaces::new(alloc, text)?;
-    let account = account_of(alloc, &places, program, forks, &world, end.ends.as_slice())?;
+    let account = account_of(
+        alloc,
+        &places,
+        program,
+        forks,
+        &ended.world,
+        ended.end.ends.as_slice(),
+    )?;
     lines_of(alloc, &places, &account)
 }
 
@@ -156,7 +157,7 @@ fn told_of(alloc: Global, text: &[u8]) -> Result<Vec<u8>, NoMemory> {
 }
 
 fn is_met(alloc: Global, row: &str) -> Result<bool, NoMemory> {
-    let (text, lines) = row.split_once("|").unwrap_or((row, ""));
+    let (text, lines) = cut(row, "|");
     let bytes = bytes_of(alloc, text)?;
     let told = told_of(alloc, &bytes)?;
     Ok(are_bytes_of(&told, lines))

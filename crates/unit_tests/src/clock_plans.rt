@@ -1,8 +1,9 @@
 // Clock programs: how many activities, clocks and ops the plan of each has, or the kind and the statement of its first fault; and codes of activities.
-use crate::row_texts::{are_bytes_of, number};
-use armus_base::{NoMemory, Offset, Op, PhaserId, Piece, Plan, TaskId};
+use crate::pieces::has_pieces;
+use armus_base::{NoMemory, Plan};
 use clock_pl::{ClockEnd, ClockFault, clock_line, clock_plan};
 use clock_syntax::{MAX_CLOCK_BYTES, clock_parse};
+use row_texts::{are_bytes_of, columns, cut, number};
 use std::alloc::Global;
 use std::test::Fail;
 
@@ -47,24 +48,23 @@ async(c) |none\n\
 
 // A text, an activity and its code: under a finish, of two clocks, and of a resume.
 const CODES: &str = "\
-clock c; finish { async(c) { advance(c); } } drop(c);|0|make 0, make 1, reg 1 0, reg 1 1, fork 1, adv 1, await 1, drop 1, drop 0\n\
-clock c; finish { async(c) { advance(c); } } drop(c);|1|adv 0, await 0, drop 0, drop 1\n\
-clock b; clock a; async(a, b) { }|0|make 0, make 1, reg 1 1, reg 1 0, fork 1, drop 0, drop 1\n\
-clock b; clock a; async(a, b) { }|1|drop 0, drop 1\n\
-clock c; resume(c); advance(c);|0|make 0, adv 0, await 0, drop 0\n\
+clock c; finish { async(c) { advance(c); } } drop(c);|0|make:0 make:1 reg:1,0 reg:1,1 fork:1 adv:1 await:1 drop:1 drop:0\n\
+clock c; finish { async(c) { advance(c); } } drop(c);|1|adv:0 await:0 drop:0 drop:1\n\
+clock b; clock a; async(a, b) { }|0|make:0 make:1 reg:1,1 reg:1,0 fork:1 drop:0 drop:1\n\
+clock b; clock a; async(a, b) { }|1|drop:0 drop:1\n\
+clock c; resume(c); advance(c);|0|make:0 adv:0 await:0 drop:0\n\
 ";
 
 fn has_counts(plan: &Plan, text: &str) -> bool {
-    let (activities, rest) = text.split_once(" ").unwrap_or((text, ""));
-    let (clocks, ops) = rest.split_once(" ").unwrap_or((rest, ""));
+    let (activities, clocks, ops) = columns(text, " ");
     plan.tasks() == number(activities)
         && plan.phasers() == number(clocks)
         && plan.ops() == number(ops)
 }
 
 fn is_fault(fault: ClockFault, text: &str) -> bool {
-    let (kind, statement) = text.split_once(" ").unwrap_or((text, ""));
-    u32::from(fault.kind) == number(kind) && fault.statement == number(statement)
+    let (kind, statement) = cut(text, " ");
+    fault.kind == number(kind) && fault.statement == number(statement)
 }
 
 fn is_planned(alloc: Global, text: &str, wanted: &str) -> Result<bool, NoMemory> {
@@ -74,7 +74,7 @@ fn is_planned(alloc: Global, text: &str, wanted: &str) -> Result<bool, NoMemory>
     let Ok(program) = clock_parse(alloc, text.as_bytes()) else {
         return Ok(wanted == "none");
     };
-    let (word, numbers) = wanted.split_once(" ").unwrap_or((wanted, ""));
+    let (word, numbers) = cut(wanted, " ");
     match clock_plan(alloc, &program) {
         Ok(plan) => Ok(word == "plan" && has_counts(&plan, numbers)),
         Err(ClockEnd::Clock(fault)) => Ok(word == "fault" && is_fault(fault, numbers)),
@@ -85,44 +85,13 @@ fn is_planned(alloc: Global, text: &str, wanted: &str) -> Result<bool, NoMemory>
 #[test]
 fn plans_and_first_faults_of_clock_texts(rt: HostRuntime) -> Result<(), Fail> {
     for row in PLANS.lines() {
-        let (text, wanted) = row.split_once("|").unwrap_or((row, ""));
+        let (text, wanted) = cut(row, "|");
         assert!(rt; is_planned(rt.alloc(), text, wanted)?, "{row}");
     }
     Ok(())
 }
 
-fn op(text: &str) -> Op {
-    let (word, numbers) = text.split_once(" ").unwrap_or((text, ""));
-    let (first, second) = numbers.split_once(" ").unwrap_or((numbers, ""));
-    let (c, p) = (TaskId(number(first)), PhaserId(number(first)));
-    match word {
-        "make" => Op::Make { p },
-        "reg" => Op::Reg {
-            c,
-            p: PhaserId(number(second)),
-        },
-        "fork" => Op::Fork { c },
-        "adv" => Op::Adv { p },
-        "await" => Op::Await {
-            p,
-            off: Offset::Here,
-        },
-        _ => Op::Drop { p },
-    }
-}
-
-fn are_pieces(pieces: &[Piece], text: &str) -> bool {
-    let mut count = 0;
-    for part in text.split(", ") {
-        if pieces.get(count) != Some(&Piece::Op(op(part))) {
-            return false;
-        }
-        count += 1;
-    }
-    pieces.len() == count
-}
-
-fn has_code(alloc: Global, text: &str, t: TaskId, code: &str) -> Result<bool, NoMemory> {
+fn has_code(alloc: Global, text: &str, t: u32, code: &str) -> Result<bool, NoMemory> {
     if text.len() > MAX_CLOCK_BYTES {
         return Ok(false);
     }
@@ -130,7 +99,7 @@ fn has_code(alloc: Global, text: &str, t: TaskId, code: &str) -> Result<bool, No
         return Ok(false);
     };
     match clock_plan(alloc, &program) {
-        Ok(plan) => Ok(t.0 < plan.tasks() && are_pieces(plan.pieces(t), code)),
+        Ok(plan) => Ok(has_pieces(&plan, t, code)),
         Err(_) => Ok(false),
     }
 }
@@ -138,12 +107,8 @@ fn has_code(alloc: Global, text: &str, t: TaskId, code: &str) -> Result<bool, No
 #[test]
 fn codes_of_activities(rt: HostRuntime) -> Result<(), Fail> {
     for row in CODES.lines() {
-        let (text, rest) = row.split_once("|").unwrap_or((row, ""));
-        let (t, code) = rest.split_once("|").unwrap_or((rest, ""));
-        assert!(rt;
-            has_code(rt.alloc(), text, TaskId(number(t)), code)?,
-            "{row}"
-        );
+        let (text, t, code) = columns(row, "|");
+        assert!(rt; has_code(rt.alloc(), text, number(t), code)?, "{row}");
     }
     Ok(())
 }

@@ -1,8 +1,8 @@
 // Texts of the language of clocks: each with the place and the kind of its first fault, or none where it is a program; and the tree of one.
-use crate::row_texts::{are_bytes_of, bytes_of, number};
 use armus_base::NoMemory;
 use clock_syntax::{ClockBody, ClockName, ClockProgram, ClockStmt, MAX_CLOCK_BYTES, clock_parse};
 use pl_syntax::ParseEnd;
+use row_texts::{are_bytes_of, bytes_of, cut, number};
 use std::alloc::{AllocError, Global};
 use std::test::Fail;
 
@@ -65,7 +65,7 @@ fn fault(alloc: Global, text: &[u8]) -> Result<Option<(u32, u32)>, NoMemory> {
 }
 
 fn is_met(alloc: Global, row: &str) -> Result<bool, NoMemory> {
-    let (text, wanted) = row.split_once("|").unwrap_or((row, ""));
+    let (text, wanted) = cut(row, "|");
     let wanted = match wanted.split_once(" ") {
         Some((at, kind)) => Some((number(at), number(kind))),
         None => None,

@@ -1,8 +1,8 @@
 // Generated texts: a line for a number of workers, with the whole text and how much its plan has.
 use crate::plans::answer;
-use crate::row_texts::{bytes_of, number};
 use armus_base::NoMemory;
 use gen_text::{gen_is_accepted, gen_text};
+use row_texts::{bytes_of, columns, number};
 use std::alloc::Global;
 use std::test::Fail;
 
@@ -14,15 +14,14 @@ const ROWS: &str = "\
 
 fn is_generated(alloc: Global, workers: &str, text: &str) -> Result<bool, NoMemory> {
     let wanted = bytes_of(alloc, text)?;
-    let found = gen_text(alloc, u16::try_from(number(workers)).unwrap_or(0))?;
+    let found = gen_text(alloc, number(workers))?;
     Ok(found.as_slice() == wanted.as_slice())
 }
 
 #[test]
 fn texts_and_their_plans(rt: HostRuntime) -> Result<(), Fail> {
     for row in ROWS.lines() {
-        let (workers, rest) = row.split_once("$").unwrap_or((row, ""));
-        let (text, wanted) = rest.split_once("$").unwrap_or((rest, ""));
+        let (workers, text, wanted) = columns(row, "$");
         assert!(rt; is_generated(rt.alloc(), workers, text)?, "{row}");
         assert!(rt; answer(rt.alloc(), text)?.as_str() == wanted, "{row}");
     }

@@ -8,8 +8,6 @@ mod clock_plans;
 #[cfg(test)]
 mod clock_texts;
 #[cfg(test)]
-mod ended_worlds;
-#[cfg(test)]
 mod endings;
 #[cfg(test)]
 mod generated;
@@ -29,8 +27,6 @@ mod printed;
 mod program_texts;
 #[cfg(test)]
 mod reported;
-#[cfg(test)]
-mod row_texts;
 #[cfg(test)]
 mod statements;
 #[cfg(test)]

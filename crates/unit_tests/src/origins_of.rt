@@ -5,11 +5,11 @@ ghost use Rattle.pl_syntax.specs.Tree.{count};
 
 use crate::plans::AVERAGING;
 use crate::program_texts::program_of;
-use crate::row_texts::number;
 use armus_base::{PhaserId, TaskId};
 use origins::{Origins, ops_have_origins, phasers_and_tasks_have_origins, visits_are_of_text};
 use pl_plan::{Unfolded, unfold};
 use pl_syntax::Program;
+use row_texts::{columns, cut, number};
 use std::alloc::Global;
 use std::process::Abort;
 use std::test::Fail;
@@ -89,8 +89,7 @@ fn answer(origins: &Origins, program: &Program, asked: &str) -> Option<u32>
     requires few { count program.now.body + 1 < 2 ^ 32 }
     requires origins { AreOrigins program.now origins.now }
 {
-    let (kind, rest) = asked.split_once(" ").unwrap_or((asked, ""));
-    let (of, i) = rest.split_once(" ").unwrap_or((rest, ""));
+    let (kind, of, i) = columns(asked, " ");
     let t = TaskId(number(of));
     match kind {
         "op" => origins.op(program, t, number(i)),
@@ -105,7 +104,7 @@ fn is_met(origins: &Origins, program: &Program, row: &str) -> bool
     requires few { count program.now.body + 1 < 2 ^ 32 }
     requires origins { AreOrigins program.now origins.now }
 {
-    let (asked, wanted) = row.split_once("$").unwrap_or((row, ""));
+    let (asked, wanted) = cut(row, "$");
     let wanted = if wanted == "none" {
         None
     } else {

@@ -9,16 +9,10 @@ use std::test::Fail;
 
 const TEXT: &str = "adv(p);";
 
-fn call(alloc: Global, number: u64) -> Result<List<u64>, NoMemory> {
-    let mut all = List::new(alloc);
-    all.push(number)?;
-    Ok(all)
-}
-
 // What is read of the text from a source that gives one byte in a call and fails at one: as many bytes, 100 where it failed, 200 where it is too long.
 fn read(alloc: Global, limit: usize, fails: u64) -> Result<usize, NoMemory> {
     let bytes = List::from_vec(TEXT.as_bytes().to_vec(alloc)?);
-    let mut src = MemSource::new(bytes, 1, call(alloc, fails)?);
+    let mut src = MemSource::new(bytes, 1, List::from_vec(vec![in alloc; fails]?));
     match read_all(alloc, &mut src, limit) {
         Ok(read) if read.as_slice() == TEXT.as_bytes() => Ok(read.as_slice().len()),
         Ok(_) => Ok(300),
@@ -49,7 +43,8 @@ fn written(
     fails: u64,
     text: &str,
 ) -> Result<Vec<u8>, NoMemory> {
-    let mut out = MemSink::new(alloc, room, cut.max(1), call(alloc, fails)?)?;
+    let fails = List::from_vec(vec![in alloc; fails]?);
+    let mut out = MemSink::new(alloc, room, cut.max(1), fails)?;
     let done = write_text(&mut out, text.as_bytes());
     let mut taken = out.taken().to_vec(alloc)?;
     if done.is_err() {

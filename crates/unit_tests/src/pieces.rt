@@ -1,9 +1,9 @@
 // Pieces: a line for each text, with how many ops its plan has, a task and its pieces. `repeat:3x2` runs the two pieces behind it three times, `await:0+1`
 // looks one phase ahead, and `reg:1,0` makes task 1 a member of phaser 0.
 use crate::program_texts::program_of;
-use crate::row_texts::number;
 use armus_base::{Offset, Op, PhaserId, Piece, Plan, TaskId};
 use pl_plan::{PlanEnd, plan};
+use row_texts::{columns, cut, number};
 use std::alloc::Global;
 use std::test::Fail;
 
@@ -32,19 +32,15 @@ p = newPhaser(); loop 65535 { #16#adv(p); #1#} #15#adv(p); $1048576$0$make:0 rep
 ";
 
 fn pair(text: &str, sign: &str) -> (u32, u32) {
-    let (first, second) = text.split_once(sign).unwrap_or((text, ""));
+    let (first, second) = cut(text, sign);
     (number(first), number(second))
-}
-
-fn far(text: &str) -> u16 {
-    u16::try_from(number(text)).unwrap_or(0)
 }
 
 fn awaits(text: &str) -> Op {
     let (p, off) = if let Some((p, k)) = text.split_once("+") {
-        (p, Offset::Ahead(far(k)))
+        (p, Offset::Ahead(number(k)))
     } else if let Some((p, k)) = text.split_once("-") {
-        (p, Offset::Back(far(k)))
+        (p, Offset::Back(number(k)))
     } else {
         (text, Offset::Here)
     };
@@ -77,7 +73,7 @@ fn op(kind: &str, text: &str) -> Op {
 }
 
 fn piece(word: &str) -> Piece {
-    let (kind, text) = word.split_once(":").unwrap_or((word, ""));
+    let (kind, text) = cut(word, ":");
     if kind == "repeat" {
         let (k, len) = pair(text, "x");
         return Piece::Repeat { k, len };
@@ -96,14 +92,13 @@ fn are_pieces(pieces: &[Piece], words: &str) -> bool {
     rest.is_empty()
 }
 
-fn has_pieces(plan: &Plan, t: u32, words: &str) -> bool {
+pub(crate) fn has_pieces(plan: &Plan, t: u32, words: &str) -> bool {
     t < plan.tasks() && are_pieces(plan.pieces(TaskId(t)), words)
 }
 
 fn is_met(alloc: Global, row: &str) -> Result<bool, PlanEnd> {
-    let (text, rest) = row.split_once("$").unwrap_or((row, ""));
-    let (ops, rest) = rest.split_once("$").unwrap_or((rest, ""));
-    let (t, words) = rest.split_once("$").unwrap_or((rest, ""));
+    let (text, ops, rest) = columns(row, "$");
+    let (t, words) = cut(rest, "$");
     let plan = plan(alloc, &program_of(alloc, text)?)?;
     Ok(plan.ops() == number(ops) && has_pieces(&plan, number(t), words))
 }

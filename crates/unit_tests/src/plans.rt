@@ -1,11 +1,11 @@
 // Plans: a line for each text, with how much its plan has, or its first check fault.
 use crate::program_texts::program_of;
-use crate::row_texts::number;
 use armus_base::{NoMemory, Plan, TaskId};
 use pl_plan::{
     CheckFault, PlanEnd, fault_is_of_program, left_pieces, pieces_of_codes, plan, unfold,
     unfolded_is_checked, unfolding_by_visits, worked_pieces, worked_programs,
 };
+use row_texts::{cut, number};
 use std::alloc::Global;
 use std::test::Fail;
 
@@ -88,7 +88,7 @@ pub(crate) fn answer(alloc: Global, text: &str) -> Result<String, PlanEnd> {
 }
 
 fn is_met(alloc: Global, row: &str) -> Result<bool, PlanEnd> {
-    let (text, wanted) = row.split_once("$").unwrap_or((row, ""));
+    let (text, wanted) = cut(row, "$");
     Ok(answer(alloc, text)?.as_str() == wanted)
 }
 

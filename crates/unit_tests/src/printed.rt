@@ -3,10 +3,10 @@ ghost use Rattle.std.specs.Prelude.{◌≡◌, ◌≤◌, false};
 ghost use Rattle.pl_syntax.specs.calls.Tree.{AllHere};
 ghost use Rattle.pl_syntax.specs.Tree.{height};
 
-use crate::row_texts::bytes_of;
 use pl_syntax::{
     MAX_OPEN_BRACES, MAX_PARSED_BYTES, ParseEnd, Program, parse, print, print_and_parse,
 };
+use row_texts::{bytes_of, cut};
 use std::alloc::Global;
 use std::test::Fail;
 
@@ -48,7 +48,7 @@ fn is_met(alloc: Global, text: &[u8], wanted: &[u8]) -> Result<bool, ParseEnd> {
 #[test]
 fn printed_forms(rt: HostRuntime) -> Result<(), Fail> {
     for row in ROWS.lines() {
-        let (text, wanted) = row.split_once("$").unwrap_or((row, ""));
+        let (text, wanted) = cut(row, "$");
         let text = bytes_of(rt.alloc(), text)?;
         let wanted = bytes_of(rt.alloc(), wanted)?;
         assert!(rt; is_met(rt.alloc(), &text, &wanted)?, "{row}");

@@ -2,9 +2,9 @@
 ghost use Rattle.std.specs.Prelude.{◌≤◌, IfOk};
 ghost use Rattle.pl_syntax.specs.Tree.{count, height};
 
-use crate::row_texts::bytes_of;
 use pl_plan::PlanEnd;
 use pl_syntax::{MAX_OPEN_BRACES, MAX_PARSED_BYTES, Program, parse};
+use row_texts::bytes_of;
 use std::alloc::Global;
 
 // The program of a text; none, as if memory had run out, where it is no program.

@@ -1,6 +1,5 @@
 // Whole reports of small final states, and the other lines. A row has a kind, how each task has ended, the statuses of those that wait, and what is written.
-use crate::endings::{event, final_state, task_and_event};
-use crate::row_texts::{are_bytes_of, number};
+use crate::endings::final_state;
 use adaptive::Wanted;
 use armus_base::{Dead, Final, NoMemory};
 use dep_state::is_in_order;
@@ -10,6 +9,7 @@ use report::{
     Outline, Refusal, ScheduleFault, Standing, any_dead, live_lines, outline_of, refusal_line,
     report,
 };
+use row_texts::{are_bytes_of, columns, cut, event, number, task_and_event};
 use std::alloc::{AllocError, Global};
 use std::test::Fail;
 
@@ -75,8 +75,7 @@ fn is_outline(outline: &Outline, standings: &str, counts: &str, cycle: &str) -> 
 }
 
 fn is_outlined(alloc: Global, end: &Final, text: &str) -> Result<bool, NoMemory> {
-    let (standings, rest) = text.split_once("; ").unwrap_or((text, ""));
-    let (counts, cycle) = rest.split_once("; ").unwrap_or((rest, ""));
+    let (standings, counts, cycle) = columns(text, "; ");
     if !is_in_order(end.blocked.as_slice()) {
         return Ok(false);
     }
@@ -121,9 +120,8 @@ fn are_live_lines(alloc: Global, tasks: &str, text: &str) -> Result<bool, NoMemo
 
 // A refusal, by a word, a kind and where its fault stands.
 fn refusal(word: &str, numbers: &str) -> Refusal {
-    let (kind, at) = numbers.split_once(" ").unwrap_or((numbers, ""));
-    let kind = (number(kind) & 255) as u8;
-    let at = number(at);
+    let (kind, at) = cut(numbers, " ");
+    let (kind, at) = (number(kind), number(at));
     match word {
         "syntax" => Refusal::Syntax(SyntaxFault { at, kind }),
         "check" => Refusal::Check(CheckFault {
@@ -140,9 +138,8 @@ fn is_refusal_line(alloc: Global, why: &Refusal, text: &str) -> Result<bool, NoM
 }
 
 fn is_met(alloc: Global, row: &str) -> Result<bool, NoMemory> {
-    let (kind, rest) = row.split_once(" | ").unwrap_or((row, ""));
-    let (first, rest) = rest.split_once("| ").unwrap_or((rest, ""));
-    let (second, text) = rest.split_once("| ").unwrap_or((rest, ""));
+    let (kind, rest) = cut(row, " | ");
+    let (first, second, text) = columns(rest, "| ");
     let (first, second) = (first.trim(), second.trim());
     match kind {
         "live" => are_live_lines(alloc, first, text),

@@ -1,6 +1,6 @@
 // Statements: how many a worked kernel has, in all and at its own level; where those of a text begin; and the name in one.
-use crate::row_texts::{bytes_of, number, numbers};
 use pl_syntax::{MAX_PARSED_BYTES, ParseEnd, Program, Stmt, parse, statement_offsets};
+use row_texts::{bytes_of, cut, number, numbers};
 use std::alloc::Global;
 use std::test::Fail;
 
@@ -37,17 +37,14 @@ fn has_statements(alloc: Global, text: &[u8], wanted: &str) -> Result<bool, Pars
         return Ok(false);
     }
     let program = parse(alloc, text)?;
-    let (all, own) = wanted.split_once(" ").unwrap_or((wanted, ""));
-    Ok(
-        program.body.statements() == number(all)
-            && program.body.as_slice().len() == number(own) as usize,
-    )
+    let (all, own) = cut(wanted, " ");
+    Ok(program.body.statements() == number(all) && program.body.as_slice().len() == number(own))
 }
 
 #[test]
 fn kernels(rt: HostRuntime) -> Result<(), Fail> {
     for row in KERNELS.lines() {
-        let (text, wanted) = row.split_once("$").unwrap_or((row, ""));
+        let (text, wanted) = cut(row, "$");
         let text = bytes_of(rt.alloc(), text)?;
         assert!(rt; has_statements(rt.alloc(), &text, wanted)?, "{row}");
     }
@@ -66,7 +63,7 @@ fn begin_so(alloc: Global, text: &[u8], wanted: &str) -> Result<bool, ParseEnd> 
 #[test]
 fn offsets_of_statements(rt: HostRuntime) -> Result<(), Fail> {
     for row in OFFSETS.lines() {
-        let (text, wanted) = row.split_once("$").unwrap_or((row, ""));
+        let (text, wanted) = cut(row, "$");
         let text = bytes_of(rt.alloc(), text)?;
         assert!(rt; begin_so(rt.alloc(), &text, wanted)?, "{row}");
     }

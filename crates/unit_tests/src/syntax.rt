@@ -1,7 +1,7 @@
 // First faults: a line for each text, with the kind of its fault and the place, or that it has none.
-use crate::row_texts::{bytes_of, number};
 use armus_base::NoMemory;
 use pl_syntax::{MAX_PARSED_BYTES, ParseEnd, parse};
+use row_texts::{bytes_of, cut, number};
 use std::alloc::Global;
 use std::test::Fail;
 
@@ -111,8 +111,8 @@ fn is_met(alloc: Global, text: &[u8], wanted: &str) -> Result<bool, NoMemory> {
     match parse(alloc, text) {
         Ok(_) => Ok(wanted == "none"),
         Err(ParseEnd::Syntax(fault)) => {
-            let (kind, at) = wanted.split_once(" at ").unwrap_or((wanted, ""));
-            Ok(u32::from(fault.kind) == number(kind) && fault.at == number(at))
+            let (kind, at) = cut(wanted, " at ");
+            Ok(fault.kind == number(kind) && fault.at == number(at))
         }
         Err(ParseEnd::NoMemory) => Err(NoMemory),
     }
@@ -121,7 +121,7 @@ fn is_met(alloc: Global, text: &[u8], wanted: &str) -> Result<bool, NoMemory> {
 #[test]
 fn first_faults(rt: HostRuntime) -> Result<(), Fail> {
     for row in ROWS.lines() {
-        let (text, wanted) = row.split_once("$").unwrap_or((row, ""));
+        let (text, wanted) = cut(row, "$");
         let text = bytes_of(rt.alloc(), text)?;
         assert!(rt; is_met(rt.alloc(), &text, wanted)?, "{row}");
     }

@@ -1,5 +1,6 @@
 // Words that are commands, and words that are none: a line for each, the words and what they mean. '' is an empty word.
 use armus_words::command_in;
+use row_texts::words_of;
 use std::test::Fail;
 
 const ROWS: &str = "\
@@ -113,12 +114,8 @@ fn words_and_their_commands(rt: HostRuntime) -> Result<(), Fail> {
     let alloc = rt.alloc();
     for row in ROWS.lines() {
         let (words, wanted) = row.split_once("=> ").unwrap_or(("", ""));
-        let mut all = Vec::new(alloc);
-        for word in words.split_whitespace() {
-            let word = if word == "''" { "" } else { word };
-            all.push(String::from_str(alloc, word)?)?;
-        }
-        let found = command_in(alloc, all.as_slice())?;
+        let words = words_of(alloc, words)?;
+        let found = command_in(alloc, words.as_slice())?;
         let found = format!(in alloc; "{found:?}")?;
         assert!(rt; found.as_str() == wanted, "{row}");
     }

@@ -1,7 +1,7 @@
 use Rattle.std.proofs.Common.{◌∙◌, ap, arith, below_more, length, sym}
 use Rattle.std.proofs.lemmas.Bool.{false≢true}
 use Rattle.pl_core.specs.calls.Stands.{IsEnabled}
-use Rattle.board_tests.proofs.world_play.final_state.Goals as goal
+use Rattle.board_tests.proofs.finals.final_state.Goals as goal
 
 pub loop-t-preserved : goal.loop-t-preserved
 loop-t-preserved c =
