@@ -30,11 +30,9 @@ end_of_text c input IsWhy NoMemory refused is = tt
 -- so it is of a clock text
 pub end_of_clocks : (workers : ℕ) (g : Graph) (live : Bool) (input : Text) (end : InputEnd) → IsClockInputEnd input end → IsEndOf (command.Clock workers g live) input end
 end_of_clocks workers g live input (Refused (refusal.Syntax fault)) is = inl (fault, is, refl)
-end_of_clocks workers g live input (Refused (refusal.Check fault)) is = absurd is
-end_of_clocks workers g live input (Refused refusal.Length) is = absurd is
-end_of_clocks workers g live input (Refused (refusal.Schedule fault)) is = absurd is
 end_of_clocks workers g live input (Clock fault) (program, reads, failed) = inr (program, as_fault fault, reads, failed, refl)
 end_of_clocks workers g live input NoMemory is = tt
+end_of_clocks workers g live input end is = absurd is
 
 -- ---- what is written of an answer
 

@@ -1,12 +1,11 @@
 -- The report of the end of an avoided run, and the status that tells whether a task is refused.
-use Rattle.std.proofs.Common.{◌≡◌, ◌∙◌, ◌<◌, ◌||◌, ◌++◌, [], ◌∷◌, ℕ, zero, suc, List, length, inl, inr, refl, sym, subst, ap, arith, Bool, true, false, if◌then◌else◌}
-use Rattle.std.proofs.lemmas.Bool.{cases_eq, cases_lt, or_cases, or_parts}
+use Rattle.std.proofs.Common.{◌≡◌, ◌∙◌, ◌++◌, [], ◌∷◌, ℕ, List, length, inl, inr, refl, sym, subst, ap, Bool, true, false, if◌then◌else◌}
+use Rattle.std.proofs.lemmas.Bool.{cases_eq}
 use Rattle.std.specs.List.{list_any}
 use Rattle.armus_base.specs.declared.ending.Final.{Final}
-use Rattle.armus_base.specs.declared.ending.TaskEnd.{TaskEnd}
 use Rattle.armus_base.specs.Avoidance.{IsAvoidedFinal, IsAvoidedRun}
 use Rattle.armus_base.specs.CheckedPlans.{IsCheckedPlan}
-use Rattle.armus_base.specs.Finals.{end_of, final_of, is_awaited, list_below}
+use Rattle.armus_base.specs.Finals.{end_of, final_of, is_awaited}
 use Rattle.armus_base.specs.Plans.{Plan}
 use Rattle.armus_base.specs.Serial.{IsSerialAvoidedFinal}
 use Rattle.armus_base.specs.States.{State, Step}
@@ -21,43 +20,15 @@ use Rattle.armus_words.specs.Words.{Text}
 use Rattle.armus_top.specs.Programs.{IsPlanOf}
 use Rattle.armus_top.specs.Avoids.{IsAvoidOf, IsNeverDead, TellsRefused, ended_refused}
 use Rattle.armus_top.proofs.OnePlan.{checked_plan}
+use Rattle.armus_top.proofs.SomeBelow.{none_below, some_below}
 
 pub avoided_end_in_order : (plan : Plan) (end : Final) → IsCheckedPlan plan → IsAvoidedEnd plan end → IsInOrder end.blocked
 avoided_end_in_order plan end checked is =
     subst (λ (e : Final). IsInOrder e.blocked) (sym is.is_it) (statuses_are plan is.state (is_awaited plan is.state) checked).in_order
 
-any_more : (xs : List TaskEnd) (x : TaskEnd) → list_any ended_refused (xs ++ x ∷ []) ≡ (list_any ended_refused xs || ended_refused x)
-any_more [] x = or_nothing (ended_refused x)
-  where
-    or_nothing : (b : Bool) → (b || false) ≡ b
-    or_nothing true = refl
-    or_nothing false = refl
-any_more (y ∷ ys) x = ap (λ (b : Bool). ended_refused y || b) (any_more ys x) ∙ regroup (ended_refused y) (list_any ended_refused ys) (ended_refused x)
-  where
-    regroup : (a b c : Bool) → (a || (b || c)) ≡ ((a || b) || c)
-    regroup true b c = refl
-    regroup false b c = refl
-
-some_refused : (f : ℕ → TaskEnd) (n : ℕ) → list_any ended_refused (list_below f n) ≡ true → (t : ℕ) × (t < n) × (ended_refused (f t) ≡ true)
-some_refused f zero e = absurd (cc)
-some_refused f (suc n) e =
-    elim (or_cases (list_any ended_refused (list_below f n)) (ended_refused (f n)) (sym (any_more (list_below f n) (f n)) ∙ e)) [
-      | inl before ↦ let found = some_refused f n before in (found.0, omega arith, found.2)
-      | inr here ↦ (n, omega arith, here)
-    ]
-
-none_refused : (f : ℕ → TaskEnd) (n : ℕ) → list_any ended_refused (list_below f n) ≡ false → (t : ℕ) → t < n → ended_refused (f t) ≡ false
-none_refused f zero e t l = absurd (omega arith)
-none_refused f (suc n) e t l =
-    let none = or_parts (list_any ended_refused (list_below f n)) (ended_refused (f n)) (sym (any_more (list_below f n) (f n)) ∙ e) in
-    elim (cases_lt t n) [
-      | inl before ↦ none_refused f n none.0 t before
-      | inr here ↦ let same : n ≡ t = omega arith in subst (λ k. ended_refused (f k) ≡ false) same none.1
-    ]
-
 tells : (plan : Plan) (state : State) (some : Bool) → list_any ended_refused (final_of plan state).ends ≡ some → TellsRefused plan state (if some then 1 else 0)
-tells plan state true e = inl (refl, some_refused (end_of state) (length plan.parents) e)
-tells plan state false e = inr (refl, none_refused (end_of state) (length plan.parents) e)
+tells plan state true e = inl (refl, some_below ended_refused (end_of state) (length plan.parents) e)
+tells plan state false e = inr (refl, none_below ended_refused (end_of state) (length plan.parents) e)
 
 -- the first steps of an avoided run are an avoided run
 first_steps : (plan : Plan) (more before : List Step) → IsAvoidedRun plan (more ++ before) → IsAvoidedRun plan before

@@ -3,7 +3,7 @@ use Rattle.std.proofs.Common.{◌≤◌, ℕ, List, inl, inr, refl}
 use Rattle.std.specs.Prelude.{Option, Some, None}
 use Rattle.armus_words.specs.Commands.{IsGenerated}
 use Rattle.armus_words.specs.declared.command.Command.{Command}
-use Rattle.armus_words.specs.declared.command.Command.TheVariants.{Check, Run, Avoid, Record, Replay, Gen, Clock, Pool}
+use Rattle.armus_words.specs.declared.command.Command.TheVariants.{Gen}
 use Rattle.armus_words.specs.declared.table.TheConstants.{MAX_GENERATED}
 use Rattle.armus_words.proofs.EachMeaning.{each_meaning}
 use Rattle.armus_words.specs.Words.{Text}
@@ -24,14 +24,8 @@ few (Some text) count is = is.to_most
 few None count is = absurd is
 
 may_of : (words : List Text) (c : Command) → Means words (Some c) → MayGenerate c
-may_of words (Check print) means = tt
-may_of words (Run workers g kind) means = tt
-may_of words (Avoid workers g kept) means = tt
-may_of words (Record workers) means = tt
-may_of words Replay means = tt
 may_of words (Gen count) means = few _ count means.values
-may_of words (Clock workers g live) means = tt
-may_of words (Pool workers g) means = tt
+may_of words c means = tt
 
 met : (words : List Text) (c : Option Command) → Means words c → (src : Passage) → HasGiven c src → (status : ℕ) × (text : Text) × Permits c src status text
 met words None means src given = (2, usage_line, (refl, refl))

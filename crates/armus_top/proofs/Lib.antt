@@ -23,3 +23,4 @@ pub mod GeneratedMet
 pub mod InputsMet
 pub mod CallsMet
 pub mod LiveRuns
+pub mod SomeBelow

@@ -3,9 +3,9 @@ use Rattle.std.proofs.Common.{◌≡◌, ◌∙◌, ◌⊎◌, List, inl, inr, a
 use Rattle.std.specs.Prelude.{ℕ, ◌∷◌, Option, Some, None}
 use Rattle.armus_words.specs.Commands.{AreWorkers, IsCommand, IsRunKind, first_of}
 use Rattle.armus_words.specs.inside.Form.{first_named}
-use Rattle.armus_words.proofs.Meaning.{first_is, one_meaning}
+use Rattle.armus_words.proofs.Meaning.{first_is, head_is, one_meaning}
 use Rattle.armus_words.specs.declared.command.Command.{Command}
-use Rattle.armus_words.specs.declared.command.Command.TheVariants.{Check, Run, Avoid, Record, Replay, Gen, Clock, Pool}
+use Rattle.armus_words.specs.declared.command.Command.TheVariants.{Run, Avoid, Record, Clock, Pool}
 use Rattle.armus_words.specs.declared.command.RunKind.{RunKind}
 use Rattle.armus_words.specs.declared.table.FirstWord.TheVariants as first
 use Rattle.armus_words.specs.Words.{HaveForm, Text}
@@ -48,18 +48,13 @@ form_of words c is = (first_of c, is.uses, is.alone, is.form)
 
 -- words that begin with neither `record` nor `pool` mean a command that waits for no thread
 pub means_plain : (words : List Text) (c : Command) → IsCommand words c → (BeginsRecordOrPool words → ⊥) → WaitsForNoThread c
-means_plain words (Check print) is other = tt
 means_plain words (Run workers graph kind) is other =
     let (few, wants, kind_is) = is.values in (workers_may _ workers few, kinds_may _ _ kind kind_is)
 means_plain words (Avoid workers graph kept) is other = workers_may _ workers is.values.0
 means_plain words (Record workers) is other = absurd (other (_, _, is.form.words_are, inl refl))
-means_plain words Replay is other = tt
-means_plain words (Gen count) is other = tt
 means_plain words (Clock workers graph live) is other = workers_may _ workers is.values.0
 means_plain words (Pool workers graph) is other = absurd (other (_, _, is.form.words_are, inr refl))
-
-head_is : {x y : Text} {xs ys : List Text} → x ∷ xs ≡ y ∷ ys → x ≡ y
-head_is e = cc
+means_plain words c is other = tt
 
 -- a command whose words begin with this one has it as its first word
 named_by : (c : Command) (words : List Text) (word : Text) (rest : List Text) → IsCommand words c → words ≡ word ∷ rest → Some (first_of c) ≡ first_named word
@@ -77,11 +72,6 @@ pub means_waiting : (words : List Text) (c : Command) → IsCommand words c → 
 means_waiting words c is begins = by_first c is (record_or_pool c words is begins)
   where
     by_first : (c : Command) → IsCommand words c → (first_of c ≡ first.Record) ⊎ (first_of c ≡ first.Pool) → WaitsForThreads c
-    by_first (Check print) is one = elim one [ inl e ↦ absurd (cc) | inr e ↦ absurd (cc) ]
-    by_first (Run workers graph kind) is one = elim one [ inl e ↦ absurd (cc) | inr e ↦ absurd (cc) ]
-    by_first (Avoid workers graph kept) is one = elim one [ inl e ↦ absurd (cc) | inr e ↦ absurd (cc) ]
     by_first (Record workers) is one = workers_may _ workers is.values
-    by_first Replay is one = elim one [ inl e ↦ absurd (cc) | inr e ↦ absurd (cc) ]
-    by_first (Gen count) is one = elim one [ inl e ↦ absurd (cc) | inr e ↦ absurd (cc) ]
-    by_first (Clock workers graph live) is one = elim one [ inl e ↦ absurd (cc) | inr e ↦ absurd (cc) ]
     by_first (Pool workers graph) is one = workers_may _ workers is.values.0
+    by_first c is one = elim one [ inl e ↦ absurd (cc) | inr e ↦ absurd (cc) ]

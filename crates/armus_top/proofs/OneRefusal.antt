@@ -7,7 +7,7 @@ use Rattle.pl_plan.specs.Unfolding.{plan_of}
 use Rattle.pl_syntax.specs.declared.tree.Program.{Program}
 use Rattle.pl_syntax.proofs.Unique.{one_fault, one_tree, text_or_fault}
 use Rattle.report.specs.declared.refusal.Refusal.{Refusal}
-use Rattle.report.specs.declared.refusal.Refusal.TheVariants.{Check, Length, Schedule, Syntax}
+use Rattle.report.specs.declared.refusal.Refusal.TheVariants.{Check, Syntax}
 use Rattle.armus_words.specs.Words.{Text}
 use Rattle.armus_top.specs.Avoids.{TellsRefused}
 use Rattle.armus_top.specs.Programs.{IsFaultOf, TellsDead}
@@ -32,9 +32,6 @@ one_refusal text (Check f) (Check g) (p, reads, fails) (q, others, faults) =
     let failing : plan_of q ≡ Err f = subst (λ (x : Program). plan_of x ≡ Err f) (one_tree text p q reads others) fails in
     let same : f ≡ g = cc in
     ap Check same
-one_refusal text (Syntax f) Length a b = absurd b
-one_refusal text (Syntax f) (Schedule g) a b = absurd b
-one_refusal text (Check f) Length a b = absurd b
-one_refusal text (Check f) (Schedule g) a b = absurd b
-one_refusal text Length other a b = absurd a
-one_refusal text (Schedule f) other a b = absurd a
+one_refusal text (Syntax f) other a b = absurd b
+one_refusal text (Check f) other a b = absurd b
+one_refusal text why other a b = absurd a

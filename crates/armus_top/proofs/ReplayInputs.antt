@@ -16,7 +16,7 @@ use Rattle.armus_top.specs.inside.Answers.{IsEnd}
 use Rattle.armus_top.specs.Programs.{IsFaultOf, TellsDead}
 use Rattle.armus_top.specs.Replays.{IsReplayedBy, IsReplayFault, IsReplayOf, IsReplayRefused, IsShort}
 use Rattle.armus_top.specs.declared.output.InputEnd.{InputEnd}
-use Rattle.armus_top.specs.declared.output.InputEnd.TheVariants.{Clock, Refused, NoMemory}
+use Rattle.armus_top.specs.declared.output.InputEnd.TheVariants.{Refused, NoMemory}
 use Rattle.armus_top.proofs.OnePlan.{checked_plan, one_plan, plan_or_fault}
 
 -- ---- no input is both refused and replayed
@@ -40,12 +40,10 @@ refused_or_replayed input why status report (text, schedule, split, fault) r =
 
 -- the end of a short text is that of its replay
 pub end_of_text : (text schedule : Text) (end : InputEnd) → IsShort text → IsEnd (IsFaultOf text) end → IsEnd (IsReplayFault text schedule) end
-end_of_text text schedule (Refused Length) short is = absurd is
 end_of_text text schedule (Refused (Syntax f)) short is = (short, is)
 end_of_text text schedule (Refused (Check f)) short is = (short, is)
-end_of_text text schedule (Refused (Schedule f)) short is = absurd is
-end_of_text text schedule (Clock f) short is = absurd is
 end_of_text text schedule NoMemory short is = tt
+end_of_text text schedule end short is = absurd is
 
 -- whether the list of a state's dead tasks has one tells whether a task is dead
 pub list_tells : (state : State) (dead : List TaskId) (some : Bool) → AreDeadIn state dead → IsTrue some ↔ (0 < length dead) → TellsDead state (if some then 1 else 0)

@@ -1,5 +1,5 @@
 -- From what a part of a call answers to what the command answers and the call leaves.
-use Rattle.std.proofs.Common.{◌≡◌, ◌≢◌, ◌∙◌, ◌≤◌, ◌+◌, ℕ, Bool, true, false, List, [], ap, arith, inl, inr, length, refl, subst, sym}
+use Rattle.std.proofs.Common.{◌≡◌, ◌≢◌, ◌≤◌, ◌+◌, ℕ, Bool, true, false, List, [], arith, inl, inr, length, refl, subst, sym}
 use Rattle.std.specs.Prelude.{Err, IfErr, IfOk, None, Ok, Option, Result, Some, is_some}
 use Rattle.armus_base.specs.Plans.{Plan}
 use Rattle.adaptive.specs.declared.analysis.Wanted.{Wanted}
@@ -42,9 +42,7 @@ answers_by c input (Err end) is refused = refused
 -- the output of a run without live lines
 pub answered_run : (c : Command) (workers : ℕ) (g : Graph) (kind : RunKind) (input : Text) (plan : Plan) (wanted : Wanted) (status : ℕ) (text : Text)
     → c ≡ Run workers g kind → writes_live c ≡ false → IsPlanOf input plan → wanted ≡ wanted_of g → IsRunOf plan wanted status text → IsAnswered c input status text
-answered_run c workers g kind input plan wanted status text is quiet plan_is wanted_is run =
-    subst (λ d. IsAnswered d input status text) (sym is)
-    (by_kind kind (sym (ap writes_live is) ∙ quiet) (subst (λ x. IsRunOf plan x status text) wanted_is run))
+answered_run c workers g kind input plan wanted status text is quiet plan_is wanted_is run = rw is (by_kind kind (rw is at quiet) (rw wanted_is at run))
   where
     by_kind : (k : RunKind) → writes_live (Run workers g k) ≡ false → IsRunOf plan (wanted_of g) status text → IsAnswered (Run workers g k) input status text
     by_kind Plain off r = (plan, plan_is, r)
@@ -54,9 +52,7 @@ answered_run c workers g kind input plan wanted status text is quiet plan_is wan
 pub answered_clock : (c : Command) (workers : ℕ) (g : Graph) (live : Bool) (input : Text) (plan : Plan) (wanted : Wanted) (status : ℕ) (text : Text)
     → c ≡ Clock workers g live → writes_live c ≡ false → IsClockPlanOf input plan → wanted ≡ wanted_of g → IsRunOf plan wanted status text
     → IsAnswered c input status text
-answered_clock c workers g live input plan wanted status text is quiet plan_is wanted_is run =
-    subst (λ d. IsAnswered d input status text) (sym is)
-    (by_kind live (sym (ap writes_live is) ∙ quiet) (subst (λ x. IsRunOf plan x status text) wanted_is run))
+answered_clock c workers g live input plan wanted status text is quiet plan_is wanted_is run = rw is (by_kind live (rw is at quiet) (rw wanted_is at run))
   where
     by_kind : (b : Bool) → b ≡ false → IsRunOf plan (wanted_of g) status text → IsAnswered (Clock workers g b) input status text
     by_kind false off r = clock_run_of input plan Plain (wanted_of g) status text plan_is r
@@ -67,23 +63,18 @@ answered_clock c workers g live input plan wanted status text is quiet plan_is w
 pub live_run : (c : Command) (workers : ℕ) (g : Graph) (kind : RunKind) (input : Text) (plan : Plan) (wanted : Wanted) (out : Passage) (number : ℕ)
     → c ≡ Run workers g kind → writes_live c ≡ true → IsPlanOf input plan → wanted ≡ wanted_of g → LeavesOutput true (IsLiveRunOf plan wanted) out number
     → Answered c input out number
-live_run c workers g kind input plan wanted out number is live plan_is wanted_is left =
-    subst (λ d. Answered d input out number) (sym is)
-    (by_kind kind (sym (ap writes_live is) ∙ live) (subst (λ x. LeavesOutput true (IsLiveRunOf plan x) out number) wanted_is left))
+live_run c workers g kind input plan wanted out number is live plan_is wanted_is left = rw is (by_kind kind (rw is at live) (rw wanted_is at left))
   where
     by_kind : (k : RunKind) → writes_live (Run workers g k) ≡ true → LeavesOutput true (IsLiveRunOf plan (wanted_of g)) out number
         → Answered (Run workers g k) input out number
-    by_kind Plain on l = absurd (cc)
     by_kind Live on l =
         leaves_one_of_more true (IsLiveRunOf plan (wanted_of g)) (Answers (Run workers g Live) input) out number (λ status text r. inl (plan, plan_is, r)) l
-    by_kind (Sites sites) on l = absurd (cc)
+    by_kind k on l = absurd (cc)
 
 pub live_clock : (c : Command) (workers : ℕ) (g : Graph) (live : Bool) (input : Text) (plan : Plan) (wanted : Wanted) (out : Passage) (number : ℕ)
     → c ≡ Clock workers g live → writes_live c ≡ true → IsClockPlanOf input plan → wanted ≡ wanted_of g → LeavesOutput true (IsLiveRunOf plan wanted) out number
     → Answered c input out number
-live_clock c workers g live input plan wanted out number is lines plan_is wanted_is left =
-    subst (λ d. Answered d input out number) (sym is)
-    (by_kind live (sym (ap writes_live is) ∙ lines) (subst (λ x. LeavesOutput true (IsLiveRunOf plan x) out number) wanted_is left))
+live_clock c workers g live input plan wanted out number is lines plan_is wanted_is left = rw is (by_kind live (rw is at lines) (rw wanted_is at left))
   where
     by_kind : (b : Bool) → b ≡ true → LeavesOutput true (IsLiveRunOf plan (wanted_of g)) out number → Answered (Clock workers g b) input out number
     by_kind false on l = absurd (cc)

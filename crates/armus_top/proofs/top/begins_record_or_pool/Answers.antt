@@ -1,14 +1,12 @@
-use Rattle.std.proofs.Common.{◌≡◌, ◌∙◌, ◌⊎◌, ◌||◌, Bool, true, List, ◌∷◌, inl, inr, ap, sym, drop, map, string_bytes}
+use Rattle.std.proofs.Common.{◌≡◌, ◌∙◌, ◌⊎◌, ◌||◌, Bool, true, ◌∷◌, inl, inr, ap, sym, drop, map, string_bytes}
 use Rattle.std.specs.Str.{bytes_eq}
 use Rattle.std.proofs.lemmas.Slice.Eq.{bytes_eq-Decides}
 use Rattle.std.proofs.lemmas.Bool.{or_cases, or_left, or_right}
 use Rattle.armus_base.proofs.Lists.{headed}
 use Rattle.armus_words.specs.declared.table.TheConstants.{POOL, RECORD}
 use Rattle.armus_words.specs.Words.{Text}
+use Rattle.armus_words.proofs.Meaning.{head_is}
 use Rattle.armus_top.proofs.top.begins_record_or_pool.Goals as goal
-
-first_of : {x y : Text} {xs ys : List Text} → x ∷ xs ≡ y ∷ ys → x ≡ y
-first_of e = cc
 
 -- the test of a word
 abbrev test : Text → Bool
@@ -35,6 +33,6 @@ returns-in-len1-up c =
       λ holds. (string_bytes item, rest, whole, passes (string_bytes item) (sym tested ∙ holds)),
       λ begins.
           let (word, more, same, one) = begins in
-          let word_is : string_bytes item ≡ word = first_of (sym whole ∙ same) in
+          let word_is : string_bytes item ≡ word = head_is (sym whole ∙ same) in
           tested ∙ ap test word_is ∙ passed word one,
     )

@@ -11,19 +11,15 @@ returns-in-Ok-clause-done g c =
     live_run c.args.command.now c.in-Run.workers c.in-Run.graph c.in-Run.kind c.args.input.now c.in-Ok.plan c.options_of-options.result.wanted _ _ c.in-Run.is
     c.requires.live c.in-Ok.ensures.plan c.options_of-options.ensures.wanted c.run_live.ensures.done
 
-pub returns-in-Err-clause-done : goal.returns-in-Err-clause-done
-returns-in-Err-clause-done g c =
-    c.write_answer.ensures.done c.args.command.now c.args.input.now
-    (subst (λ d. IsEndOf d c.args.input.now c.in-Err.end) (sym c.in-Run.is)
-    (end_of_text (Run c.in-Run.workers c.in-Run.graph c.in-Run.kind) c.args.input.now (IsFaultOf c.args.input.now) c.in-Err.end (λ why is. (why, is, refl))
-    c.in-Err.ensures.refused))
-
-pub returns-in-Err-clause-silent : goal.returns-in-Err-clause-silent
-returns-in-Err-clause-silent g c =
-    c.write_answer.ensures.silent c.args.command.now c.args.input.now
-    (subst (λ d. IsEndOf d c.args.input.now c.in-Err.end) (sym c.in-Run.is)
-    (end_of_text (Run c.in-Run.workers c.in-Run.graph c.in-Run.kind) c.args.input.now (IsFaultOf c.args.input.now) c.in-Err.end (λ why is. (why, is, refl))
-    c.in-Err.ensures.refused))
+pub returns-in-Err : goal.returns-in-Err
+returns-in-Err g c =
+    let command = c.args.command.now in
+    let input = c.args.input.now in
+    let end = c.in-Err.end in
+    let wrote = c.write_answer.ensures in
+    let is = subst (λ d. IsEndOf d input end) (sym c.in-Run.is)
+    (end_of_text (Run c.in-Run.workers c.in-Run.graph c.in-Run.kind) input (IsFaultOf input) end (λ why is. (why, is, refl)) c.in-Err.ensures.refused) in
+    record { done = wrote.done command input is; silent = wrote.silent command input is }
 
 pub returns-in-Ok-clock_plan_in-clause-done : goal.returns-in-Ok-clock_plan_in-clause-done
 returns-in-Ok-clock_plan_in-clause-done g c =
@@ -31,16 +27,12 @@ returns-in-Ok-clock_plan_in-clause-done g c =
     live_clock c.args.command.now c.in-Clock.workers c.in-Clock.graph c.in-Clock.live c.args.input.now c.in-Ok-clock_plan_in.plan options.result.wanted _ _
     c.in-Clock.is c.requires.live c.in-Ok-clock_plan_in.ensures.plan options.ensures.wanted c.run_live-in-Ok-clock_plan_in.ensures.done
 
-pub returns-in-Err-clock_plan_in-clause-done : goal.returns-in-Err-clock_plan_in-clause-done
-returns-in-Err-clock_plan_in-clause-done g c =
+pub returns-in-Err-clock_plan_in : goal.returns-in-Err-clock_plan_in
+returns-in-Err-clock_plan_in g c =
+    let command = c.args.command.now in
+    let input = c.args.input.now in
     let end = c.in-Err-clock_plan_in.end in
-    c.write_answer-in-Err-clock_plan_in.ensures.done c.args.command.now c.args.input.now
-    (subst (λ d. IsEndOf d c.args.input.now end) (sym c.in-Clock.is)
-    (end_of_clocks c.in-Clock.workers c.in-Clock.graph c.in-Clock.live c.args.input.now end c.in-Err-clock_plan_in.ensures.refused))
-
-pub returns-in-Err-clock_plan_in-clause-silent : goal.returns-in-Err-clock_plan_in-clause-silent
-returns-in-Err-clock_plan_in-clause-silent g c =
-    let end = c.in-Err-clock_plan_in.end in
-    c.write_answer-in-Err-clock_plan_in.ensures.silent c.args.command.now c.args.input.now
-    (subst (λ d. IsEndOf d c.args.input.now end) (sym c.in-Clock.is)
-    (end_of_clocks c.in-Clock.workers c.in-Clock.graph c.in-Clock.live c.args.input.now end c.in-Err-clock_plan_in.ensures.refused))
+    let wrote = c.write_answer-in-Err-clock_plan_in.ensures in
+    let is = subst (λ d. IsEndOf d input end) (sym c.in-Clock.is)
+    (end_of_clocks c.in-Clock.workers c.in-Clock.graph c.in-Clock.live input end c.in-Err-clock_plan_in.ensures.refused) in
+    record { done = wrote.done command input is; silent = wrote.silent command input is }
