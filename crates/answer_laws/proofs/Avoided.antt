@@ -2,7 +2,7 @@
 use Rattle.std.proofs.Common.{◌≡◌, ◌≢◌, ◌∙◌, ◌<◌, ℕ, Bool, ap, inl, inr, sym, subst, refl, true, false, length}
 use Rattle.std.specs.Prelude.{IsSome, None, Option, Some}
 use Rattle.armus_base.specs.declared.ending.TaskEnd.{TaskEnd}
-use Rattle.armus_base.specs.declared.ending.TaskEnd.TheVariants.{Done, Blocked, Refused, Unforked}
+use Rattle.armus_base.specs.declared.ending.TaskEnd.TheVariants.{Refused, Unforked}
 use Rattle.armus_base.specs.declared.event.Event.{Event}
 use Rattle.armus_base.specs.calls.AgreementLaws.{HasEndedRefused, OnlyForkedMembers}
 use Rattle.armus_base.specs.Avoidance.{IsAvoidedFinal}
@@ -39,10 +39,8 @@ use Rattle.answer_laws.proofs.OneAnswer.{tells_run}
 use Rattle.answer_laws.proofs.OneRefused.{one_refused}
 
 refused_is : (x : TaskEnd) → ended_refused x ≡ true → (e : Event) × (x ≡ Refused e)
-refused_is Done is = absurd (cc)
-refused_is (Blocked e) is = absurd (cc)
 refused_is (Refused e) is = (e, refl)
-refused_is Unforked is = absurd (cc)
+refused_is end is = absurd (cc)
 
 -- ---- the final state and the end of an avoided run
 

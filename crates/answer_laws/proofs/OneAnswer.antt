@@ -42,17 +42,9 @@ use Rattle.answer_laws.proofs.OneRun.{one_live_run, one_run, one_serial_state}
 
 -- the same text is alike
 alike : (c : Command) (p q : Text) → p ≡ q → AreAlike c p q
-alike (Run workers g Plain) p q e = e
 alike (Run workers g Live) p q e = inl e
-alike (Run workers g (Sites sites)) p q e = e
-alike (Pool workers g) p q e = e
-alike (Check print) p q e = e
-alike (Avoid workers g kept) p q e = e
-alike (Record workers) p q e = e
-alike Replay p q e = e
-alike (Gen count) p q e = e
-alike (Clock workers g false) p q e = e
 alike (Clock workers g true) p q e = inl e
+alike c p q e = e
 
 -- the plan of an input is one, whatever is said of it
 same_plan : (input : Text) (plan other : Plan) (P : Plan → Type 0) → IsPlanOf input plan → IsPlanOf input other → P other → P plan
@@ -133,17 +125,11 @@ one_answer c input a b p q fixes (inr (three, r)) (inr (too, s)) = (three ∙ sy
 pub tells_run : (g : Graph) (c : Command) (input : Text) (a : ℕ) (p : Text) → ReportsRun g c → Answers c input a p → Answers (Run 1 g Plain) input a p
 tells_run g (Run workers h Plain) input a p same (inl (plan, is, r)) = inl (plan, is, subst (λ x. IsRunOf plan (wanted_of x) a p) same r)
 tells_run g (Run workers h Plain) input a p same (inr refused) = inr refused
-tells_run g (Run workers h Live) input a p same answers = absurd same
 tells_run g (Run workers h (Sites sites)) input a p same (inl (plan, is, r)) = inl (plan, is, subst (λ x. IsRunOf plan (wanted_of x) a p) same r)
 tells_run g (Run workers h (Sites sites)) input a p same (inr refused) = inr refused
 tells_run g (Pool workers h) input a p same (inl (plan, is, r)) = inl (plan, is, subst (λ x. IsRunOf plan (wanted_of x) a p) same r)
 tells_run g (Pool workers h) input a p same (inr refused) = inr refused
-tells_run g (Check print) input a p same answers = absurd same
-tells_run g (Avoid workers h kept) input a p same answers = absurd same
-tells_run g (Record workers) input a p same answers = absurd same
-tells_run g Replay input a p same answers = absurd same
-tells_run g (Gen count) input a p same answers = absurd same
-tells_run g (Clock workers h live) input a p same answers = absurd same
+tells_run g c input a p same answers = absurd same
 
 pub runs_report_alike : RunsReportAlike
 runs_report_alike g c d input a b p q is too r s =

@@ -14,7 +14,7 @@ use Rattle.schedule.specs.Replays.{IsFirstFault}
 use Rattle.schedule.proofs.OneReplay.{one_first_fault}
 use Rattle.schedule.proofs.OneSchedule.{one_reading, one_split}
 use Rattle.armus_words.specs.declared.command.Command.{Command}
-use Rattle.armus_words.specs.declared.command.Command.TheVariants.{Check, Run, Avoid, Record, Replay, Gen, Clock, Pool}
+use Rattle.armus_words.specs.declared.command.Command.TheVariants.{Check, Replay, Gen, Clock}
 use Rattle.armus_words.specs.Words.{Text}
 use Rattle.armus_top.specs.Clocks.{IsClockRefused}
 use Rattle.armus_top.specs.Commands.{IsRefusedFor, IsRefusedInput}
@@ -85,11 +85,7 @@ clock_refused_once input p q (inr (program, fault, reads, fails, line)) (inr (se
 -- ---- all commands
 
 pub one_refused : (c : Command) (input p q : Text) → IsRefusedInput c input p → IsRefusedInput c input q → p ≡ q
-one_refused (Check print) input p q a b = refused_once input p q a b
-one_refused (Run workers g kind) input p q a b = refused_once input p q a b
-one_refused (Avoid workers g kept) input p q a b = refused_once input p q a b
-one_refused (Record workers) input p q a b = refused_once input p q a b
 one_refused Replay input p q a b = replay_refused_once input p q a b
 one_refused (Gen count) input p q a b = absurd a
 one_refused (Clock workers g live) input p q a b = clock_refused_once input p q a b
-one_refused (Pool workers g) input p q a b = refused_once input p q a b
+one_refused c input p q a b = refused_once input p q a b

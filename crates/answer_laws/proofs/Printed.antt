@@ -8,7 +8,7 @@ use Rattle.pl_syntax.proofs.RoundTrip.{prints_text}
 use Rattle.pl_syntax.proofs.Unique.{one_tree}
 use Rattle.pl_syntax.proofs.Writable.{text_is_writable}
 use Rattle.armus_words.specs.declared.command.Command.{Command}
-use Rattle.armus_words.specs.declared.command.Command.TheVariants.{Check, Run, Avoid, Record, Replay, Gen, Clock, Pool}
+use Rattle.armus_words.specs.declared.command.Command.TheVariants.{Check, Run, Avoid, Pool}
 use Rattle.armus_words.specs.Words.{Text}
 use Rattle.armus_top.specs.Commands.{IsAnswered}
 use Rattle.armus_top.specs.Programs.{IsChecked, IsPlanOf}
@@ -42,10 +42,7 @@ module _ (program : Program) (text other : Text) (reads : IsText text program) (
         report_is = r.report_is;
       }
   answered_too (Pool workers g) number output goes (plan, is, run) = (plan, plan_too plan is, run)
-  answered_too (Record workers) number output goes r = absurd goes
-  answered_too Replay number output goes r = absurd goes
-  answered_too (Gen count) number output goes r = absurd goes
-  answered_too (Clock workers g live) number output goes r = absurd goes
+  answered_too c number output goes r = absurd goes
 
 pub printing_keeps_meaning : PrintingKeepsMeaning
 printing_keeps_meaning input printed status (plan, program, is, zero, text) =

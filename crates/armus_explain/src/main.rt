@@ -43,10 +43,7 @@ fn main(rt: HostRuntime) -> ExitCode {
     };
     let words = words.as_slice();
     let status = match request_of(words) {
-        Request::Explain(Some(name))
-        | Request::Steps(Some(name))
-        | Request::Avoid(Some(name))
-        | Request::Clocks(Some(name)) => explain_file(&rt, words, name),
+        Request::Text(_, Some(name)) => explain_file(&rt, words, name),
         _ => explain_from(&rt, words, "standard input", rt.stdin()),
     };
     ExitCode::from(status)

@@ -13,34 +13,34 @@ use Rattle.explain.specs.Languages.{is_of_clocks}
 use Rattle.explain.specs.Outputs.{AnswersStepsIn, IsExplainCall, MayWrite, text_limit}
 use Rattle.explain.specs.Requests.{Asked, avoided, clocks, explanation, help, nothing, steps, version}
 use Rattle.explain.specs.declared.answer.Wanted.{Wanted}
-use Rattle.explain.specs.declared.answer.Wanted.TheVariants.{Avoided, Clocks, Explanation, Steps}
+use Rattle.explain.specs.declared.answer.Wanted.TheVariants.{Explanation}
 use Rattle.explain.specs.calls.Requested.{asked_for}
 use Rattle.explain.specs.inside.Ending.{AnswersSource}
 use Rattle.explain.proofs.Fixing.{completes}
 
 -- a status by a flag is small
-small : (b : Bool) → (if b then 1 else 0) ≤ 1
-small true = omega arith
-small false = omega arith
+small : (b : Bool) (status : ℕ) → status ≡ (if b then 1 else 0) → status ≤ 3
+small true status is = omega (arith, is)
+small false status is = omega (arith, is)
 
 -- an output with steps has a status of 3 at most
 at_most_three_in : (of_clocks : Bool) (file : Option Text) (text : Text) (status : ℕ) (lines : Text) → AnswersStepsIn of_clocks file text status lines → status ≤ 3
-at_most_three_in true file text status lines (inl is) = (let few = small is.waits in omega (arith, is.status_is, few))
+at_most_three_in true file text status lines (inl is) = small is.waits status is.status_is
 at_most_three_in true file text status lines (inr (three, refused)) = omega (arith, three)
-at_most_three_in false file text status lines (inl is) = (let few = small is.waits in omega (arith, is.status_is, few))
+at_most_three_in false file text status lines (inl is) = small is.waits status is.status_is
 at_most_three_in false file text status lines (inr (three, refused)) = omega (arith, three)
 
 -- a whole output has a status of 3 at most
 at_most_three : (asked : Asked) (src : Passage) (status : ℕ) (lines : Text) → MayWrite asked src status lines → status ≤ 3
-at_most_three (explanation file) src status lines (inl (text, has, inl is)) = (let few = small is.waits in omega (arith, is.status_is, few))
+at_most_three (explanation file) src status lines (inl (text, has, inl is)) = small is.waits status is.status_is
 at_most_three (explanation file) src status lines (inl (text, has, inr (three, refused))) = omega (arith, three)
 at_most_three (explanation file) src status lines (inr (much, three, line)) = omega (arith, three)
 at_most_three (steps file) src status lines (inl (text, has, is)) = at_most_three_in (is_of_clocks file text) file text status lines is
 at_most_three (steps file) src status lines (inr (much, three, line)) = omega (arith, three)
-at_most_three (avoided file) src status lines (inl (text, has, inl is)) = (let few = small is.stays in omega (arith, is.status_is, few))
+at_most_three (avoided file) src status lines (inl (text, has, inl is)) = small is.stays status is.status_is
 at_most_three (avoided file) src status lines (inl (text, has, inr (three, refused))) = omega (arith, three)
 at_most_three (avoided file) src status lines (inr (much, three, line)) = omega (arith, three)
-at_most_three (clocks file) src status lines (inl (text, has, inl is)) = (let few = small is.waits in omega (arith, is.status_is, few))
+at_most_three (clocks file) src status lines (inl (text, has, inl is)) = small is.waits status is.status_is
 at_most_three (clocks file) src status lines (inl (text, has, inr (three, refused))) = omega (arith, three)
 at_most_three (clocks file) src status lines (inr (much, three, line)) = omega (arith, three)
 at_most_three help src status lines is = (let zero = is.0 in omega (arith, zero))
@@ -50,9 +50,7 @@ at_most_three nothing src status lines is = (let two = is.0 in omega (arith, two
 -- where a text is read, it has a limit
 limited : (wanted : Wanted) (file : Option Text) → text_limit (asked_for wanted file) ≡ Some MAX_TEXT_BYTES
 limited Explanation file = refl
-limited Steps file = refl
-limited Avoided file = refl
-limited Clocks file = refl
+limited wanted file = refl
 
 -- the number after an output was to be written is its status, or 5
 status_or_five : (out : Passage) (lines : Text) (status number : ℕ) → Finished out lines status number → (number ≡ status) ⊎ (number ≡ 5)

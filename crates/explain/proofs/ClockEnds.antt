@@ -1,11 +1,9 @@
 -- Where the runs of a clock text end, and what is explained there.
-use Rattle.std.proofs.Common.{◌≡◌, ◌∙◌, ℕ, zero, suc, ◌<◌, Bool, true, false, List, [], ◌∷◌, ◌++◌, Option, Some, None, length, ap, arith, inl, inr, refl, subst, sym}
-use Rattle.std.specs.Prelude.{◌↔◌, ◌⊎◌, Err, Ok}
+use Rattle.std.proofs.Common.{◌≡◌, ◌∙◌, ℕ, Bool, true, false, List, Option, Some, None, length, ap, inl, inr, refl, subst, sym}
+use Rattle.std.specs.Prelude.{◌↔◌, Err, Ok}
 use Rattle.std.specs.List.{list_any}
-use Rattle.std.proofs.lemmas.Bool.{cases_eq, or_cases, or_right, or_left}
 use Rattle.armus_base.specs.CheckedPlans.{IsCheckedPlan}
 use Rattle.armus_base.specs.calls.FinalLaws.{IsOfPlan}
-use Rattle.armus_base.specs.declared.ending.TaskEnd.{TaskEnd}
 use Rattle.armus_base.specs.declared.ending.TaskEnd.TheVariants as ends
 use Rattle.armus_base.specs.declared.event.Event.{Event}
 use Rattle.armus_base.specs.Finals.{end_by, end_of, list_below}
@@ -27,6 +25,7 @@ use Rattle.clock_text.proofs.TextEndsTold.{text_ends_are_told}
 use Rattle.clock_origins.proofs.Walked.{same_unfolding}
 use Rattle.clock_sayings.specs.ClockExplanations.{ExplainsActivities, waits_there}
 use Rattle.armus_words.specs.Words.{Text}
+use Rattle.armus_top.proofs.SomeBelow.{any_below, some_below}
 use Rattle.explain.specs.ClockExplained.{HasSomeClockFault, IsMaximalClockRun}
 use Rattle.explain.specs.Explained.{WaitsIn}
 
@@ -86,42 +85,6 @@ run_or_fault text p u h run (inr (q, fault, reads, fails)) =
 
 -- ---- who waits
 
-any_last : (xs : List TaskEnd) (x : TaskEnd) → waits_there x ≡ true → list_any waits_there (xs ++ x ∷ []) ≡ true
-any_last [] x e = or_left (waits_there x) false e
-any_last (y ∷ xs) x e = or_right (waits_there y) (list_any waits_there (xs ++ x ∷ [])) (any_last xs x e)
-
-any_before : (xs : List TaskEnd) (x : TaskEnd) → list_any waits_there xs ≡ true → list_any waits_there (xs ++ x ∷ []) ≡ true
-any_before [] x e = absurd cc
-any_before (y ∷ xs) x e =
-    elim (or_cases (waits_there y) (list_any waits_there xs) e) [
-      | inl here ↦ or_left (waits_there y) (list_any waits_there (xs ++ x ∷ [])) here
-      | inr later ↦ or_right (waits_there y) (list_any waits_there (xs ++ x ∷ [])) (any_before xs x later)
-    ]
-
-any_or_last : (xs : List TaskEnd) (x : TaskEnd) → list_any waits_there (xs ++ x ∷ []) ≡ true → (list_any waits_there xs ≡ true) ⊎ (waits_there x ≡ true)
-any_or_last [] x e = elim (or_cases (waits_there x) false e) [ inl here ↦ inr here | inr none ↦ absurd cc ]
-any_or_last (y ∷ xs) x e =
-    elim (or_cases (waits_there y) (list_any waits_there (xs ++ x ∷ [])) e) [
-      | inl here ↦ inl (or_left (waits_there y) (list_any waits_there xs) here)
-      | inr later ↦ elim (any_or_last xs x later) [
-        | inl before ↦ inl (or_right (waits_there y) (list_any waits_there xs) before)
-        | inr last ↦ inr last
-      ]
-    ]
-
-some_below : (f : ℕ → TaskEnd) (n : ℕ) → list_any waits_there (list_below f n) ≡ true → (t : ℕ) × (waits_there (f t) ≡ true)
-some_below f zero e = absurd cc
-some_below f (suc n) e =
-    elim (any_or_last (list_below f n) (f n) e) [ inl before ↦ some_below f n before | inr last ↦ (n, last) ]
-
-below_some : (f : ℕ → TaskEnd) (n t : ℕ) → t < n → waits_there (f t) ≡ true → list_any waits_there (list_below f n) ≡ true
-below_some f zero t lt e = absurd (omega arith)
-below_some f (suc n) t lt e =
-    elim (cases_eq t n) [
-      | inl same ↦ any_last (list_below f n) (f n) (subst (λ k. waits_there (f k) ≡ true) same e)
-      | inr other ↦ any_before (list_below f n) (f n) (below_some f n t (omega arith) e)
-    ]
-
 published_end : (forked : Bool) (published refused : Option Event) → waits_there (end_by forked published refused) ≡ true → (e : Event) × (published ≡ Some e)
 published_end forked (Some e) refused on = (e, refl)
 published_end forked None (Some e) on = absurd cc
@@ -139,10 +102,10 @@ clocks_tell_waiting file text p u steps lines some ended is =
     let told : some ≡ list_any waits_there (list_below (end_of (state_after steps)) (length plan.parents)) =
     is.waits_are ∙ ap (list_any waits_there) (is.are_facts.ends_are ∙ ap (λ s. list_below (end_of s) (length plan.parents)) (sym fixed)) in (
       λ on.
-          let (t, waits) = some_below (end_of (state_after steps)) (length plan.parents) (sym told ∙ on) in
+          let (t, below, waits) = some_below waits_there (end_of (state_after steps)) (length plan.parents) (sym told ∙ on) in
           (t, published_end ((state_after steps).forked t) ((state_after steps).published t) ((state_after steps).refused t) waits),
       λ one.
           let (t, (e, published)) = one in
-          told ∙ below_some (end_of (state_after steps)) (length plan.parents) t (of_plan.published t e published)
+          told ∙ any_below waits_there (end_of (state_after steps)) (length plan.parents) t (of_plan.published t e published)
           (ap (λ x. waits_there (end_by ((state_after steps).forked t) x ((state_after steps).refused t))) published),
     )

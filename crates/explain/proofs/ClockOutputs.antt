@@ -19,7 +19,7 @@ use Rattle.clock_sayings.proofs.OneExplanation.{clock_explanation_exists, one_cl
 use Rattle.armus_words.specs.Words.{Text}
 use Rattle.explain.specs.ClockExplained.{AnswersClock, ClockEndsSo, HasSomeClockFault, IsClockExplanationOf, IsClockRefusedWith, IsMaximalClockRun, IsClockStatusOf}
 use Rattle.explain.specs.Explained.{SomeWaits}
-use Rattle.explain.specs.calls.Laws.{EachClockTextIsMet, OneClockOutput}
+use Rattle.explain.specs.calls.Laws.{EachHasOutput, IsOneOutput}
 use Rattle.explain.proofs.Statuses.{one_answer, one_status, status_of_end, status_of_fault}
 use Rattle.explain.proofs.ClockEnds.{checked_moves, clock_run, clocks_tell_waiting, end_alike, run_or_fault}
 
@@ -62,7 +62,7 @@ pub clock_explained_or_refused : (file : Option Text) (text : Text) (status : â„
 clock_explained_or_refused file text status lines others is refused =
     run_or_fault text is.program is.unfolded is.steps is.ended (has_fault file text others refused)
 
-pub one_clock_output : OneClockOutput
+pub one_clock_output : IsOneOutput AnswersClock
 one_clock_output file text =
     one_answer (IsClockExplanationOf file text) (IsClockRefusedWith file text) (one_clock_explained file text) (one_clock_refused file text)
     (clock_explained_or_refused file text)
@@ -105,7 +105,7 @@ explained file text p u reads is =
       }),
     )
 
-pub each_clock_text_is_met : EachClockTextIsMet
+pub each_clock_text_is_met : EachHasOutput AnswersClock
 each_clock_text_is_met file text = clock_met file text (IsClockExplanationOf file text) (explained file text)
 
 -- ---- the status

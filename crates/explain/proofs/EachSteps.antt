@@ -9,9 +9,9 @@ use Rattle.step_lines.proofs.ShowingExists.{showing_exists}
 use Rattle.armus_words.specs.Words.{Text}
 use Rattle.armus_top.specs.Programs.{IsPlanOf}
 use Rattle.armus_top.proofs.OnePlan.{checked_plan}
-use Rattle.explain.specs.calls.Laws.{EachTextHasSteps}
+use Rattle.explain.specs.calls.Laws.{EachHasOutput}
 use Rattle.explain.specs.Languages.{is_of_clocks}
-use Rattle.explain.specs.Outputs.{AnswersStepsIn}
+use Rattle.explain.specs.Outputs.{AnswersStepsIn, AnswersStepsOf}
 use Rattle.explain.proofs.ClockSteps.{each_clock_text_has_steps}
 use Rattle.explain.specs.Stepped.{AreStepsOf}
 use Rattle.explain.proofs.EachText.{IsMet, met}
@@ -44,5 +44,5 @@ each_in : (of_clocks : Bool) (file : Option Text) (text : Text) â†’ (status : â„
 each_in true file text = each_clock_text_has_steps file text
 each_in false file text = met file text (AreStepsOf file text) (stepped file text)
 
-pub each_text_has_steps : EachTextHasSteps
+pub each_text_has_steps : EachHasOutput AnswersStepsOf
 each_text_has_steps file text = each_in (is_of_clocks file text) file text

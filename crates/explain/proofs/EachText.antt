@@ -13,8 +13,9 @@ use Rattle.armus_words.specs.Words.{Text}
 use Rattle.armus_top.specs.Programs.{IsFaultOf, IsPlanOf}
 use Rattle.armus_top.proofs.OnePlan.{checked_plan}
 use Rattle.armus_top.proofs.WholeOutputs.{plan_or_refused}
-use Rattle.explain.specs.calls.Laws.{EachTextIsMet}
+use Rattle.explain.specs.calls.Laws.{EachHasOutput}
 use Rattle.explain.specs.Explained.{IsExplanationOf}
+use Rattle.explain.specs.Outputs.{AnswersText}
 use Rattle.explain.specs.Refused.{IsRefusedWith}
 
 module _ (file : Option Text) (text : Text) where
@@ -55,5 +56,5 @@ module _ (file : Option Text) (text : Text) where
         }),
       )
 
-pub each_text_is_met : EachTextIsMet
+pub each_text_is_met : EachHasOutput AnswersText
 each_text_is_met file text = met file text (IsExplanationOf file text) (explained file text)

@@ -1,5 +1,5 @@
 -- The end of a run of a clock text is explained, with its steps or without.
-use Rattle.std.proofs.Common.{◌≡◌, ◌∙◌, ◌++◌, ℕ, Bool, Option, ap, subst, sym}
+use Rattle.std.proofs.Common.{◌≡◌, ◌∙◌, ◌++◌, ℕ, Bool, Option, subst, sym}
 use Rattle.std.specs.Prelude.{Ok, if◌then◌else◌}
 use mathlib.Core.Path.{fun_ext}
 use Rattle.armus_base.specs.Plans.{Plan}
@@ -7,7 +7,6 @@ use Rattle.armus_base.specs.Runs.{IsMaximal, IsPlainRun, Place, places}
 use Rattle.pl_core.specs.calls.Worlds.{WorldValue, places_of}
 use Rattle.step_lines.specs.SerialRuns.{IsSerialRun}
 use Rattle.step_lines.specs.declared.stepping.SteppedRun.{SteppedRun}
-use Rattle.step_lines.proofs.SerialIsPlain.{serial_is_plain}
 use Rattle.clock_syntax.specs.Grammar.{IsClockText}
 use Rattle.clock_syntax.specs.Trees.{ClockTree}
 use Rattle.clock_moves.specs.Unfolding.{ClockUnfolding, clock_plan_of, clock_unfolded, plan_of_moves}
@@ -20,6 +19,7 @@ use Rattle.armus_words.specs.Words.{Text}
 use Rattle.explain.specs.ClockExplained.{IsClockExplanationOf, IsMaximalClockRun}
 use Rattle.explain.specs.ClockStepped.{AreClockStepsOf}
 use Rattle.explain.proofs.ClockEnds.{clock_run}
+use Rattle.explain.proofs.EndExplained.{serial_world}
 use Rattle.armus_top.proofs.TextEnds.{unfolding_of}
 
 module _ (file : Option Text) (text : Text) (p : ClockTree) (plan : Plan) (reads : IsClockText text p) (unfolds : clock_plan_of p ≡ Ok plan) where
@@ -64,13 +64,7 @@ module _ (file : Option Text) (text : Text) (p : ClockTree) (plan : Plan) (reads
     clock_steps_explained x status lines explains status_is lines_are =
         let (u, opens, same) = unfolding_of p plan unfolds in
         let run = stepped u opens in
-        let end : IsEndWorld plan s.world = record {
-          plan_is = run.plan_is;
-          steps = run.steps;
-          run = serial_is_plain plan run.steps run.whole.serial;
-          maximal = run.whole.maximal;
-          there = λ t. ap (λ (a : ℕ → Place). a t) (sym run.there);
-        } in
+        let end = serial_world plan s.world run.steps run.plan_is run.whole run.there in
         record {
           program = p;
           unfolded = u;

@@ -1,9 +1,10 @@
 -- The end of a run is explained, with its steps or without.
-use Rattle.std.proofs.Common.{◌≡◌, ◌++◌, ℕ, Bool, Option, ap, subst, sym}
+use Rattle.std.proofs.Common.{◌≡◌, ◌++◌, ℕ, Bool, List, Option, ap, subst, sym}
 use Rattle.std.specs.Prelude.{Ok, if◌then◌else◌}
 use mathlib.Core.Path.{fun_ext}
 use Rattle.armus_base.specs.Plans.{Plan}
 use Rattle.armus_base.specs.Runs.{Place, places}
+use Rattle.armus_base.specs.States.{Step}
 use Rattle.pl_core.specs.calls.Worlds.{WorldValue, places_of}
 use Rattle.pl_plan.specs.Unfolding.{plan_of}
 use Rattle.pl_syntax.specs.Grammar.{IsText}
@@ -12,6 +13,7 @@ use Rattle.explained_tasks.specs.Explanations.{IsExplanationAt}
 use Rattle.explained_tasks.specs.calls.RunEnds.{WaitersStay}
 use Rattle.explained_tasks.specs.declared.explaining.Explanation.{Explanation}
 use Rattle.explained_tasks.proofs.RestsAtEnd.{rests_at_end}
+use Rattle.step_lines.specs.calls.SerialRuns.{IsWholeSerialRun}
 use Rattle.step_lines.specs.calls.SteppedRuns.{IsSteppedRun}
 use Rattle.step_lines.specs.declared.stepping.SteppedRun.{SteppedRun}
 use Rattle.step_lines.proofs.SerialIsPlain.{serial_is_plain}
@@ -22,15 +24,19 @@ use Rattle.armus_top.proofs.OnePlan.{checked_plan}
 use Rattle.explain.specs.Explained.{IsEndedRunOf, IsExplanationOf}
 use Rattle.explain.specs.Stepped.{AreStepsOf}
 
--- a run that was made step by step ends in its world
-abbrev pub stepped_world : (text : Text) (p : Program) (plan : Plan) (s : SteppedRun) → IsSteppedRun text p plan s → IsEndWorld plan s.world
-stepped_world text p plan s run = record {
-  plan_is = run.plan_is;
-  steps = run.steps;
-  run = serial_is_plain plan run.steps run.whole.serial;
-  maximal = run.whole.maximal;
-  there = λ t. ap (λ (a : ℕ → Place). a t) (sym run.there);
+-- the whole serial run ends in the world to whose places it leads
+abbrev pub serial_world : (plan : Plan) (w : WorldValue) (steps : List Step) → w.plan ≡ plan → IsWholeSerialRun plan steps → places_of w ≡ places steps → IsEndWorld plan w
+serial_world plan w steps plan_is whole there = record {
+  plan_is = plan_is;
+  steps = steps;
+  run = serial_is_plain plan steps whole.serial;
+  maximal = whole.maximal;
+  there = λ t. ap (λ (a : ℕ → Place). a t) (sym there);
 }
+
+-- so does a run that was made step by step
+abbrev pub stepped_world : (text : Text) (p : Program) (plan : Plan) (s : SteppedRun) → IsSteppedRun text p plan s → IsEndWorld plan s.world
+stepped_world text p plan s run = serial_world plan s.world run.steps run.plan_is run.whole run.there
 
 module _ (file : Option Text) (text : Text) (p : Program) (plan : Plan) (reads : IsText text p) (unfolds : plan_of p ≡ Ok plan) where
   plan_is : IsPlanOf text plan

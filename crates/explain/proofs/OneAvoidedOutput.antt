@@ -13,8 +13,9 @@ use Rattle.armus_words.specs.Words.{Text}
 use Rattle.armus_top.specs.Programs.{IsPlanOf}
 use Rattle.armus_top.proofs.OnePlan.{checked_plan, one_plan}
 use Rattle.explain.specs.Avoided.{IsAvoidedOf}
+use Rattle.explain.specs.Outputs.{AnswersAvoided}
 use Rattle.explain.specs.Refused.{IsRefusedWith}
-use Rattle.explain.specs.calls.Laws.{EachTextIsAvoided, OneAvoidedOutput}
+use Rattle.explain.specs.calls.Laws.{EachHasOutput, IsOneOutput}
 use Rattle.explain.proofs.EachText.{IsMet, met}
 use Rattle.explain.proofs.Fixing.{plan_or_some_fault, refused_has}
 use Rattle.explain.proofs.OneOutput.{one_refused}
@@ -51,10 +52,10 @@ module _ (file : Option Text) (text : Text) where
         }),
       )
 
-pub one_avoided_output : OneAvoidedOutput
+pub one_avoided_output : IsOneOutput AnswersAvoided
 one_avoided_output file text =
     one_answer (IsAvoidedOf file text) (IsRefusedWith file text) (one_avoided file text) (one_refused file text)
     (λ status lines others is refused. plan_or_some_fault text is.plan is.plan_is (refused_has file text others refused))
 
-pub each_text_is_avoided : EachTextIsAvoided
+pub each_text_is_avoided : EachHasOutput AnswersAvoided
 each_text_is_avoided file text = met file text (IsAvoidedOf file text) (avoided file text)

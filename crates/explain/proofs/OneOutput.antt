@@ -12,7 +12,8 @@ use Rattle.check_refusals.proofs.OneRefusal.{one_refusal as one_check_refusal}
 use Rattle.armus_words.specs.Words.{Text}
 use Rattle.armus_top.proofs.OnePlan.{checked_plan, one_plan}
 use Rattle.explain.specs.Explained.{IsExplanationOf}
-use Rattle.explain.specs.calls.Laws.{OneOutput}
+use Rattle.explain.specs.Outputs.{AnswersText}
+use Rattle.explain.specs.calls.Laws.{IsOneOutput}
 use Rattle.explain.specs.Refused.{IsRefusedWith}
 use Rattle.explain.proofs.Fixing.{plan_or_some_fault, refused_has}
 use Rattle.explain.proofs.Statuses.{one_answer, one_status}
@@ -39,7 +40,7 @@ one_refused file text lines others (inl (f, a)) (inr (q, b)) = absurd (text_or_f
 one_refused file text lines others (inr (p, a)) (inl (g, b)) = absurd (text_or_fault text p g a.reads b.is_stand.found)
 one_refused file text lines others (inr (p, a)) (inr (q, b)) = one_check_refusal file text p q lines others a b
 
-pub one_output : OneOutput
+pub one_output : IsOneOutput AnswersText
 one_output file text =
     one_answer (IsExplanationOf file text) (IsRefusedWith file text) (one_explained file text) (one_refused file text)
     (λ status lines others is refused. plan_or_some_fault text is.plan is.ended.plan_is (refused_has file text others refused))

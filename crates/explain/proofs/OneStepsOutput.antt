@@ -10,9 +10,9 @@ use Rattle.step_lines.proofs.OneSerialRun.{one_serial_run}
 use Rattle.step_lines.proofs.OneShowing.{one_showing}
 use Rattle.armus_words.specs.Words.{Text}
 use Rattle.armus_top.proofs.OnePlan.{checked_plan, one_plan}
-use Rattle.explain.specs.calls.Laws.{OneStepsOutput}
+use Rattle.explain.specs.calls.Laws.{IsOneOutput}
 use Rattle.explain.specs.Languages.{is_of_clocks}
-use Rattle.explain.specs.Outputs.{AnswersStepsIn}
+use Rattle.explain.specs.Outputs.{AnswersStepsIn, AnswersStepsOf}
 use Rattle.explain.specs.Refused.{IsRefusedWith}
 use Rattle.explain.specs.Stepped.{AreStepsOf}
 use Rattle.explain.proofs.ClockSteps.{one_clock_steps}
@@ -48,5 +48,5 @@ one_in false file text =
     one_answer (AreStepsOf file text) (IsRefusedWith file text) (one_stepped file text) (one_refused file text)
     (λ status lines others is refused. plan_or_some_fault text is.plan is.ended.plan_is (refused_has file text others refused))
 
-pub one_steps_output : OneStepsOutput
+pub one_steps_output : IsOneOutput AnswersStepsOf
 one_steps_output file text = one_in (is_of_clocks file text) file text

@@ -18,6 +18,7 @@ use Rattle.armus_base.proofs.NobodyIsDead.{avoided_legal}
 use Rattle.armus_base.proofs.SerialIsAvoided.{serial_is_avoided}
 use Rattle.armus_base.proofs.Stepping.{places_fix}
 use Rattle.armus_base.proofs.Tasks.{action_of_task}
+use Rattle.accounts.proofs.Awaiting.{published_of}
 use Rattle.report.specs.Standings.{AreStandings, Stands}
 use Rattle.report.specs.declared.standing.Standing.{Standing}
 use Rattle.report.specs.declared.standing.Standing.TheVariants as way
@@ -29,7 +30,7 @@ use Rattle.armus_words.specs.Words.{Text}
 use Rattle.armus_top.specs.Programs.{IsPlanOf}
 use Rattle.armus_top.proofs.OnePlan.{checked_plan}
 use Rattle.explain.specs.Avoided.{SomeStays}
-use Rattle.explain.proofs.Waiting.{blocked_is, sized, stands}
+use Rattle.explain.proofs.Waiting.{sized, stands}
 
 -- an end that is refused comes from a refused event
 refused_is : (forked : Bool) (published refused : Option Event) (e : Event) → end_by forked published refused ≡ ends.Refused e → refused ≡ Some e
@@ -40,9 +41,7 @@ refused_is false None None e is = absurd (cc)
 
 waiting_end : (IsDead : Type 0) (end : TaskEnd) (s : Standing) → Stands IsDead end s → waits_at_the_end s ≡ true → (e : Event) × (end ≡ ends.Blocked e)
 waiting_end IsDead (ends.Blocked e) s is on = (e, refl)
-waiting_end IsDead ends.Done s is on = absurd (let off = subst (λ x. waits_at_the_end x ≡ true) is on in cc)
-waiting_end IsDead ends.Unforked s is on = absurd (let off = subst (λ x. waits_at_the_end x ≡ true) is on in cc)
-waiting_end IsDead (ends.Refused e) s is on = absurd (let off = subst (λ x. waits_at_the_end x ≡ true) is on in cc)
+waiting_end IsDead end s is on = absurd (let off = subst (λ x. waits_at_the_end x ≡ true) is on in cc)
 
 blocked_waits : (IsDead : Type 0) (e : Event) (s : Standing) → Stands IsDead (ends.Blocked e) s → waits_at_the_end s ≡ true
 blocked_waits IsDead e s (inl (dead, is)) = ap waits_at_the_end is
@@ -62,7 +61,7 @@ module _ (plan : Plan) (state : State) (standings : List Standing) (of_plan : Is
             (t, inr (end.0, refused_is (state.forked t) (state.published t) (state.refused t) end.0 end.1))
         | inr on ↦
             let end = waiting_end IsDead (end_of state t) s (stands plan state standings stand t below) on in
-            (t, inl (end.0, blocked_is (state.forked t) (state.published t) (state.refused t) end.0 end.1))
+            (t, inl (end.0, published_of (state.forked t) (state.published t) (state.refused t) end.0 end.1))
       ]
 
   module _ (t : ℕ) (below : t < length plan.parents) where

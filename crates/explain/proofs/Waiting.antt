@@ -1,8 +1,9 @@
 -- By an explanation somebody waits for ever just where a task of the final state waits.
-use Rattle.std.proofs.Common.{◌≡◌, ◌∙◌, ℕ, ◌<◌, Bool, true, false, Option, Some, None, List, length, ap, inl, inr, refl, subst, sym}
+use Rattle.std.proofs.Common.{◌≡◌, ◌∙◌, ℕ, ◌<◌, Bool, true, Option, Some, List, length, ap, inl, inr, refl, subst, sym}
 use Rattle.std.specs.Prelude.{◌↔◌, Contains, slice_index_or}
 use Rattle.std.proofs.lemmas.Option.{get_or_from_slice_get}
 use Rattle.accounts.specs.declared.account.Forked.{Forked}
+use Rattle.accounts.proofs.Awaiting.{published_of}
 use Rattle.armus_base.specs.Deadlocks.{IsDeadBy}
 use Rattle.armus_base.specs.declared.ending.TaskEnd.{TaskEnd}
 use Rattle.armus_base.specs.declared.ending.TaskEnd.TheVariants as ends
@@ -30,25 +31,14 @@ use Rattle.armus_words.specs.Words.{Text}
 use Rattle.armus_top.proofs.OnePlan.{checked_plan}
 use Rattle.explain.specs.Explained.{IsEndedRunOf, WaitsIn}
 
--- an end that is an event comes from a published one
-pub blocked_is : (forked : Bool) (published refused : Option Event) (e : Event) → end_by forked published refused ≡ ends.Blocked e → published ≡ Some e
-blocked_is forked (Some d) refused e is = cc
-blocked_is forked None (Some d) e is = absurd (cc)
-blocked_is true None None e is = absurd (cc)
-blocked_is false None None e is = absurd (cc)
-
 -- a task that waits by its standing is blocked
 waiting_end : (IsDead : Type 0) (end : TaskEnd) (standing : Standing) (fork : Option Forked) → Stands IsDead end standing
     → is_waiting (situation_by standing fork) ≡ true → (e : Event) × (end ≡ ends.Blocked e)
 waiting_end IsDead (ends.Blocked e) standing fork is on = (e, refl)
-waiting_end IsDead ends.Done standing fork is on =
-    absurd (let off = subst (λ x. is_waiting (situation_by x fork) ≡ true) is on in cc)
-waiting_end IsDead (ends.Refused e) standing fork is on =
-    absurd (let off = subst (λ x. is_waiting (situation_by x fork) ≡ true) is on in cc)
 waiting_end IsDead ends.Unforked standing (Some x) is on =
     absurd (let off = subst (λ y. is_waiting (situation_by y (Some x)) ≡ true) is on in cc)
-waiting_end IsDead ends.Unforked standing None is on =
-    absurd (let off = subst (λ y. is_waiting (situation_by y None) ≡ true) is on in cc)
+waiting_end IsDead end standing fork is on =
+    absurd (let off = subst (λ x. is_waiting (situation_by x fork) ≡ true) is on in cc)
 
 -- a blocked task waits by its standing
 blocked_waits : (IsDead : Type 0) (e : Event) (standing : Standing) (fork : Option Forked) → Stands IsDead (ends.Blocked e) standing
@@ -78,7 +68,7 @@ module _ (plan : Plan) (state : State) (f : FactsValue) (of_plan : IsOfPlan plan
       let below : t.0 < length plan.parents = subst (λ n. t.0 < n) (sized plan state f.standings stand) within in
       let (e, end_is) = waiting_end (IsDeadBy (final_of plan state).blocked t.0) (end_of state t.0) (slice_index_or f.standings t.0 way.Done) (forking_of f t.0)
       (stands plan state f.standings stand t.0 below) on in
-      (t.0, (e, blocked_is (state.forked t.0) (state.published t.0) (state.refused t.0) e end_is))
+      (t.0, (e, published_of (state.forked t.0) (state.published t.0) (state.refused t.0) e end_is))
 
   task_waiting : ((t : ℕ) × WaitsIn state t) → (t : TaskId) × Contains (tasks_that is_waiting f) t
   task_waiting (t, (e, is)) =

@@ -19,20 +19,18 @@ use pl_syntax::{ParseEnd, Program, parse};
 use std::alloc::Global;
 use text_places::TextPlaces;
 
-// The whole output for the text of this program.
+// The whole output for the text with these places, which is this program.
 fn answer_program(
     alloc: Global,
     wanted: PlWanted,
-    text: &[u8],
     places: TextPlaces,
     file: Option<&[u8]>,
     program: &Program,
 ) -> Result<Answer, NoMemory>
-    requires short { length text.now ≤ MAX_TEXT_BYTES }
-    requires places { places ≡ text.now }
-    requires few { count program.now.body ≤ length text.now }
-    requires reads { IsText text.now program.now }
-    ensures answers { IfOk result (IsPlAnswerTo wanted (file_bytes file.entry) text.now) }
+    requires short { length places ≤ MAX_TEXT_BYTES }
+    requires few { count program.now.body ≤ length places }
+    requires reads { IsText places program.now }
+    ensures answers { IfOk result (IsPlAnswerTo wanted (file_bytes file.entry) places.entry) }
 {
     match unfold(alloc, program) {
         Ok(unfolded) => {
@@ -45,7 +43,7 @@ fn answer_program(
             let answer = checked.answer(alloc, wanted)?;
             Ok(answer)
         }
-        Err(PlanEnd::Check(_)) => refuse_check(alloc, text, places, file, program),
+        Err(PlanEnd::Check(_)) => refuse_check(alloc, places, file, program),
         Err(PlanEnd::NoMemory) => Err(NoMemory),
     }
 }
@@ -62,8 +60,8 @@ fn answer_pl(
 {
     let places = TextPlaces::new(alloc, text)?;
     match parse(alloc, text) {
-        Ok(program) => answer_program(alloc, wanted, text, places, file, &program),
-        Err(ParseEnd::Syntax(fault)) => refuse_syntax(alloc, text, &places, file, fault),
+        Ok(program) => answer_program(alloc, wanted, places, file, &program),
+        Err(ParseEnd::Syntax(fault)) => refuse_syntax(alloc, &places, file, fault),
         Err(ParseEnd::NoMemory) => Err(NoMemory),
     }
 }

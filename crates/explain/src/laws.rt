@@ -1,15 +1,13 @@
 // Laws of the outputs of a text, as contracts of functions with an empty body.
 ghost use Rattle.explain.specs.Agreement.{ExplainsAsRun};
-ghost use Rattle.explain.specs.calls.Laws.{EachClockTextIsMet, EachTextHasSteps, EachTextIsAvoided, EachTextIsMet, OneAvoidedOutput, OneClockOutput, OneOutput, OneStepsOutput};
+ghost use Rattle.explain.specs.ClockExplained.{AnswersClock};
+ghost use Rattle.explain.specs.Outputs.{AnswersAvoided, AnswersStepsOf, AnswersText};
+ghost use Rattle.explain.specs.calls.Laws.{EachHasOutput, IsOneOutput};
 
-/// A text has one whole output at most, with one status.
+/// A text has one whole output at most, with one status; and it has one: it is explained, or refused.
 pub fn one_output()
-    ensures { OneOutput }
-{}
-
-/// Each text has a whole output, with its status: it is explained, or refused.
-pub fn each_text_is_met()
-    ensures { EachTextIsMet }
+    ensures one { IsOneOutput AnswersText }
+    ensures exists { EachHasOutput AnswersText }
 {}
 
 /// The explanation of a text begins with the first line of the report of its run, which counts how the tasks stand; and where the report has status 1, so has
@@ -18,29 +16,21 @@ pub fn explains_as_run()
     ensures { ExplainsAsRun }
 {}
 
-/// A text has one whole output at most, with one status, where the steps of its run are shown.
+/// A text has one whole output at most, with one status, where the steps of its run are shown; and it has one: these and its explanation, or its refusal.
 pub fn one_steps_output()
-    ensures { OneStepsOutput }
-{}
-
-/// Each text has a whole output, with its status, where the steps of its run are shown: these and its explanation, or its refusal.
-pub fn each_text_has_steps()
-    ensures { EachTextHasSteps }
+    ensures one { IsOneOutput AnswersStepsOf }
+    ensures exists { EachHasOutput AnswersStepsOf }
 {}
 
 /// A text has one whole output at most, with one status, where its run that avoids deadlock is explained; and it has one: the explanation of this run, or its
 /// refusal.
 pub fn one_avoided_output()
-    ensures one { OneAvoidedOutput }
-    ensures exists { EachTextIsAvoided }
+    ensures one { IsOneOutput AnswersAvoided }
+    ensures exists { EachHasOutput AnswersAvoided }
 {}
 
-/// A clock text has one whole output at most, with one status.
+/// A clock text has one whole output at most, with one status; and it has one: it is explained, or refused.
 pub fn one_clock_output()
-    ensures { OneClockOutput }
-{}
-
-/// Each clock text has a whole output, with its status: it is explained, or refused.
-pub fn each_clock_text_is_met()
-    ensures { EachClockTextIsMet }
+    ensures one { IsOneOutput AnswersClock }
+    ensures exists { EachHasOutput AnswersClock }
 {}

@@ -12,9 +12,9 @@ mod refusing;
 mod request;
 mod top;
 
+pub use answer::Wanted;
 pub use laws::{
-    each_clock_text_is_met, each_text_has_steps, each_text_is_met, explains_as_run,
-    one_avoided_output, one_clock_output, one_output, one_steps_output,
+    explains_as_run, one_avoided_output, one_clock_output, one_output, one_steps_output,
 };
 pub use request::{Request, request_of};
 pub use top::explain;

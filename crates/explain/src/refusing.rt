@@ -40,37 +40,33 @@ pub(crate) fn refuse_length(alloc: Global, file: Option<&[u8]>) -> Result<Answer
     Ok(refused(length_refusal(alloc, file)?))
 }
 
-/// The refusal of a text for its first syntax fault.
+/// The refusal of the text with these places for its first syntax fault.
 pub(crate) fn refuse_syntax(
     alloc: Global,
-    text: &[u8],
     places: &TextPlaces,
     file: Option<&[u8]>,
     fault: SyntaxFault,
 ) -> Result<Answer, NoMemory>
-    requires short { length text.now ≤ MAX_TEXT_BYTES }
-    requires places { places.now ≡ text.now }
-    requires fault { HasFault text.now fault }
-    ensures refusal { IfOk result (IsRefusalOf (file_bytes file.entry) text.now) }
+    requires fault { HasFault places.now fault }
+    ensures refusal { IfOk result (IsRefusalOf (file_bytes file.entry) places.now) }
 {
-    Ok(refused(syntax_refusal(alloc, text, places, file, fault)?))
+    let lines = syntax_refusal(alloc, places.text(), places, file, fault)?;
+    Ok(refused(lines))
 }
 
-// The refusal of a text of this program, of whose first check fault this is known.
+// The refusal of the text with these places, which is this program, of whose first check fault this is known.
 fn refuse_scene(
     alloc: Global,
-    text: &[u8],
     places: TextPlaces,
     file: Option<&[u8]>,
     program: &Program,
     scene: &Scene,
 ) -> Result<Answer, NoMemory>
-    requires short { length text.now ≤ MAX_TEXT_BYTES }
-    requires places { places ≡ text.now }
-    requires reads { IsText text.now program.now }
+    requires reads { IsText places program.now }
     requires scene { IsScene program.now scene.now }
-    ensures refusal { IfOk result (IsRefusalOf (file_bytes file.entry) text.now) }
+    ensures refusal { IfOk result (IsRefusalOf (file_bytes file.entry) places.entry) }
 {
+    let text = places.text();
     let offsets = statement_offsets(alloc, text, program)?;
     let statements = Statements {
         places,
@@ -81,23 +77,21 @@ fn refuse_scene(
     Ok(refused(lines))
 }
 
-/// The refusal of a text of this program for its first check fault.
+/// The refusal of the text with these places, which is this program, for its first check fault.
 pub(crate) fn refuse_check(
     alloc: Global,
-    text: &[u8],
     places: TextPlaces,
     file: Option<&[u8]>,
     program: &Program,
 ) -> Result<Answer, NoMemory>
-    requires short { length text.now ≤ MAX_TEXT_BYTES }
-    requires places { places ≡ text.now }
-    requires few { count program.now.body ≤ length text.now }
-    requires reads { IsText text.now program.now }
+    requires short { length places ≤ MAX_TEXT_BYTES }
+    requires few { count program.now.body ≤ length places }
+    requires reads { IsText places program.now }
     requires fails { (fault : Fault) × (plan_of program.now ≡ Err fault) }
-    ensures refusal { IfOk result (IsRefusalOf (file_bytes file.entry) text.now) }
+    ensures refusal { IfOk result (IsRefusalOf (file_bytes file.entry) places.entry) }
 {
     match scene_of(alloc, program)? {
-        Some(scene) => refuse_scene(alloc, text, places, file, program, &scene),
+        Some(scene) => refuse_scene(alloc, places, file, program, &scene),
         None => unreachable!(),
     }
 }

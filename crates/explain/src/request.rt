@@ -1,7 +1,7 @@
 // What the words ask for.
 ghost use Rattle.std.specs.Prelude.{◌≡◌, [], ◌∷◌, map, string_bytes};
 ghost use Rattle.explain.specs.Requests.{asked, file_asked, names_file, word_asked};
-ghost use Rattle.explain.specs.calls.Requested.{asked_for, file_bytes, requested, wanted_by_word};
+ghost use Rattle.explain.specs.calls.Requested.{asked_for, requested, wanted_by_word};
 
 use crate::answer::Wanted;
 
@@ -20,14 +20,8 @@ const VERSION: &str = "--version";
 /// What the words ask for.
 #[derive(Clone, Copy, Debug)]
 pub enum Request<'w> {
-    /// To explain a text, from the file with this name, or from standard input.
-    Explain(Option<&'w str>),
-    /// To show its run step by step, and to explain it, likewise.
-    Steps(Option<&'w str>),
-    /// To explain its run that avoids deadlock, likewise.
-    Avoid(Option<&'w str>),
-    /// To explain a clock text, likewise.
-    Clocks(Option<&'w str>),
+    /// This of a text, from the file with this name, or from standard input.
+    Text(Wanted, Option<&'w str>),
     /// The lines of help.
     Help,
     /// The line of the version.
@@ -37,24 +31,12 @@ pub enum Request<'w> {
 }
 
 impl<'w> Request<'w> {
-    // The request of this for a text, from the file with this name, or from standard input.
-    fn of_text(wanted: Wanted, file: Option<&'w str>) -> Request<'w>
-        ensures { requested result ≡ asked_for wanted (file_bytes file.entry) }
-    {
-        match wanted {
-            Wanted::Explanation => Request::Explain(file),
-            Wanted::Steps => Request::Steps(file),
-            Wanted::Avoided => Request::Avoid(file),
-            Wanted::Clocks => Request::Clocks(file),
-        }
-    }
-
     // What is asked for where a word can only be the name of the file with the text of which this is wanted.
     fn of_file(wanted: Wanted, word: &'w str) -> Request<'w>
         ensures { requested result ≡ file_asked (asked_for wanted) word.now }
     {
         if names_file(word) {
-            Request::of_text(wanted, Some(word))
+            Request::Text(wanted, Some(word))
         } else {
             Request::Usage
         }
@@ -95,7 +77,7 @@ fn word_request(word: &str) -> Request<'_>
     ensures { requested result ≡ word_asked word.now }
 {
     if let Some(wanted) = wanted_by_word(word) {
-        return Request::of_text(wanted, None);
+        return Request::Text(wanted, None);
     }
     if word == HELP {
         return Request::Help;
@@ -121,7 +103,7 @@ pub fn request_of(words: &[String]) -> Request<'_>
     ensures asked { requested result ≡ asked (map string_bytes words.now) }
 {
     match words {
-        [] => Request::Explain(None),
+        [] => Request::Text(Wanted::Explanation, None),
         [word] => word_request(word.as_str()),
         [word, file] => words_request(word.as_str(), file.as_str()),
         _ => Request::Usage,

@@ -75,12 +75,7 @@ pub fn explain<S: Source, K: Sink>(alloc: Global, words: &[String], src: &mut S,
         (src.new ≡ src.old) (out.new ≡ out.old) result }
 {
     match request_of(words) {
-        Request::Explain(file) => {
-            explain_source(alloc, Wanted::Explanation, file, src, out).code()
-        }
-        Request::Steps(file) => explain_source(alloc, Wanted::Steps, file, src, out).code(),
-        Request::Avoid(file) => explain_source(alloc, Wanted::Avoided, file, src, out).code(),
-        Request::Clocks(file) => explain_source(alloc, Wanted::Clocks, file, src, out).code(),
+        Request::Text(wanted, file) => explain_source(alloc, wanted, file, src, out).code(),
         Request::Help => finish(out, HELP.as_bytes(), ExitStatus::NoDeadlock).code(),
         Request::Version => finish(out, VERSION.as_bytes(), ExitStatus::NoDeadlock).code(),
         Request::Usage => finish(out, USAGE.as_bytes(), ExitStatus::Usage).code(),

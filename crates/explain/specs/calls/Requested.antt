@@ -30,10 +30,7 @@ asked_for Clocks file = clocks file
 
 -- what the request asks for
 abbrev pub requested : request.Request → Asked
-requested (r.Explain file) = asked_for Explanation (file_bytes file)
-requested (r.Steps file) = asked_for Steps (file_bytes file)
-requested (r.Avoid file) = asked_for Avoided (file_bytes file)
-requested (r.Clocks file) = asked_for Clocks (file_bytes file)
+requested (r.Text wanted file) = asked_for wanted (file_bytes file)
 requested r.Help = help
 requested r.Version = version
 requested r.Usage = nothing
