@@ -1,7 +1,7 @@
 // Tasks that pass a test.
 ghost use Rattle.std.specs.Prelude.{◌≡◌, ◌∷◌, ◌++◌, [], Bool, IfOk, OnOk, if◌then◌else◌, slice_get};
 ghost use Rattle.armus_base.specs.declared.ids.TaskId.{TaskId};
-ghost use Rattle.task_sayings.specs.calls.Passing.{Answers, passing_below};
+ghost use Rattle.task_sayings.specs.calls.Passing.{AnswersAsTest, passing_below};
 
 use armus_base::{NoMemory, TaskId};
 use std::alloc::Global;
@@ -23,7 +23,7 @@ pub fn passing_below<F: Fn(TaskId) -> bool>(
     test: F,
 ) -> Result<Vec<TaskId>, NoMemory>
     requires { F.IsAlwaysCallable test }
-    ensures { (p : TaskId → Bool) → Answers (F.post test) p → IfOk result (λ v. v.items ≡ passing_below p count) }
+    ensures { (p : TaskId → Bool) → AnswersAsTest (F.post test) p → IfOk result (λ v. v.items ≡ passing_below p count) }
 {
     let mut all = Vec::new(alloc);
     for t in 0..count {
@@ -35,7 +35,7 @@ pub fn passing_below<F: Fn(TaskId) -> bool>(
 /// The least task below this number that passes a test.
 pub fn least_below<F: Fn(TaskId) -> bool>(count: u32, test: F) -> Option<TaskId>
     requires { F.IsAlwaysCallable test }
-    ensures { (p : TaskId → Bool) → Answers (F.post test) p → result ≡ slice_get (passing_below p count) 0 }
+    ensures { (p : TaskId → Bool) → AnswersAsTest (F.post test) p → result ≡ slice_get (passing_below p count) 0 }
 {
     for t in 0..count {
         if test(TaskId(t)) {
