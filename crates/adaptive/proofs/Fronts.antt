@@ -6,11 +6,11 @@ use Rattle.std.proofs.lemmas.List.{get_or_default}
 use Rattle.armus_base.specs.declared.event.Event.{Event}
 use Rattle.armus_base.specs.declared.ids.PhaserId.{PhaserId}
 use Rattle.armus_base.specs.declared.status.Status.{Status}
-use Rattle.adaptive.specs.declared.standings.Standing.{Standing}
+use Rattle.adaptive.specs.declared.standings.PhaseStanding.{PhaseStanding}
 use Rattle.adaptive.specs.inside.Standings.{AreStandingsOf, IsStandingBelow, IsFirstOnPhaser, IsFront, IsRemainingImpeder, IsStop, IsUnimpeded, StandingsNeverFall, remains_at}
 
 -- a standing as its parts
-standing : ℕ → ℕ → ℕ → Standing
+standing : ℕ → ℕ → ℕ → PhaseStanding
 standing k p n = record { at = record { p = record { 0 = p }; n = n }; status = k }
 
 phaser_of : ℕ → PhaserId
@@ -20,7 +20,7 @@ phaser_is : (p q : PhaserId) → p.0 ≡ q.0 → p ≡ q
 unfolding phaser_of
 phaser_is p q e = ap phaser_of e
 
-module _ (ss : List Status) (xs : List Standing) (remains : List Bool) (are : AreStandingsOf ss xs) (ordered : StandingsNeverFall xs) (e : Event) (i : ℕ)
+module _ (ss : List Status) (xs : List PhaseStanding) (remains : List Bool) (are : AreStandingsOf ss xs) (ordered : StandingsNeverFall xs) (e : Event) (i : ℕ)
     (front : IsFront xs remains e.p.0 i) (stop : IsStop xs remains e.p.0 i) where
   pub impeded_below : IsStandingBelow xs i e → (j : ℕ) × IsRemainingImpeder ss remains e j
   unfolding standing
@@ -74,7 +74,7 @@ told_map true h f g = f h
 told_map false h f g = g h
 
 -- the first standing on a phaser has none on it ahead
-pub first_is_front : (xs : List Standing) (remains : List Bool) (i : ℕ) (d : Standing) → StandingsNeverFall xs → i < length xs → IsFirstOnPhaser xs i →
+pub first_is_front : (xs : List PhaseStanding) (remains : List Bool) (i : ℕ) (d : PhaseStanding) → StandingsNeverFall xs → i < length xs → IsFirstOnPhaser xs i →
     IsFront xs remains (get_or xs i d).at.p.0 i
 first_is_front xs remains i d ordered inside first j e ahead within on =
     elim (first d) [

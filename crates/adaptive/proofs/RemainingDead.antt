@@ -13,7 +13,7 @@ use Rattle.armus_base.specs.calls.Statuses.{IsInOrder}
 use Rattle.dep_state.specs.calls.Picks.{Ascend, IsPick}
 use Rattle.dep_state.proofs.DeadSets.{IsDeadlockedList, dead_by_list, dead_in_list}
 use Rattle.dep_state.proofs.TaskPlaces.{element}
-use Rattle.adaptive.specs.declared.standings.Standing.{Standing}
+use Rattle.adaptive.specs.declared.standings.PhaseStanding.{PhaseStanding}
 use Rattle.adaptive.specs.inside.Remaining.{AllImpeded}
 use Rattle.adaptive.specs.inside.Standings.{AreStandingsOf, IsRemaining, remains_at}
 
@@ -29,7 +29,7 @@ first_remaining ss remains is = record {
   gone = λ k s l e. absurd (let on : remains_at remains k ≡ true = ap (λ xs. remains_at xs k) is ∙ all_remain (length ss) k l in (let no : true ≡ false = sym on ∙ e in cc));
 }
 
-pub first_within : (ss : List Status) (standings : List Standing) (n : ℕ) → AreStandingsOf ss standings → n ≡ length ss → All (λ x. x.status < n) standings
+pub first_within : (ss : List Status) (standings : List PhaseStanding) (n : ℕ) → AreStandingsOf ss standings → n ≡ length ss → All (λ x. x.status < n) standings
 first_within ss standings n are sized k x l =
     let y = get_or standings k x in
     let stands = (are.exact y.status y.at.p.0 y.at.n).0

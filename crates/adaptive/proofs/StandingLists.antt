@@ -13,25 +13,25 @@ use Rattle.armus_base.specs.declared.status.Member.{Member}
 use Rattle.armus_base.specs.declared.status.Status.{Status}
 use Rattle.armus_base.proofs.Elements.{nothing_in_nil}
 use Rattle.dep_state.proofs.DeadSets.{Contains-from_map, Contains-map}
-use Rattle.adaptive.specs.declared.standings.Standing.{Standing}
+use Rattle.adaptive.specs.declared.standings.PhaseStanding.{PhaseStanding}
 use Rattle.adaptive.specs.inside.Standings.{AreStandingsOf, HasStanding, StandingsNeverFall, standing_at}
 use Rattle.dep_state.specs.inside.Made.{NotAfter}
 use Rattle.dep_state.proofs.DistinctEvents.{by_orders}
 
-standing : ℕ → ℕ → ℕ → Standing
+standing : ℕ → ℕ → ℕ → PhaseStanding
 standing k p n = record { at = record { p = record { 0 = p }; n = n }; status = k }
 
 member : ℕ → ℕ → Member
 member p n = record { p = record { 0 = p }; n = n }
 
 -- these are the standings of the statuses below i
-abbrev pub AreBelow : List Status → ℕ → List Standing → Type 0
+abbrev pub AreBelow : List Status → ℕ → List PhaseStanding → Type 0
 AreBelow ss i xs = (k p n : ℕ) → Contains xs (record { at = record { p = record { 0 = p }; n = n }; status = k }) ↔ ((k < i) × HasStanding ss k p n)
 
 pub none_below : (ss : List Status) → AreBelow ss 0 []
 none_below ss k p n = (λ m. absurd (nothing_in_nil _ m), λ h. absurd (let l = h.0 in omega arith))
 
-module _ (ss : List Status) (i : ℕ) (s : Status) (inside : i < length ss) (is : s ≡ get_or ss i s) (xs : List Standing) (below : AreBelow ss i xs) where
+module _ (ss : List Status) (i : ℕ) (s : Status) (inside : i < length ss) (is : s ≡ get_or ss i s) (xs : List PhaseStanding) (below : AreBelow ss i xs) where
   here : (d : Status) → get_or ss i d ≡ s
   here d = get_or_default ss i d s inside ∙ sym is
 
@@ -62,11 +62,11 @@ module _ (ss : List Status) (i : ℕ) (s : Status) (inside : i < length ss) (is 
     ],
   )
 
-pub all_below : (ss : List Status) (i : ℕ) (xs : List Standing) → i ≡ length ss → AreBelow ss i xs → AreStandingsOf ss xs
+pub all_below : (ss : List Status) (i : ℕ) (xs : List PhaseStanding) → i ≡ length ss → AreBelow ss i xs → AreStandingsOf ss xs
 all_below ss i xs e below = record { exact = λ k p n. ((λ c. ((below k p n).0 c).1), λ h. (below k p n).1 (let l = h.0 in omega (arith, e), h)) }
 
 -- in another order they are the same
-pub same_standings : (ss : List Status) (xs ys : List Standing) → IsPermutation xs ys → AreStandingsOf ss xs → AreStandingsOf ss ys
+pub same_standings : (ss : List Status) (xs ys : List PhaseStanding) → IsPermutation xs ys → AreStandingsOf ss xs → AreStandingsOf ss ys
 same_standings ss xs ys moved are = record {
   exact = λ k p n. (
     λ c. (are.exact k p n).0 (Contains-permutation ys xs _ (IsPermutation-sym xs ys moved) c),
@@ -89,12 +89,12 @@ not_after_trans a b c (inl l) (inr m) = inl (omega (arith, m.0))
 not_after_trans a b c (inr l) (inl m) = inl (omega (arith, l.0))
 not_after_trans a b c (inr l) (inr m) = inr (l.0 ∙ m.0, omega (arith, l.1, m.1))
 
-module _ (xs : List Standing) (sorted : IsSorted (λ a b. ordering_then (ordering_then (nat_cmp a.at.p.0 b.at.p.0) (nat_cmp a.at.n b.at.n)) (nat_cmp a.status b.status)) xs) where
+module _ (xs : List PhaseStanding) (sorted : IsSorted (λ a b. ordering_then (ordering_then (nat_cmp a.at.p.0 b.at.p.0) (nat_cmp a.at.n b.at.n)) (nat_cmp a.status b.status)) xs) where
   -- none is before the one ahead of it
-  next_no_earlier : (k : ℕ) (d : Standing) → k + 1 < length xs → NotAfter (get_or xs k d).at (get_or xs (k + 1) d).at
+  next_no_earlier : (k : ℕ) (d : PhaseStanding) → k + 1 < length xs → NotAfter (get_or xs k d).at (get_or xs (k + 1) d).at
   next_no_earlier k d lt =
-      let a : Standing = get_or xs k d in
-      let b : Standing = get_or xs (k + 1) d in
+      let a : PhaseStanding = get_or xs k d in
+      let b : PhaseStanding = get_or xs (k + 1) d in
       by_orders a.at b.at (nat_cmp b.at.p.0 a.at.p.0) (nat_cmp b.at.n a.at.n)
       (ranked b.at.p.0 a.at.p.0 (nat_cmp b.at.p.0 a.at.p.0) refl) (ranked b.at.n a.at.n (nat_cmp b.at.n a.at.n) refl)
       (first_of (ordering_then (nat_cmp b.at.p.0 a.at.p.0) (nat_cmp b.at.n a.at.n)) (nat_cmp b.status a.status) (sorted k d (omega arith) lt))

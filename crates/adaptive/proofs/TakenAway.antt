@@ -7,7 +7,7 @@ use Rattle.armus_base.specs.declared.status.Status.{Status}
 use Rattle.armus_base.specs.Deadlocks.{IsDeadBy}
 use Rattle.armus_base.specs.calls.Statuses.{IsInOrder}
 use Rattle.adaptive.specs.declared.columns.Column.{Column}
-use Rattle.adaptive.specs.declared.standings.Standing.{Standing}
+use Rattle.adaptive.specs.declared.standings.PhaseStanding.{PhaseStanding}
 use Rattle.adaptive.specs.inside.Remaining.{AreFronts, count_remaining}
 use Rattle.adaptive.specs.inside.Standings.{HasStanding, IsRemaining, IsRemainingImpeder, IsUnimpeded, remains_at}
 
@@ -31,7 +31,7 @@ set_remains xs k j e = elim (cases_eq j k) [
     set_here (y ∷ ys) (suc i) = set_here ys i
 
 -- the fronts stay when fewer remain
-pub fronts_stay : (standings : List Standing) (remains : List Bool) (columns : List Column) (k : ℕ) → AreFronts standings remains columns →
+pub fronts_stay : (standings : List PhaseStanding) (remains : List Bool) (columns : List Column) (k : ℕ) → AreFronts standings remains columns →
     AreFronts standings (set remains k false) columns
 fronts_stay standings remains columns k fronts c d within j x ahead inside on = set_remains remains k _ (fronts c d within j x ahead inside on)
 
@@ -77,7 +77,7 @@ module _ (ss : List Status) (order : IsInOrder ss) (remains : List Bool) (are : 
   }
 
 -- each of the places is below the length of the changed list
-pub within_set : (standings : List Standing) (remains : List Bool) (k : ℕ) → All (λ x. x.status < length remains) standings →
+pub within_set : (standings : List PhaseStanding) (remains : List Bool) (k : ℕ) → All (λ x. x.status < length remains) standings →
     All (λ x. x.status < length (set remains k false)) standings
 within_set standings remains k all = subst (λ n. All (λ x. x.status < n) standings) (sym (length-set remains k false)) all
 

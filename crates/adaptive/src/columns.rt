@@ -2,9 +2,9 @@
 ghost use Rattle.std.specs.Prelude.{◌≡◌, ◌<◌, Bool, true, IfOk, IfSome, List, length};
 ghost use Rattle.adaptive.specs.inside.Remaining.{AreFronts, IsColumnOf};
 ghost use Rattle.adaptive.specs.inside.Standings.{IsFirstOnPhaser, IsFront, StandingsNeverFall};
-ghost use Rattle.adaptive.specs.declared.standings.Standing.{Standing};
+ghost use Rattle.adaptive.specs.declared.standings.PhaseStanding.{PhaseStanding};
 
-use crate::standings::Standing;
+use crate::standings::PhaseStanding;
 use armus_base::PhaserId;
 use std::alloc::{AllocError, Global};
 
@@ -30,7 +30,7 @@ pub(crate) fn column_of(columns: &[Column], p: PhaserId) -> Option<usize>
 
 /// The index from which the front of a phaser is looked for.
 pub(crate) fn front_of(columns: &[Column], p: PhaserId) -> usize
-    ensures { (standings : List Standing) (remains : List Bool) → AreFronts standings remains columns.now → IsFront standings remains p.0 result }
+    ensures { (standings : List PhaseStanding) (remains : List Bool) → AreFronts standings remains columns.now → IsFront standings remains p.0 result }
 {
     match column_of(columns, p) {
         Some(c) => columns[c].front,
@@ -40,7 +40,7 @@ pub(crate) fn front_of(columns: &[Column], p: PhaserId) -> usize
 
 /// Keeps the front of a phaser.
 pub(crate) fn keep_front(columns: &mut Vec<Column>, p: PhaserId, front: usize)
-    ensures { (standings : List Standing) (remains : List Bool) → AreFronts standings remains columns.old.items → IsFront standings remains p.0 front →
+    ensures { (standings : List PhaseStanding) (remains : List Bool) → AreFronts standings remains columns.old.items → IsFront standings remains p.0 front →
         AreFronts standings remains columns.new.items }
 {
     match column_of(columns, p) {
@@ -50,7 +50,7 @@ pub(crate) fn keep_front(columns: &mut Vec<Column>, p: PhaserId, front: usize)
 }
 
 // Whether a standing is the first on its phaser.
-fn is_first(standings: &[Standing], i: usize) -> bool
+fn is_first(standings: &[PhaseStanding], i: usize) -> bool
     requires { i < length standings.now }
     ensures { result ≡ true → IsFirstOnPhaser standings.now i }
 {
@@ -58,15 +58,15 @@ fn is_first(standings: &[Standing], i: usize) -> bool
 }
 
 // The index of the first of the waiters on a phaser, which are in order.
-fn first_waiter(waiters: &[Standing], p: PhaserId) -> usize {
+fn first_waiter(waiters: &[PhaseStanding], p: PhaserId) -> usize {
     waiters.partition_point(|waiter| waiter.at.p.0 < p.0)
 }
 
 /// The columns of the phasers on which somebody stands, ascending, where all remain.
 pub(crate) fn columns_of(
     alloc: Global,
-    standings: &[Standing],
-    waiters: &[Standing],
+    standings: &[PhaseStanding],
+    waiters: &[PhaseStanding],
 ) -> Result<Vec<Column>, AllocError>
     requires { StandingsNeverFall standings.now }
     ensures { IfOk result (λ columns. (remains : List Bool) → AreFronts standings.now remains columns.items) }

@@ -7,18 +7,18 @@ ghost use Rattle.adaptive.specs.inside.Remaining.{IsRemainingOf};
 
 use crate::columns::{column_of, columns_of};
 use crate::remaining::Remaining;
-use crate::standings::{Standing, standings_of};
+use crate::standings::{PhaseStanding, standings_of};
 use armus_base::{Event, List, Member, NoMemory, Status, TaskId};
 use dep_state::picked;
 use std::alloc::{AllocError, Global};
 
 // Who waits, at the event of its status.
-fn waiter_at(event: Event, status: u32) -> Standing {
-    Standing { at: event, status }
+fn waiter_at(event: Event, status: u32) -> PhaseStanding {
+    PhaseStanding { at: event, status }
 }
 
 // Who awaits which phase of which phaser, by phaser and then by phase.
-fn waiters_of(alloc: Global, list: &[Status]) -> Result<Vec<Standing>, AllocError>
+fn waiters_of(alloc: Global, list: &[Status]) -> Result<Vec<PhaseStanding>, AllocError>
     requires few { length list.now < 2 ^ 31 }
 {
     let mut waiters = Vec::new(alloc);
@@ -30,7 +30,7 @@ fn waiters_of(alloc: Global, list: &[Status]) -> Result<Vec<Standing>, AllocErro
 }
 
 // All statuses remain, and the waiters that are looked at column by column.
-fn begin(alloc: Global, list: &[Status], waiters: &[Standing]) -> Result<Remaining, NoMemory>
+fn begin(alloc: Global, list: &[Status], waiters: &[PhaseStanding]) -> Result<Remaining, NoMemory>
     requires { IsInOrder list.now }
     ensures { IfOk result (IsRemainingOf list.now) }
 {
@@ -72,7 +72,7 @@ fn all_due(alloc: Global, remaining: &Remaining) -> Result<Vec<usize>, AllocErro
 fn take_due(
     remaining: &mut Remaining,
     list: &[Status],
-    waiters: &[Standing],
+    waiters: &[PhaseStanding],
     due: &mut Vec<usize>,
 ) -> Result<bool, AllocError>
     requires order { IsInOrder list.now }
@@ -100,7 +100,7 @@ fn take_columns(
     alloc: Global,
     remaining: &mut Remaining,
     list: &[Status],
-    waiters: &[Standing],
+    waiters: &[PhaseStanding],
 ) -> Result<(), AllocError>
     requires order { IsInOrder list.now }
     requires kept { IsRemainingOf list.now remaining.old }

@@ -2,11 +2,11 @@
 ghost use Rattle.std.specs.Prelude.{◌<◌, All, MatchBool, length};
 ghost use Rattle.adaptive.specs.inside.Standings.{IsStandingBelow, IsFront, IsPassed, IsStop};
 
-use crate::standings::Standing;
+use crate::standings::PhaseStanding;
 use armus_base::{Event, PhaserId};
 
 // Whether the standing is passed over: it is on an earlier phaser, or its task does not remain.
-fn is_passed(standing: Standing, remains: &[bool], p: PhaserId) -> bool
+fn is_passed(standing: PhaseStanding, remains: &[bool], p: PhaserId) -> bool
     requires { standing.status < length remains.now }
     ensures { MatchBool result (IsPassed remains.now p.0 standing) (IsPassed remains.now p.0 standing → ⊥) }
 {
@@ -15,7 +15,7 @@ fn is_passed(standing: Standing, remains: &[bool], p: PhaserId) -> bool
 
 /// The index of the first standing on phaser `p`, or on a later one, whose task remains, from one ahead of which none on `p` does.
 pub(crate) fn front_from(
-    standings: &[Standing],
+    standings: &[PhaseStanding],
     remains: &[bool],
     p: PhaserId,
     from: usize,
@@ -33,7 +33,7 @@ pub(crate) fn front_from(
 }
 
 /// Whether some task that remains stands on the event's phaser at a phase below, by the first one that does.
-pub(crate) fn is_impeded_at(standings: &[Standing], front: usize, event: Event) -> bool
+pub(crate) fn is_impeded_at(standings: &[PhaseStanding], front: usize, event: Event) -> bool
     ensures { MatchBool result (IsStandingBelow standings.now front event) (IsStandingBelow standings.now front event → ⊥) }
 {
     front < standings.len() && standings[front].at.p == event.p && standings[front].at.n < event.n

@@ -6,19 +6,19 @@ ghost use Rattle.adaptive.specs.inside.Standings.{IsRemainingImpeder, IsUnimpede
 
 use crate::columns::{Column, front_of, keep_front};
 use crate::front::{front_from, is_impeded_at};
-use crate::standings::Standing;
+use crate::standings::PhaseStanding;
 use armus_base::Status;
 
 /// The standings of a list of statuses, the columns of its awaited phasers, and which statuses remain.
 #[derive(Drop)]
 pub(crate) struct Remaining {
-    pub(crate) standings: Vec<Standing>,
+    pub(crate) standings: Vec<PhaseStanding>,
     pub(crate) columns: Vec<Column>,
     pub(crate) remains: Vec<bool>,
 }
 
 // The index of the status of a standing.
-fn index_of(standing: Standing) -> usize {
+fn index_of(standing: PhaseStanding) -> usize {
     standing.status as usize
 }
 
@@ -97,7 +97,7 @@ impl Remaining {
     pub(crate) fn take_next(
         &mut self,
         list: &[Status],
-        waiters: &[Standing],
+        waiters: &[PhaseStanding],
         c: usize,
     ) -> Option<usize>
         requires order { IsInOrder list.now }

@@ -9,16 +9,16 @@ use std::alloc::{AllocError, Global};
 
 /// A phase on a phaser, and the index of the status whose task stands there.
 #[derive(Clone, Copy, Debug, PartialEq, Eq, PartialOrd, Ord)]
-pub(crate) struct Standing {
+pub(crate) struct PhaseStanding {
     pub(crate) at: Event,
     pub(crate) status: u32,
 }
 
 // The standing of a task at one of its phases.
-fn standing_at(member: Member, status: u32) -> Standing
+fn standing_at(member: Member, status: u32) -> PhaseStanding
     ensures { result ≡ standing_at status member }
 {
-    Standing {
+    PhaseStanding {
         at: Event {
             p: member.p,
             n: member.n,
@@ -29,7 +29,7 @@ fn standing_at(member: Member, status: u32) -> Standing
 
 // Adds the standings of one task.
 fn add_phases(
-    standings: &mut Vec<Standing>,
+    standings: &mut Vec<PhaseStanding>,
     phases: &[Member],
     status: u32,
 ) -> Result<(), AllocError>
@@ -42,7 +42,7 @@ fn add_phases(
 }
 
 // The standings of all tasks, status by status.
-fn collected(alloc: Global, list: &[Status]) -> Result<Vec<Standing>, AllocError>
+fn collected(alloc: Global, list: &[Status]) -> Result<Vec<PhaseStanding>, AllocError>
     requires few { length list.now < 2 ^ 31 }
     ensures { IfOk result (λ standings. AreStandingsOf list.now standings.items) }
 {
@@ -54,7 +54,7 @@ fn collected(alloc: Global, list: &[Status]) -> Result<Vec<Standing>, AllocError
 }
 
 /// The standings of all tasks of the list, by phaser and then by phase.
-pub(crate) fn standings_of(alloc: Global, list: &[Status]) -> Result<Vec<Standing>, AllocError>
+pub(crate) fn standings_of(alloc: Global, list: &[Status]) -> Result<Vec<PhaseStanding>, AllocError>
     requires { IsInOrder list.now }
     ensures are { IfOk result (λ standings. AreStandingsOf list.now standings.items) }
     ensures ordered { IfOk result (λ standings. StandingsNeverFall standings.items) }

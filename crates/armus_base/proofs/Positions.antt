@@ -7,39 +7,39 @@ use Rattle.std.proofs.lemmas.Option.{slice_get_within, some_pair_parts}
 use Rattle.armus_base.specs.declared.op.Op.{Op}
 use Rattle.armus_base.specs.declared.piece.Piece.{Piece}
 use Rattle.armus_base.specs.declared.piece.Piece.TheVariants.{Op as Single, Repeat}
-use Rattle.armus_base.specs.declared.cursor.frame.Frame.{Frame}
+use Rattle.armus_base.specs.declared.cursor.frame.OpenRepeat.{OpenRepeat}
 use Rattle.armus_base.specs.declared.cursor.position.Position.{Position}
 use Rattle.armus_base.specs.calls.Pieces.{AreNested, IsFolded, max_open_repeats, ops_between, unfolded}
 use Rattle.armus_base.specs.Pieces.{times}
 use Rattle.armus_base.specs.inside.Positions.{AreOpen, IsBefore, IsFirst, IsInside, IsSettled, KeepsOps, StandsAt}
-use Rattle.armus_base.specs.inside.Positions.{end_of, entered, op_of, open_frames, ops_behind, ops_left, repeat_of}
+use Rattle.armus_base.specs.inside.Positions.{end_of_body, entered, op_of, open_frames, ops_behind, ops_left, repeat_of}
 use Rattle.armus_base.proofs.Unfolding.{nested_within}
 use Rattle.armus_base.proofs.Nesting.{nested_op, nested_order, nested_repeat, none_between, op_first, repeat_first}
 
 -- ---- the Repeats that are open
 
 -- one more
-opened : (frames : List Frame) (d : ℕ) (frame : Frame) → d < length frames → reverse (take (d + 1) (set frames d frame)) ≡ frame ∷ reverse (take d frames)
+opened : (frames : List OpenRepeat) (d : ℕ) (frame : OpenRepeat) → d < length frames → reverse (take (d + 1) (set frames d frame)) ≡ frame ∷ reverse (take d frames)
 opened frames d frame h = ap reverse (take_more_set frames d frame h) ∙ reverse-append (take d frames) (frame ∷ [])
 
 -- the innermost
-innermost : (frames : List Frame) (d : ℕ) (other : Frame) → d < length frames → reverse (take (d + 1) frames) ≡ get_or frames d other ∷ reverse (take d frames)
+innermost : (frames : List OpenRepeat) (d : ℕ) (other : OpenRepeat) → d < length frames → reverse (take (d + 1) frames) ≡ get_or frames d other ∷ reverse (take d frames)
 innermost frames d other h = ap reverse (take_more frames d other h) ∙ reverse-append (take d frames) (get_or frames d other ∷ [])
 
 -- a position, by the Repeats that are open there
-stands_by : (ps : List Piece) (p : Position) (d : ℕ) (frames : List Frame) → length p.frames ≡ max_open_repeats → p.depth ≤ max_open_repeats →
-    max_open_repeats - p.depth ≡ d → open_frames p ≡ frames → AreNested d ps p.at (end_of ps frames) → AreOpen d ps frames → StandsAt ps p
+stands_by : (ps : List Piece) (p : Position) (d : ℕ) (frames : List OpenRepeat) → length p.frames ≡ max_open_repeats → p.depth ≤ max_open_repeats →
+    max_open_repeats - p.depth ≡ d → open_frames p ≡ frames → AreNested d ps p.at (end_of_body ps frames) → AreOpen d ps frames → StandsAt ps p
 stands_by ps p d frames sized deep less same here round = record {
   sized = sized;
   deep = deep;
-  here = subst (λ e. AreNested e ps p.at (end_of ps (open_frames p))) (sym less) (subst (λ fs. AreNested d ps p.at (end_of ps fs)) (sym same) here);
+  here = subst (λ e. AreNested e ps p.at (end_of_body ps (open_frames p))) (sym less) (subst (λ fs. AreNested d ps p.at (end_of_body ps fs)) (sym same) here);
   round = subst (λ e. AreOpen e ps (open_frames p)) (sym less) (subst (λ fs. AreOpen d ps fs) (sym same) round);
 }
 
 -- what is left there
-left_by : (ps : List Piece) (p : Position) (frames : List Frame) → open_frames p ≡ frames →
-    ops_left ps p ≡ ops_between ps p.at (end_of ps frames) ++ ops_behind ps frames
-left_by ps p frames same = ap (λ fs. ops_between ps p.at (end_of ps fs) ++ ops_behind ps fs) same
+left_by : (ps : List Piece) (p : Position) (frames : List OpenRepeat) → open_frames p ≡ frames →
+    ops_left ps p ≡ ops_between ps p.at (end_of_body ps frames) ++ ops_behind ps frames
+left_by ps p frames same = ap (λ fs. ops_between ps p.at (end_of_body ps fs) ++ ops_behind ps fs) same
 
 -- ---- a walk that begins
 
@@ -59,7 +59,7 @@ first_left ps p first =
 -- ---- a Repeat is opened
 
 -- a walk that has a piece before it, and is not at the end of the innermost body
-before_end : (ps : List Piece) (at : ℕ) (frames : List Frame) → IsBefore at frames → at < length ps → at < end_of ps frames
+before_end : (ps : List Piece) (at : ℕ) (frames : List OpenRepeat) → IsBefore at frames → at < length ps → at < end_of_body ps frames
 before_end ps at [] inside there = there
 before_end ps at (frame ∷ frames) inside there = inside
 
@@ -83,17 +83,17 @@ enters ps p k len stands inside is =
     let fs = open_frames p in
     let e = p.at + 1 + len in
     let place : e ≡ suc at + len = omega arith in
-    let before : at < end_of ps fs = before_end ps at fs inside (slice_get_within ps at (Repeat k len) is) in
-    let o = nested_repeat (max_open_repeats - p.depth) ps k len at e (end_of ps fs) is place before stands.here in
+    let before : at < end_of_body ps fs = before_end ps at fs inside (slice_get_within ps at (Repeat k len) is) in
+    let o = nested_repeat (max_open_repeats - p.depth) ps k len at e (end_of_body ps fs) is place before stands.here in
     let room : p.depth < max_open_repeats = omega (arith, o.one_more) in
-    let frame : Frame = record { from = at + 1; to = e; turns = k - 1 } in
+    let frame : OpenRepeat = record { from = at + 1; to = e; turns = k - 1 } in
     let now : open_frames (entered k len p) ≡ frame ∷ fs = opened p.frames p.depth frame (omega (arith, stands.sized)) in
     let body : AreNested o.less ps (at + 1) e = subst (λ a. AreNested o.less ps a e) (sym (add-one at)) o.body in
     let round : AreOpen (suc o.less) ps fs = subst (λ d. AreOpen d ps fs) o.one_more stands.round in
     let longer : at + 1 < e = omega (arith, o.pieces) in
-    let rest = ops_between ps e (end_of ps fs) in
-    let first : ops_between ps at (end_of ps fs) ≡ times k (ops_between ps (at + 1) e) ++ rest =
-    repeat_first ps k len at e (end_of ps fs) is place before ∙ ap (λ a. times k (ops_between ps a e) ++ rest) (sym (add-one at)) in
+    let rest = ops_between ps e (end_of_body ps fs) in
+    let first : ops_between ps at (end_of_body ps fs) ≡ times k (ops_between ps (at + 1) e) ++ rest =
+    repeat_first ps k len at e (end_of_body ps fs) is place before ∙ ap (λ a. times k (ops_between ps a e) ++ rest) (sym (add-one at)) in
     let sized = length-set p.frames p.depth frame ∙ stands.sized in
     record {
       room = room;
@@ -121,21 +121,21 @@ enters_found ps p r k len stands inside is found = enters ps p k len stands insi
 -- ---- the innermost body ends
 
 -- a walk at the end of a body
-ended_left : (ps : List Piece) (p : Position) (frame : Frame) (frames : List Frame) → open_frames p ≡ frame ∷ frames → frame.to ≤ p.at → StandsAt ps p →
+ended_left : (ps : List Piece) (p : Position) (frame : OpenRepeat) (frames : List OpenRepeat) → open_frames p ≡ frame ∷ frames → frame.to ≤ p.at → StandsAt ps p →
     ops_left ps p ≡ ops_behind ps (frame ∷ frames)
 ended_left ps p frame frames is end stands =
     let d = max_open_repeats - p.depth in
-    let here : AreNested d ps p.at frame.to = subst (λ fs. AreNested d ps p.at (end_of ps fs)) is stands.here in
+    let here : AreNested d ps p.at frame.to = subst (λ fs. AreNested d ps p.at (end_of_body ps fs)) is stands.here in
     let there : p.at ≡ frame.to = omega (arith, nested_order d ps p.at frame.to here) in
     left_by ps p (frame ∷ frames) is ∙ ap (λ a. ops_between ps a frame.to ++ ops_behind ps (frame ∷ frames)) there
     ∙ ap (λ os. os ++ ops_behind ps (frame ∷ frames)) (none_between ps frame.to)
 
 -- the innermost Repeat that is open, of which there is one
-abbrev frame_of : Position → Frame → Frame
+abbrev frame_of : Position → OpenRepeat → OpenRepeat
 frame_of p other = get_or p.frames (p.depth - 1) other
 
 -- the next turn of the innermost Repeat
-abbrev pub turned : Position → Frame → Position
+abbrev pub turned : Position → OpenRepeat → Position
 turned p frame = record {
   at = frame.from;
   depth = p.depth;
@@ -146,7 +146,7 @@ one_turn_less : (k : ℕ) (once behind : List Op) → 0 < k → once ++ (times (
 one_turn_less zero once behind h = absurd (omega arith)
 one_turn_less (suc k) once behind h = let one_less : suc k - 1 ≡ k = omega arith in rw one_less (simp append_assoc)
 
-module _ (ps : List Piece) (p : Position) (other : Frame) (some : 0 < p.depth) (stands : StandsAt ps p) where
+module _ (ps : List Piece) (p : Position) (other : OpenRepeat) (some : 0 < p.depth) (stands : StandsAt ps p) where
   innermost_is : open_frames p ≡ frame_of p other ∷ reverse (take (p.depth - 1) p.frames)
   innermost_is =
       let depth : p.depth ≡ p.depth - 1 + 1 = omega arith in
@@ -162,7 +162,7 @@ module _ (ps : List Piece) (p : Position) (other : Frame) (some : 0 < p.depth) (
   turns_again end turn =
       let frame = frame_of p other in
       let fs = reverse (take (p.depth - 1) p.frames) in
-      let next : Frame = record { from = frame.from; to = frame.to; turns = frame.turns - 1 } in
+      let next : OpenRepeat = record { from = frame.from; to = frame.to; turns = frame.turns - 1 } in
       let depth : p.depth ≡ p.depth - 1 + 1 = omega arith in
       let now : open_frames (turned p frame) ≡ next ∷ fs =
       ap (λ n. reverse (take n (set p.frames (p.depth - 1) next))) depth ∙ opened p.frames (p.depth - 1) next (omega (arith, stands.deep, stands.sized)) in
@@ -172,7 +172,7 @@ module _ (ps : List Piece) (p : Position) (other : Frame) (some : 0 < p.depth) (
         record {
           stands = stands_by ps (turned p frame) d (next ∷ fs) sized stands.deep refl now round.1 round;
           same = left_by ps (turned p frame) (next ∷ fs) now
-              ∙ one_turn_less frame.turns (ops_between ps frame.from frame.to) (ops_between ps frame.to (end_of ps fs) ++ ops_behind ps fs) turn
+              ∙ one_turn_less frame.turns (ops_between ps frame.from frame.to) (ops_between ps frame.to (end_of_body ps fs) ++ ops_behind ps fs) turn
               ∙ sym (ended_left ps p frame fs innermost_is end stands);
         },
         subst (λ gs. IsBefore frame.from gs) (sym now) round.0,
@@ -186,15 +186,15 @@ module _ (ps : List Piece) (p : Position) (other : Frame) (some : 0 < p.depth) (
       let none : frame.turns ≡ 0 = omega arith in
       let d = max_open_repeats - p.depth in
       let round = subst (λ gs. AreOpen d ps gs) innermost_is stands.round in
-      let here : AreNested d ps p.at frame.to = subst (λ gs. AreNested d ps p.at (end_of ps gs)) innermost_is stands.here in
+      let here : AreNested d ps p.at frame.to = subst (λ gs. AreNested d ps p.at (end_of_body ps gs)) innermost_is stands.here in
       let same_place : frame.to ≡ p.at = omega (arith, nested_order d ps p.at frame.to here) in
-      let behind = subst (λ a. AreNested (suc d) ps a (end_of ps fs)) same_place round.2 in
+      let behind = subst (λ a. AreNested (suc d) ps a (end_of_body ps fs)) same_place round.2 in
       let deep : p.depth - 1 ≤ max_open_repeats = omega (arith, stands.deep) in
       let one_more : max_open_repeats - (p.depth - 1) ≡ suc d = omega (arith, stands.deep, some) in
       record {
         stands = stands_by ps (record p { depth = p.depth - 1 }) (suc d) fs stands.sized deep one_more refl behind round.3;
-        same = ap (λ a. ops_between ps a (end_of ps fs) ++ ops_behind ps fs) (sym same_place)
-            ∙ ap (λ k. times k (ops_between ps frame.from frame.to) ++ (ops_between ps frame.to (end_of ps fs) ++ ops_behind ps fs)) (sym none)
+        same = ap (λ a. ops_between ps a (end_of_body ps fs) ++ ops_behind ps fs) (sym same_place)
+            ∙ ap (λ k. times k (ops_between ps frame.from frame.to) ++ (ops_between ps frame.to (end_of_body ps fs) ++ ops_behind ps fs)) (sym none)
             ∙ sym (ended_left ps p frame fs innermost_is end stands);
       }
 
@@ -226,7 +226,7 @@ pub takes : (ps : List Piece) (p : Position) (x : Op) → IsSettled ps p → op_
 takes ps p x settled is =
     let d = max_open_repeats - p.depth in
     let fs = open_frames p in
-    let e = end_of ps fs in
+    let e = end_of_body ps fs in
     let piece = op_of_is (slice_get ps p.at) x is in
     let there : p.at < length ps = slice_get_within ps p.at (Single x) piece in
     let before = before_end ps p.at fs settled.inside there in
@@ -239,8 +239,8 @@ takes ps p x settled is =
     }
 
 -- no piece is left
-nothing_left : (d : ℕ) (ps : List Piece) (at : ℕ) (frames : List Frame) → IsBefore at frames → AreNested d ps at (end_of ps frames) → length ps ≤ at →
-    ops_between ps at (end_of ps frames) ++ ops_behind ps frames ≡ []
+nothing_left : (d : ℕ) (ps : List Piece) (at : ℕ) (frames : List OpenRepeat) → IsBefore at frames → AreNested d ps at (end_of_body ps frames) → length ps ≤ at →
+    ops_between ps at (end_of_body ps frames) ++ ops_behind ps frames ≡ []
 nothing_left d ps at [] inside here past =
     let end : at ≡ length ps = omega (arith, nested_order d ps at (length ps) here) in
     append-nil (ops_between ps at (length ps)) ∙ ap (λ a. ops_between ps a (length ps)) end ∙ none_between ps (length ps)

@@ -20,7 +20,7 @@ const USAGE: &str = "usage: armus check|run|avoid|record|replay|gen|clock|pool\n
 
 /// A command with its input.
 #[derive(Drop)]
-pub(crate) struct Request {
+pub(crate) struct CommandInput {
     pub(crate) command: Command,
     pub(crate) input: List<u8>,
 }
@@ -88,7 +88,7 @@ pub(crate) fn request_of<S: Source, K: Sink>(
     words: &[String],
     src: &mut S,
     out: &mut K,
-) -> Result<Request, ExitStatus>
+) -> Result<CommandInput, ExitStatus>
     ensures means { IfOk result (λ r. Means (map string_bytes words.now) (Some r.command)) }
     ensures read { IfOk result (λ r. IsReadFor r.command (passage S.left S.faults src.old src.new) r.input) }
     ensures same { IfOk result (λ r. limit_of r.command ≡ None → src.new ≡ src.old) }
@@ -98,7 +98,7 @@ pub(crate) fn request_of<S: Source, K: Sink>(
 {
     match command_in(alloc, words) {
         Ok(Some(command)) => match input_for(alloc, &command, src, out) {
-            Ok(input) => Ok(Request { command, input }),
+            Ok(input) => Ok(CommandInput { command, input }),
             Err(status) => Err(status),
         },
         Ok(None) => Err(finish(out, USAGE.as_bytes(), ExitStatus::Usage)),

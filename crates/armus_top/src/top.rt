@@ -7,7 +7,7 @@ ghost use Rattle.armus_top.specs.Replayable.{WritesReplayable};
 ghost use Rattle.armus_top.specs.Headline.{IsServed};
 ghost use Rattle.armus_top.specs.calls.Headline.{passage};
 
-use crate::requests::{Request, request_of};
+use crate::requests::{CommandInput, request_of};
 use crate::running::CallSetting;
 use armus_base::{Gate, Sink, Source};
 use armus_words::{POOL, RECORD};
@@ -34,7 +34,7 @@ pub fn armus_plain<R: Threads + Sync, S: Source, K: Sink, G: Gate>(
 {
     match request_of(alloc, words, src, out) {
         Ok(request) => {
-            let Request { command, input } = request;
+            let CommandInput { command, input } = request;
             let setting = CallSetting { rt, alloc, gate };
             setting.serve(&command, input.as_slice(), out).code()
         }
@@ -59,7 +59,7 @@ pub fn armus_journal<R: Threads + Wait + Sync, S: Source, K: Sink, G: Gate>(
 {
     match request_of(alloc, words, src, out) {
         Ok(request) => {
-            let Request { command, input } = request;
+            let CommandInput { command, input } = request;
             let setting = CallSetting { rt, alloc, gate };
             setting
                 .serve_waiting(&command, input.as_slice(), out)

@@ -28,7 +28,7 @@ use Rattle.verdict.specs.calls.Cycles.{HaveEvents, IsCycle, IsCycleOf}
 use Rattle.verdict.specs.declared.found.Cycle.{Cycle}
 use Rattle.verdict.proofs.Passes.{is_cycle}
 use Rattle.avoider.specs.calls.Decisions.{ExplainsDeath, supposed_statuses}
-use Rattle.avoider.specs.declared.walking.Walk.{Walk}
+use Rattle.avoider.specs.declared.walking.ImpederWalk.{ImpederWalk}
 use Rattle.avoider.specs.inside.Walks.{AreAlive, ArePassed, GoesTo, IsAwaiting, IsOnItsWay, IsUnder}
 use Rattle.avoider.proofs.CycleDead.{cycle_dead}
 use Rattle.avoider.proofs.RefusedInCycle.{refused_in_cycle}
@@ -248,7 +248,7 @@ module _ (w : WorldValue) (checked : IsCheckedPlan w.plan) (reach : IsReachable 
 
   -- the cycle in which a walk closes explains the death of the task whose await is decided
   pub outcome :
-      IsAtAwaitOf w t e → NobodyDead (state_of w) → (walk : Walk) (on : IsOnItsWay ss (length w.plan.parents) walk) (k : ℕ) → k < length walk.path.items →
+      IsAtAwaitOf w t e → NobodyDead (state_of w) → (walk : ImpederWalk) (on : IsOnItsWay ss (length w.plan.parents) walk) (k : ℕ) → k < length walk.path.items →
       ((d : TaskId) → get_or walk.path.items k d ≡ walk.at) → (c : Cycle) → c.tasks ≡ drop k walk.path.items → HaveEvents ss (drop k walk.path.items) c.events → ExplainsDeath ss t c
   outcome before nobody walk on k lt there c same have =
       let list = dead_list_exists ss in

@@ -24,7 +24,7 @@ const MOST_LOOKS: usize = 12;
 
 /// A walk from the least task that may be dead, each time to the least one that may be dead and impedes the event of the task before it.
 #[derive(Drop)]
-pub(crate) struct Walk {
+pub(crate) struct ImpederWalk {
     // for each task whether it is known that it is not dead
     pub(crate) alive: Vec<bool>,
     // the tasks that were passed
@@ -163,7 +163,7 @@ fn cycle_of(
     })
 }
 
-impl Walk {
+impl ImpederWalk {
     // The walk begins anew, at the least published task that may be dead; false only where nobody is dead.
     fn begin(&mut self, alloc: Global, world: &World, t: TaskId, event: Event) -> bool
         requires task { t.0 < length world.now.plan.parents }
@@ -236,7 +236,7 @@ pub(crate) fn told_by_walks(
     ensures { IfOk result (λ told. IfSome told (IsOutcome (supposed_statuses world.now t.0 event) t.0)) }
 {
     let _plan = world.plan();
-    let mut walk = Walk {
+    let mut walk = ImpederWalk {
         alive: vec![in alloc; false; world.plan().tasks() as usize]?,
         path: Vec::new(alloc),
         at: t,

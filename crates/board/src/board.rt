@@ -10,7 +10,7 @@ ghost use Rattle.board.specs.inside.FirstViews.{IsFirstView};
 ghost use Rattle.board.specs.calls.Seats.{IsOf, IsNewSeat, nothing_seen};
 
 use crate::mode::{Mode, Setting};
-use crate::rule::{Cells, Place};
+use crate::rule::{BoardTable, TableSeat};
 use crate::task_seat::TaskSeat;
 use crate::view_seat::ViewSeat;
 use crate::words::Words;
@@ -23,7 +23,7 @@ use std::snapshot::Snapshot;
 /// own).
 #[derive(Drop)]
 pub struct Board {
-    pub(crate) cells: Cells,
+    pub(crate) cells: BoardTable,
     tasks: u32,
     phasers: u32,
     setting: Setting,
@@ -68,7 +68,7 @@ impl Board {
     }
 
     // The board, and the first seat's place in its table.
-    fn open(alloc: Global, plan: &Plan, mode: Mode) -> Result<(Board, Place), NoMemory>
+    fn open(alloc: Global, plan: &Plan, mode: Mode) -> Result<(Board, TableSeat), NoMemory>
         ensures board { IfOk result (λ r. (r.0.plan ≡ plan.now) × (r.0.mode ≡ mode)) }
         ensures place { IfOk result (λ r. (r.1.table_id ≡ r.0.table) × (r.1.me.1 ≡ []) × IsFirstView r.0 r.1.me.0) }
     {
@@ -79,7 +79,7 @@ impl Board {
             plan: Snapshot::of(plan),
             mode,
         };
-        let (cells, place) = Cells::of_words(alloc, words.as_slice(), &setting)?;
+        let (cells, place) = BoardTable::of_words(alloc, words.as_slice(), &setting)?;
         let board = Board {
             cells,
             tasks,

@@ -6,12 +6,12 @@ ghost use Rattle.board.specs.calls.Views.{found_of};
 use crate::board::Board;
 use crate::numbers::{phase_of, seen_of};
 use crate::plays::{Looks, Watches};
-use crate::rule::Place;
+use crate::rule::TableSeat;
 use crate::seen::Seen;
 use armus_base::{Phase, PhaserId, TaskId};
 
 // One load of an await word.
-pub(crate) fn load_await_by(place: &mut Place, board: &Board, t: TaskId) -> Seen
+pub(crate) fn load_await_by(place: &mut TableSeat, board: &Board, t: TaskId) -> Seen
     requires made { IsOf (record { table = place.old.table_id; view = place.old.me.0 }) board.now }
     requires seat { IsSeat (record { table = place.old.table_id; view = place.old.me.0 }) }
     requires task { t.0 < length board.now.plan.parents }
@@ -25,7 +25,7 @@ pub(crate) fn load_await_by(place: &mut Place, board: &Board, t: TaskId) -> Seen
 
 // One load of a phase word.
 pub(crate) fn load_phase_by(
-    place: &mut Place,
+    place: &mut TableSeat,
     board: &Board,
     t: TaskId,
     p: PhaserId,

@@ -84,9 +84,9 @@ impl Play<(), View> for Watches {
 }
 
 /// A load that tells only that the view is one of the board's.
-pub(crate) struct Counts;
+pub(crate) struct CountsLoad;
 
-impl Play<(), View> for Counts {
+impl Play<(), View> for CountsLoad {
     ghost use Rattle.board.specs.calls.Steps.{Counted};
 
     ghost then = { Counted };

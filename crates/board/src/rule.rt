@@ -5,9 +5,9 @@ use atomic_table::{Seat, Table, TableRule};
 use std::alloc::Global;
 
 /// The rule of a board.
-pub struct Law;
+pub struct BoardRule;
 
-impl TableRule<(), View, Setting> for Law {
+impl TableRule<(), View, Setting> for BoardRule {
     ghost use Rattle.board.specs.calls.Rule.{IsKept, first_view};
 
     ghost holds = { IsKept };
@@ -15,6 +15,6 @@ impl TableRule<(), View, Setting> for Law {
     ghost first = { first_view };
 }
 
-pub type Cells = Table<(), View, Setting, Law, Global>;
+pub type BoardTable = Table<(), View, Setting, BoardRule, Global>;
 
-pub type Place = Seat<(), View>;
+pub type TableSeat = Seat<(), View>;

@@ -22,7 +22,7 @@ use crate::plays::{
     Acts, Frees, Looks, Opens, Publishes, Recalls, Refuses, SeesUnforked, SplitsChild, Tries,
     Withdraws,
 };
-use crate::rule::Place;
+use crate::rule::TableSeat;
 use crate::seen::Seen;
 use armus_base::{Event, NoMemory, Offset, Phase, PhaserId, TaskId};
 use std::alloc::Global;
@@ -31,7 +31,7 @@ use std::marker::Model;
 /// The seat of a task: who has it makes the task's steps on the board. Contracts see of which board it is, and what it has seen.
 #[derive(Drop)]
 pub struct TaskSeat {
-    place: Place,
+    place: TableSeat,
     task: TaskId,
     scanned: u32,
     awaited: Option<Event>,
@@ -87,7 +87,7 @@ fn is_behind(found: Option<Phase>, event: Event) -> bool
 
 impl TaskSeat {
     // The seat of task 0, and the first viewer's place.
-    pub(crate) fn begin(board: &Board, mut place: Place) -> (TaskSeat, Place)
+    pub(crate) fn begin(board: &Board, mut place: TableSeat) -> (TaskSeat, TableSeat)
         requires place { (place.table_id ≡ board.now.table) × (place.me.1 ≡ []) }
         requires first { IsFirstView board.now place.me.0 }
         ensures seat { IsNewSeat board.now (Some 0) (seen_by_child 0 nothing_seen) result.0 }
@@ -103,7 +103,7 @@ impl TaskSeat {
         (seat, other)
     }
 
-    pub(crate) fn into_place(self) -> Place
+    pub(crate) fn into_place(self) -> TableSeat
         ensures place { (result.table_id ≡ self.table) × (result.me ≡ (self.view, [])) }
         ensures seat { IsSeat self × IsSome self.view.own }
     {

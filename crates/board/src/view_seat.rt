@@ -6,8 +6,8 @@ ghost use Rattle.board.specs.calls.Seats.{Known, IsOf, IsSeat, IsNewSeat, Answer
 use crate::board::Board;
 use crate::loads::Loads;
 use crate::place_loads::{load_await_by, load_phase_by};
-use crate::plays::{Copies, Counts, JoinsSeat};
-use crate::rule::Place;
+use crate::plays::{Copies, CountsLoad, JoinsSeat};
+use crate::rule::TableSeat;
 use crate::seen::Seen;
 use crate::task_seat::TaskSeat;
 use armus_base::{NoMemory, Phase, PhaserId, TaskId};
@@ -17,7 +17,7 @@ use std::marker::Model;
 /// A seat that only looks, and that takes in the seats of tasks which have ended. Contracts see of which board it is, and what it has seen.
 #[derive(Drop)]
 pub struct ViewSeat {
-    place: Place,
+    place: TableSeat,
 }
 
 impl Model for ViewSeat {
@@ -25,23 +25,23 @@ impl Model for ViewSeat {
 
     ghost Value = { Known };
 
-    ghost use Rattle.board.specs.calls.Viewing.{known_of};
+    ghost use Rattle.board.specs.calls.Viewing.{known_of_viewer};
     ghost use Rattle.board.specs.inside.Viewing.{Views};
 
-    ghost view = { known_of };
+    ghost view = { known_of_viewer };
 
     ghost invariant = { Views };
 }
 
 impl ViewSeat {
-    pub(crate) fn of(place: Place) -> ViewSeat
+    pub(crate) fn of(place: TableSeat) -> ViewSeat
         requires { (place.me.1 ≡ []) × (place.me.0.own ≡ None) × (place.me.0.holds ≡ false) × IsSeat (record { table = place.table_id; view = place.me.0 }) }
         ensures { result ≡ record { table = place.table_id; view = place.me.0 } }
     {
         ViewSeat { place }
     }
 
-    pub(crate) fn into_place(self) -> Place
+    pub(crate) fn into_place(self) -> TableSeat
         ensures place { (result.table_id ≡ self.table) × (result.me ≡ (self.view, [])) }
         ensures seat { (self.view.own ≡ None) × IsSeat self }
     {
@@ -60,7 +60,7 @@ impl ViewSeat {
             .cells
             .shared
             .join_seat::<JoinsSeat>(&mut self.place, other);
-        board.cells.shared.load::<Counts>(&mut self.place, 0);
+        board.cells.shared.load::<CountsLoad>(&mut self.place, 0);
     }
 
     /// A second viewer that has seen the same. It takes no memory, so it never answers `NoMemory`.

@@ -11,7 +11,7 @@ use Rattle.pl_plan.specs.declared.step.Step.{Step}
 use Rattle.pl_plan.specs.declared.step.Step.TheVariants as a_step
 use Rattle.pl_plan.specs.inside.Steps.{IsSpelled, IsStep, step_at}
 use Rattle.pl_plan.proofs.Spelled.{spelled_count}
-use Rattle.check_scenes.specs.declared.frames.Frame.{Frame}
+use Rattle.check_scenes.specs.declared.frames.OpenBody.{OpenBody}
 use Rattle.check_scenes.specs.declared.frames.Item.{Item}
 use Rattle.check_scenes.specs.inside.Framed.{Comes, FrameIs, FramesAre, an_item, frames_after, frames_at, next_item, to_adv, to_await, to_dereg, to_fork, to_loop, to_new_phaser, to_new_task, to_reg, to_skip, to_turn}
 
@@ -40,7 +40,7 @@ some_left {i} left e = elim (eqb_tells i 0) [
 module _ (n : ℕ) (names : ℕ → List ℕ) (steps : List Step) where
   -- ---- the innermost frame
 
-  pub frames_push : (fs : List Frame) (f : Frame) (own ms : List Visit) → FrameIs n names steps f own → FramesAre n names steps fs ms → FramesAre n names steps (fs ++ f ∷ []) (own ++ ms)
+  pub frames_push : (fs : List OpenBody) (f : OpenBody) (own ms : List Visit) → FrameIs n names steps f own → FramesAre n names steps fs ms → FramesAre n names steps (fs ++ f ∷ []) (own ++ ms)
   frames_push [] f own ms is none = ([], own, is, refl, ap (λ z. own ++ z) none ∙ nil_right own)
   frames_push (g ∷ fs) f own ms is are = (
     own ++ are.0,
@@ -50,14 +50,14 @@ module _ (n : ℕ) (names : ℕ → List ℕ) (steps : List Step) where
     ap (λ z. own ++ z) are.4 ∙ sym (append_assoc own are.0 are.1),
   )
 
-  pub record Popped (fs : List Frame) (f : Frame) (ms : List Visit) : Type 0 where
+  pub record Popped (fs : List OpenBody) (f : OpenBody) (ms : List Visit) : Type 0 where
     pub own : List Visit
     pub rest : List Visit
     pub is : FrameIs n names steps f own
     pub are : FramesAre n names steps fs rest
     pub visits_are : ms ≡ own ++ rest
 
-  pub frames_pop : (fs : List Frame) (f : Frame) (ms : List Visit) → FramesAre n names steps (fs ++ f ∷ []) ms → Popped fs f ms
+  pub frames_pop : (fs : List OpenBody) (f : OpenBody) (ms : List Visit) → FramesAre n names steps (fs ++ f ∷ []) ms → Popped fs f ms
   frames_pop [] f ms are =
       record {
         own = are.1;
@@ -79,7 +79,7 @@ module _ (n : ℕ) (names : ℕ → List ℕ) (steps : List Step) where
   -- ---- it goes on
 
   -- it came to this visit, and has these left
-  pub record WentOn (f : Frame) (ms : List Visit) (item : Item) (fs new : List Frame) : Type 0 where
+  pub record WentOn (f : OpenBody) (ms : List Visit) (item : Item) (fs new : List OpenBody) : Type 0 where
     pub visit_is : Visit
     pub comes_to : Comes n names steps item visit_is
     pub left : List Visit
@@ -87,11 +87,11 @@ module _ (n : ℕ) (names : ℕ → List ℕ) (steps : List Step) where
     pub within : item.at < length steps
     pub frames_are : (rest : List Visit) → FramesAre n names steps fs rest → FramesAre n names steps new (left ++ rest)
 
-  abbrev turns_of : Frame → Tree → List Visit
+  abbrev turns_of : OpenBody → Tree → List Visit
   turns_of f body = times f.left (visit (f.of_loop + 1) a_turn ∷ visits_of (f.of_loop + 1 + 1) body)
 
   -- the frame stands behind a statement
-  behind : (f : Frame) (own : List Visit) (is : FrameIs n names steps f own) (at : ℕ) (rest : Tree) → IsSpelled n names steps at rest f.to →
+  behind : (f : OpenBody) (own : List Visit) (is : FrameIs n names steps f own) (at : ℕ) (rest : Tree) → IsSpelled n names steps at rest f.to →
       FrameIs n names steps (record f { at = at }) (visits_of (at + 1) rest ++ turns_of f is.body)
   behind f own is at rest there = record {
     rest = rest;
@@ -126,7 +126,7 @@ module _ (n : ℕ) (names : ℕ → List ℕ) (steps : List Step) where
       (subst (λ y. Comes n names steps (an_item at false (a_step.Await h.0 off)) (visit (at + 1) (a_plain (await y off)))) h.2.1 (to_await h.0 off h.2.0 h.3))
   plain_comes at step skip h = subst (λ z. Comes n names steps (an_item at false z) (visit (at + 1) (a_plain skip))) (sym h) to_skip
 
-  plain_frames : (f : Frame) (step : Step) (c : Plain) (fs : List Frame) → IsStep n names step c → frames_at f step fs ≡ fs ++ record f { at = f.at + 1 } ∷ []
+  plain_frames : (f : OpenBody) (step : Step) (c : Plain) (fs : List OpenBody) → IsStep n names step c → frames_at f step fs ≡ fs ++ record f { at = f.at + 1 } ∷ []
   plain_frames f step (new_task x) fs h = ap (λ z. frames_at f z fs) h.1
   plain_frames f step (new_phaser x) fs h = ap (λ z. frames_at f z fs) h.1
   plain_frames f step (reg x y) fs h = ap (λ z. frames_at f z fs) h.2
@@ -135,7 +135,7 @@ module _ (n : ℕ) (names : ℕ → List ℕ) (steps : List Step) where
   plain_frames f step (await x off) fs h = ap (λ z. frames_at f z fs) h.1
   plain_frames f step skip fs h = ap (λ z. frames_at f z fs) h
 
-  pub statement_on : (f : Frame) (ms : List Visit) (fs : List Frame) → length steps < 2 ^ 32 → f.at < f.to → FrameIs n names steps f ms →
+  pub statement_on : (f : OpenBody) (ms : List Visit) (fs : List OpenBody) → length steps < 2 ^ 32 → f.at < f.to → FrameIs n names steps f ms →
       WentOn f ms (an_item f.at false (step_at steps f.at)) fs (frames_at f (step_at steps f.at) fs)
   statement_on f ms fs few lt is = by is.rest is.rest_there is.visits_are
     where
@@ -204,7 +204,7 @@ module _ (n : ℕ) (names : ℕ → List ℕ) (steps : List Step) where
           }
 
   -- at the end of its statements it has its turns left
-  at_end : (f : Frame) (ms : List Visit) (is : FrameIs n names steps f ms) → f.to ≤ f.at → ms ≡ turns_of f is.body
+  at_end : (f : OpenBody) (ms : List Visit) (is : FrameIs n names steps f ms) → f.to ≤ f.at → ms ≡ turns_of f is.body
   at_end f ms is le = by is.rest is.rest_there is.visits_are
     where
       by : (tree : Tree) → IsSpelled n names steps f.at tree f.to → ms ≡ visits_of (f.at + 1) tree ++ turns_of f is.body → ms ≡ turns_of f is.body
@@ -213,11 +213,11 @@ module _ (n : ℕ) (names : ℕ → List ℕ) (steps : List Step) where
       by (fork y body rest) e visits = absurd (let x = spelled_count n names steps f.at (fork y body rest) f.to e in omega (arith, x, le))
       by (loop i body rest) e visits = absurd (let x = spelled_count n names steps f.at (loop i body rest) f.to e in omega (arith, x, le))
 
-  pub nothing_on : (f : Frame) (ms : List Visit) → FrameIs n names steps f ms → f.to ≤ f.at → f.left ≡ 0 → ms ≡ []
+  pub nothing_on : (f : OpenBody) (ms : List Visit) → FrameIs n names steps f ms → f.to ≤ f.at → f.left ≡ 0 → ms ≡ []
   nothing_on f ms is le none =
       at_end f ms is le ∙ ap (λ z. times z (visit (f.of_loop + 1) a_turn ∷ visits_of (f.of_loop + 1 + 1) is.body)) none
 
-  pub turn_on : (f : Frame) (ms : List Visit) (fs : List Frame) (left : ℕ) → FrameIs n names steps f ms → f.to ≤ f.at → f.left ≡ suc left →
+  pub turn_on : (f : OpenBody) (ms : List Visit) (fs : List OpenBody) (left : ℕ) → FrameIs n names steps f ms → f.to ≤ f.at → f.left ≡ suc left →
       WentOn f ms (an_item f.of_loop true a_step.Skip) fs (fs ++ record f { at = f.of_loop + 1; left = left } ∷ [])
   turn_on f ms fs left is le some =
       let one : List Visit = visits_of (f.of_loop + 1 + 1) is.body in
@@ -244,7 +244,7 @@ module _ (n : ℕ) (names : ℕ → List ℕ) (steps : List Step) where
 
   -- ---- as the code goes on
 
-  pub went_on : (f : Frame) (ms : List Visit) (fs : List Frame) (item : Item) → length steps < 2 ^ 32 → FrameIs n names steps f ms → next_item steps f ≡ Some item →
+  pub went_on : (f : OpenBody) (ms : List Visit) (fs : List OpenBody) (item : Item) → length steps < 2 ^ 32 → FrameIs n names steps f ms → next_item steps f ≡ Some item →
       WentOn f ms item fs (frames_after steps f fs)
   went_on f ms fs item few is next = by (nat_lt f.at f.to) refl (f.left) refl
     where
@@ -272,7 +272,7 @@ module _ (n : ℕ) (names : ℕ → List ℕ) (steps : List Step) where
           (subst (λ i. WentOn f ms (an_item f.of_loop true a_step.Skip) fs (fs ++ record f { at = f.of_loop + 1; left = i } ∷ [])) (sym less)
           (turn_on f ms fs left is (not_less f.at f.to ge) left_is))))
 
-  pub idled : (f : Frame) (ms : List Visit) (fs : List Frame) → FrameIs n names steps f ms → next_item steps f ≡ None → (ms ≡ []) × (frames_after steps f fs ≡ fs)
+  pub idled : (f : OpenBody) (ms : List Visit) (fs : List OpenBody) → FrameIs n names steps f ms → next_item steps f ≡ None → (ms ≡ []) × (frames_after steps f fs ≡ fs)
   idled f ms fs is next = by (nat_lt f.at f.to) refl (f.left) refl
     where
       by : (b : Bool) → nat_lt f.at f.to ≡ b → (left : ℕ) → f.left ≡ left → (ms ≡ []) × (frames_after steps f fs ≡ fs)
@@ -290,12 +290,12 @@ module _ (n : ℕ) (names : ℕ → List ℕ) (steps : List Step) where
 
 -- ---- how many there are
 
-some_few : (fs : List Frame) (f : Frame) → length (fs ++ f ∷ []) ≤ length fs + 2
+some_few : (fs : List OpenBody) (f : OpenBody) → length (fs ++ f ∷ []) ≤ length fs + 2
 some_few fs f = omega (arith, length-append fs (f ∷ []))
 
-at_few : (f : Frame) (step : Step) (fs : List Frame) → length (frames_at f step fs) ≤ length fs + 2
+at_few : (f : OpenBody) (step : Step) (fs : List OpenBody) → length (frames_at f step fs) ≤ length fs + 2
 at_few f (a_step.Loop k after steady) fs =
-    let inner : Frame = record { at = after; to = after; of_loop = f.at; left = k } in
+    let inner : OpenBody = record { at = after; to = after; of_loop = f.at; left = k } in
     omega (arith, length-append (fs ++ record f { at = after } ∷ []) (inner ∷ []), length-append fs (record f { at = after } ∷ []))
 at_few f (a_step.Fork x after) fs = some_few fs (record f { at = after })
 at_few f (a_step.NewTask x) fs = some_few fs (record f { at = f.at + 1 })
@@ -306,7 +306,7 @@ at_few f (a_step.Adv x) fs = some_few fs (record f { at = f.at + 1 })
 at_few f (a_step.Await x off) fs = some_few fs (record f { at = f.at + 1 })
 at_few f a_step.Skip fs = some_few fs (record f { at = f.at + 1 })
 
-pub frames_few : (steps : List Step) (f : Frame) (fs : List Frame) → length (frames_after steps f fs) ≤ length fs + 2
+pub frames_few : (steps : List Step) (f : OpenBody) (fs : List OpenBody) → length (frames_after steps f fs) ≤ length fs + 2
 frames_few steps f fs = by (nat_lt f.at f.to) (f.left == 0)
   where
     by : (b c : Bool) → length (if b then frames_at f (step_at steps f.at) fs else (if c then fs else fs ++ record f { at = f.of_loop + 1; left = f.left - 1 } ∷ [])) ≤ length fs + 2

@@ -29,10 +29,10 @@ use Rattle.check_scenes.specs.declared.scene.Matter.TheVariants as m
 use Rattle.check_scenes.specs.declared.scene.Scene.{Scene}
 use Rattle.check_scenes.specs.declared.scene.Verb.{Verb}
 use Rattle.check_scenes.specs.declared.scene.Verb.TheVariants as v
-use Rattle.check_scenes.specs.declared.seek.Place.{Place}
-use Rattle.check_scenes.specs.declared.seek.Place.TheVariants as p
-use Rattle.check_scenes.specs.declared.seek.Stop.{Stop}
-use Rattle.check_scenes.specs.declared.sight.Sight.{Sight}
+use Rattle.check_scenes.specs.declared.seek.FaultPlace.{FaultPlace}
+use Rattle.check_scenes.specs.declared.seek.FaultPlace.TheVariants as p
+use Rattle.check_scenes.specs.declared.seek.FoundFault.{FoundFault}
+use Rattle.check_scenes.specs.declared.sight.StepSight.{StepSight}
 use Rattle.check_scenes.specs.inside.Framed.{Comes, to_adv, to_await, to_dereg, to_fork, to_loop, to_new_phaser, to_new_task, to_reg, to_skip, to_turn}
 use Rattle.check_scenes.specs.inside.Noted.{MarkTells, NotesTell, a_deed, last_noted, means_drew, means_forked, means_left, means_made, means_registered, task_in}
 use Rattle.check_scenes.specs.inside.Seeks.{AtVisit, IsAt, Source, Stopped}
@@ -167,7 +167,7 @@ module _ (names : ℕ → List ℕ) (notes : List Note) (past : Past) (told : No
 
     -- where a step has a name, each kind has its matter
     named_same :
-        (kind : ℕ) (c : Coming) (s : Sight) → s.t ≡ t → about_names past c ≡ names_told names notes s s.item.step → phaser_wanted past.there c ≡ wanted_told s s.item.step →
+        (kind : ℕ) (c : Coming) (s : StepSight) → s.t ≡ t → about_names past c ≡ names_told names notes s s.item.step → phaser_wanted past.there c ≡ wanted_told s s.item.step →
         task_number (first_thing past.there c) ≡ task_in s.x → slice_index_or past.there.plan.parents (task_in s.x) None ≡ s.parent → about_cells past c ≡ cells_told s s.item.step →
         about_visit past kind t.0 c ≡ visit_told names notes kind s
     named_same kind c s mine named wanted first parent cells =
@@ -224,7 +224,7 @@ module _ (names : ℕ → List ℕ) (notes : List Note) (past : Past) (told : No
 
     -- the matter of a visit, by the kinds that the table gives
     pub visit_same :
-        (steps : List Step) (kind : ℕ) (s : Sight) (m : Visit) → Comes (length k.bindings.slots) names steps s.item m → s ≡ sight_of k t s.item →
+        (steps : List Step) (kind : ℕ) (s : StepSight) (m : Visit) → Comes (length k.bindings.slots) names steps s.item m → s ≡ sight_of k t s.item →
         first_kind table past.there t.0 m.coming ≡ Some kind → about_visit past kind t.0 m.coming ≡ visit_told names notes kind s
     visit_same steps kind s m comes_to is some =
         subst (λ z. about_visit past kind t.0 m.coming ≡ visit_told names notes kind z) (sym is) (visit_by steps kind s.item m comes_to some)
@@ -250,14 +250,14 @@ turns_same f h same first (loop k body rest) s l =
 first_failing : (s : UnfoldingState) (t : ℕ) (m : Visit) (f : CheckFault) → FailsAt s (comes t m) f → first_kind table s t m.coming ≡ Some f.kind
 first_failing s t m f (at_visit first is) = kind_some s t m.coming f.kind first
 
-module _ (g : Source) (stop : Stop) (notes : List Note) (last_turns : List LastTurn) (st : Stopped g stop notes last_turns) where
+module _ (g : Source) (stop : FoundFault) (notes : List Note) (last_turns : List LastTurn) (st : Stopped g stop notes last_turns) where
   abbrev past : Past
   past = record { first = opening_state g.program.body; stages = st.stages; there = st.there }
 
   pub can_be_told : PlaceCanBeTold last_turns g.steps stop.first stop.after stop.place
   can_be_told = by stop.place st.place
     where
-      by : (place : Place) → IsAt g place stop.first stop.after st.stages st.stage st.there last_turns → PlaceCanBeTold last_turns g.steps stop.first stop.after place
+      by : (place : FaultPlace) → IsAt g place stop.first stop.after st.stages st.stage st.there last_turns → PlaceCanBeTold last_turns g.steps stop.first stop.after place
       by (p.Visit sight) at =
           let k = at.kept in
           let steps = at.shown.steps_are in
@@ -266,13 +266,13 @@ module _ (g : Source) (stop : Stop) (notes : List Note) (last_turns : List LastT
             many = at.many;
             within = at.started.within;
             list = (length k.bindings.slots, (g.names, at.started.start.body, at.started.spelled));
-            tasks = omega (arith, ap (λ (z : Sight). z.tasks) at.seen.sight_is, at.shown.fits.few);
-            phasers = omega (arith, ap (λ (z : Sight). z.phasers) at.seen.sight_is, at.shown.fits.few_makers);
+            tasks = omega (arith, ap (λ (z : StepSight). z.tasks) at.seen.sight_is, at.shown.fits.few);
+            phasers = omega (arith, ap (λ (z : StepSight). z.phasers) at.seen.sight_is, at.shown.fits.few_makers);
             small = omega (arith, at.seen.here, at.shown.small, ap length steps);
           }
       by (p.End t q) at = tt
 
-  visit_scene : (scene : Scene) (sight : Sight) → AtVisit g sight stop.first stop.after st.stages st.stage st.there last_turns → VisitScene g.names notes last_turns g.steps stop sight scene → IsScene g.program scene
+  visit_scene : (scene : Scene) (sight : StepSight) → AtVisit g sight stop.first stop.after st.stages st.stage st.there last_turns → VisitScene g.names notes last_turns g.steps stop sight scene → IsScene g.program scene
   visit_scene scene sight at told =
       let t = sight.t.0 in
       let k = at.kept in
@@ -330,6 +330,6 @@ module _ (g : Source) (stop : Stop) (notes : List Note) (last_turns : List LastT
   pub scene_is : (scene : Scene) → PlaceScene g.names notes last_turns g.steps stop stop.place scene → IsScene g.program scene
   scene_is scene told = by stop.place st.place told
     where
-      by : (place : Place) → IsAt g place stop.first stop.after st.stages st.stage st.there last_turns → PlaceScene g.names notes last_turns g.steps stop place scene → IsScene g.program scene
+      by : (place : FaultPlace) → IsAt g place stop.first stop.after st.stages st.stage st.there last_turns → PlaceScene g.names notes last_turns g.steps stop place scene → IsScene g.program scene
       by (p.Visit sight) at told = visit_scene scene sight at told
       by (p.End t q) at told = end_scene scene t.0 q.0 at told

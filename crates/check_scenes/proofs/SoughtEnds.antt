@@ -23,8 +23,8 @@ use Rattle.check_scenes.specs.Turns.{turn_in, visits_among}
 use Rattle.check_scenes.specs.declared.notes.Deed.{Deed}
 use Rattle.check_scenes.specs.declared.notes.LastTurn.{LastTurn}
 use Rattle.check_scenes.specs.declared.notes.Note.{Note}
-use Rattle.check_scenes.specs.declared.seek.Place.TheVariants as p
-use Rattle.check_scenes.specs.declared.seek.Stop.{Stop}
+use Rattle.check_scenes.specs.declared.seek.FaultPlace.TheVariants as p
+use Rattle.check_scenes.specs.declared.seek.FoundFault.{FoundFault}
 use Rattle.check_scenes.specs.inside.Noted.{LastTurnsTell, MeansDeed, NotesTell, means_drew, means_forked, means_left, means_made, means_registered}
 use Rattle.check_scenes.specs.inside.Seeks.{HasLeaving, IsAt, Leaving, Source, Stands, Stopped}
 use Rattle.check_scenes.proofs.TurnCounts.{among_append}
@@ -217,7 +217,7 @@ module _ (g : Source) where
         }
 
     pub leaving_stop :
-        (f : CheckFault) → checker_leave t.0 first q k ≡ Err f → (stop : Stop) (q' : PhaserId) → q'.0 ≡ q → stop.fault ≡ f → stop.place ≡ p.End t q' → Stopped g stop notes last_turns
+        (f : CheckFault) → checker_leave t.0 first q k ≡ Err f → (stop : FoundFault) (q' : PhaserId) → q'.0 ≡ q → stop.fault ≡ f → stop.place ≡ p.End t q' → Stopped g stop notes last_turns
     leaving_stop f is stop q' same fault_is place =
         let sim : leave t.0 first q now.stands.state ≡ Err f =
         subst (λ o. Simulates g.names o (leave t.0 first q now.stands.state)) is

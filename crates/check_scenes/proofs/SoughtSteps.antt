@@ -14,12 +14,12 @@ use Rattle.pl_plan.specs.inside.CheckerSteps.{HasNames}
 use Rattle.pl_plan.specs.inside.Shows.{ShowsState}
 use Rattle.pl_plan.specs.inside.Steps.{IsSpelled}
 use Rattle.pl_plan.proofs.Unfolds as unfolds
-use Rattle.check_scenes.specs.declared.frames.Frame.{Frame}
+use Rattle.check_scenes.specs.declared.frames.OpenBody.{OpenBody}
 use Rattle.check_scenes.specs.declared.frames.Item.{Item}
 use Rattle.check_scenes.specs.declared.notes.LastTurn.{LastTurn}
 use Rattle.check_scenes.specs.declared.notes.Note.{Note}
-use Rattle.check_scenes.specs.declared.seek.Place.TheVariants as p
-use Rattle.check_scenes.specs.declared.seek.Stop.{Stop}
+use Rattle.check_scenes.specs.declared.seek.FaultPlace.TheVariants as p
+use Rattle.check_scenes.specs.declared.seek.FoundFault.{FoundFault}
 use Rattle.check_scenes.specs.inside.Framed.{Comes, FramesAre, frames_after, next_item}
 use Rattle.check_scenes.specs.inside.Noted.{LastTurnsTell, NotesTell, TurnsTold, turn_at, with_last_turn, with_notes, notes_at}
 use Rattle.check_scenes.specs.inside.Seen.{visit_checked, sight_of}
@@ -122,7 +122,7 @@ module _ (g : Source) where
 
     -- it is at fault
     pub came_stop :
-        (first after : ℕ) → HasStart g t.0 first after (length k.bindings.slots) st.state → (stop : Stop) (new_notes : List Note) (new_last_turns : List LastTurn) → item.at < length g.steps →
+        (first after : ℕ) → HasStart g t.0 first after (length k.bindings.slots) st.state → (stop : FoundFault) (new_notes : List Note) (new_last_turns : List LastTurn) → item.at < length g.steps →
         visit_checked t.0 item.at item.step k ≡ Err stop.fault → new_notes ≡ notes → new_last_turns ≡ with_last_turn (sight_of k t item) last_turns → stop.place ≡ p.Visit (sight_of k t item) →
         stop.first ≡ first → stop.after ≡ after → Stopped g stop new_notes new_last_turns
     came_stop first after started stop new_notes new_last_turns within is notes_are last_turns_are place first_is after_is =
@@ -157,7 +157,7 @@ module _ (g : Source) where
 
   -- ---- in the midst of a task
 
-  module _ (t : TaskId) (first after : ℕ) (fs : List Frame) (f : Frame) (k : Checker) (notes : List Note) (last_turns : List LastTurn)
+  module _ (t : TaskId) (first after : ℕ) (fs : List OpenBody) (f : OpenBody) (k : Checker) (notes : List Note) (last_turns : List LastTurn)
       (now : Midst g t.0 first after (fs ++ f ∷ []) k notes last_turns) where
     popped : Popped (length k.bindings.slots) g.names g.steps fs f now.visits
     popped = frames_pop (length k.bindings.slots) g.names g.steps fs f now.visits now.frames_are
@@ -260,7 +260,7 @@ module _ (g : Source) where
           let behind = c.stands.shown.shows.visits in
           (omega (arith, before, behind, c.visits_are), omega (arith, before, c.visit_left))
 
-      pub midst_stop : (stop : Stop) (new : Checker) (new_notes : List Note) (new_last_turns : List LastTurn) → CameTo t item first after (Ok (Some stop)) k notes last_turns new new_notes new_last_turns →
+      pub midst_stop : (stop : FoundFault) (new : Checker) (new_notes : List Note) (new_last_turns : List LastTurn) → CameTo t item first after (Ok (Some stop)) k notes last_turns new new_notes new_last_turns →
           Stopped g stop new_notes new_last_turns
       midst_stop stop new new_notes new_last_turns came =
           came_stop t k notes last_turns now.stands now.here item went.visit_is went.comes_to next first after now.started stop new_notes new_last_turns went.within
@@ -284,14 +284,14 @@ module _ (g : Source) where
 -- ---- the loop over the frames
 
 -- a task goes on: there is something that is unfolded so, and whatever was, still is
-pub record GoesOn (t first after : ℕ) (was : List Frame) (old : Checker) (old_notes : List Note) (old_last_turns : List LastTurn) (frames : List Frame) (k : Checker) (notes : List Note)
+pub record GoesOn (t first after : ℕ) (was : List OpenBody) (old : Checker) (old_notes : List Note) (old_last_turns : List LastTurn) (frames : List OpenBody) (k : Checker) (notes : List Note)
     (last_turns : List LastTurn) : Type 0 where
   pub some : HasMidst t first after frames k notes last_turns
   pub all : (g : Source) → Midst g t first after was old old_notes old_last_turns → Midst g t first after frames k notes last_turns
 
 pub goes_further :
-    (t first after : ℕ) (was : List Frame) (old : Checker) (old_notes : List Note) (old_last_turns : List LastTurn) (frames : List Frame) (k : Checker) (notes : List Note) (last_turns : List LastTurn)
-    (new_frames : List Frame) (new : Checker) (new_notes : List Note) (new_last_turns : List LastTurn) → GoesOn t first after was old old_notes old_last_turns frames k notes last_turns →
+    (t first after : ℕ) (was : List OpenBody) (old : Checker) (old_notes : List Note) (old_last_turns : List LastTurn) (frames : List OpenBody) (k : Checker) (notes : List Note) (last_turns : List LastTurn)
+    (new_frames : List OpenBody) (new : Checker) (new_notes : List Note) (new_last_turns : List LastTurn) → GoesOn t first after was old old_notes old_last_turns frames k notes last_turns →
     ((g : Source) → Midst g t first after frames k notes last_turns → Midst g t first after new_frames new new_notes new_last_turns) →
     GoesOn t first after was old old_notes old_last_turns new_frames new new_notes new_last_turns
 goes_further t first after was old old_notes old_last_turns frames k notes last_turns new_frames new new_notes new_last_turns go on =

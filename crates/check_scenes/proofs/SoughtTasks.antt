@@ -16,7 +16,7 @@ use Rattle.pl_plan.proofs.Unfolds as unfolds
 use Rattle.check_scenes.specs.Turns.{turn_in}
 use Rattle.check_scenes.specs.declared.notes.LastTurn.{LastTurn}
 use Rattle.check_scenes.specs.declared.notes.Note.{Note}
-use Rattle.check_scenes.specs.declared.seek.Stop.{Stop}
+use Rattle.check_scenes.specs.declared.seek.FoundFault.{FoundFault}
 use Rattle.armus_base.specs.declared.errors.NoMemory.{NoMemory}
 use Rattle.check_scenes.specs.inside.Noted.{LastTurnsTell, no_turn, turn_by}
 use Rattle.check_scenes.specs.inside.Seeks.{Before, HasBefore, Leaving, Midst, Passed, SoughtEnd, SoughtTask, Source, Stands, whole}
@@ -213,7 +213,7 @@ module _ (g : Source) where
       }
 
   pub ends_task :
-      (t first after : ℕ) (r : Result (Option Stop) NoMemory) (k : Checker) (notes : List Note) (last_turns : List LastTurn) → SoughtEnd g t first after r k notes last_turns →
+      (t first after : ℕ) (r : Result (Option FoundFault) NoMemory) (k : Checker) (notes : List Note) (last_turns : List LastTurn) → SoughtEnd g t first after r k notes last_turns →
       SoughtTask g (t + 1) r k notes last_turns
   ends_task t first after (Ok None) k notes last_turns h = task_left t first after k notes last_turns h
   ends_task t first after (Ok (Some stop)) k notes last_turns h = h

@@ -13,8 +13,8 @@ ghost use Rattle.check_scenes.specs.inside.Told.{CanBeTold, EndScene, PlaceCanBe
 use crate::around::turns_told;
 use crate::notes::LastTurn;
 use crate::scene::{Matter, Scene};
-use crate::seek::{Place, Seeker, Stop, seek_tasks};
-use crate::sight::Sight;
+use crate::seek::{FaultPlace, FoundFault, Seeker, seek_tasks};
+use crate::sight::StepSight;
 use crate::telling::{forked_by, phaser_told, task_told, visit_told};
 use armus_base::{List, NoMemory, PhaserId, TaskId};
 use indexmap::IndexSet;
@@ -30,8 +30,8 @@ fn visit_scene(
     names: &[&[u8]],
     seeker: &Seeker,
     steps: &[Step],
-    stop: Stop,
-    sight: Sight,
+    stop: FoundFault,
+    sight: StepSight,
 ) -> Result<Scene, NoMemory>
     requires { CanBeTold seeker.now.last_turns.items steps.now stop.first stop.after sight }
     ensures { IfOk result (VisitScene (spelling names.now) seeker.now.notes seeker.now.last_turns.items steps.now stop sight) }
@@ -56,7 +56,7 @@ fn end_scene(
     alloc: Global,
     names: &[&[u8]],
     seeker: &Seeker,
-    stop: Stop,
+    stop: FoundFault,
     t: TaskId,
     p: PhaserId,
 ) -> Result<Scene, NoMemory>
@@ -80,14 +80,14 @@ fn place_scene(
     names: &[&[u8]],
     seeker: &Seeker,
     steps: &[Step],
-    stop: Stop,
+    stop: FoundFault,
 ) -> Result<Scene, NoMemory>
     requires { PlaceCanBeTold seeker.now.last_turns.items steps.now stop.first stop.after stop.place }
     ensures { IfOk result (PlaceScene (spelling names.now) seeker.now.notes seeker.now.last_turns.items steps.now stop stop.place) }
 {
     match stop.place {
-        Place::Visit(sight) => visit_scene(alloc, names, seeker, steps, stop, sight),
-        Place::End(t, p) => end_scene(alloc, names, seeker, stop, t, p),
+        FaultPlace::Visit(sight) => visit_scene(alloc, names, seeker, steps, stop, sight),
+        FaultPlace::End(t, p) => end_scene(alloc, names, seeker, stop, t, p),
     }
 }
 

@@ -17,7 +17,7 @@ pub(crate) struct Item {
 
 /// A list of statements that a task goes through: the next one, the end, and, where it is the body of a loop, the loop's index and how many turns are left.
 #[derive(Clone, Copy)]
-pub(crate) struct Frame {
+pub(crate) struct OpenBody {
     pub at: u32,
     pub to: u32,
     pub of_loop: u32,
@@ -25,7 +25,7 @@ pub(crate) struct Frame {
 }
 
 // One frame more.
-fn push(frames: &mut Vec<Frame>, frame: Frame) -> Result<(), NoMemory>
+fn push(frames: &mut Vec<OpenBody>, frame: OpenBody) -> Result<(), NoMemory>
     ensures { OnOk result (frames.new.items ≡ frames.old.items ++ frame ∷ []) }
 {
     frames.push(frame)?;
@@ -33,7 +33,7 @@ fn push(frames: &mut Vec<Frame>, frame: Frame) -> Result<(), NoMemory>
 }
 
 // Behind a coming to this step the frame stands again, and the body of a loop on top of it.
-fn push_on(frames: &mut Vec<Frame>, frame: Frame, step: Step) -> Result<(), NoMemory>
+fn push_on(frames: &mut Vec<OpenBody>, frame: OpenBody, step: Step) -> Result<(), NoMemory>
     requires { frame.at < frame.to }
     ensures { OnOk result (frames.new.items ≡ frames_at frame step frames.old.items) }
 {
@@ -43,10 +43,10 @@ fn push_on(frames: &mut Vec<Frame>, frame: Frame, step: Step) -> Result<(), NoMe
             after,
             steady: _,
         } => {
-            push(frames, Frame { at: after, ..frame })?;
+            push(frames, OpenBody { at: after, ..frame })?;
             push(
                 frames,
-                Frame {
+                OpenBody {
                     at: after,
                     to: after,
                     of_loop: frame.at,
@@ -54,10 +54,10 @@ fn push_on(frames: &mut Vec<Frame>, frame: Frame, step: Step) -> Result<(), NoMe
                 },
             )
         }
-        Step::Fork { x: _, after } => push(frames, Frame { at: after, ..frame }),
+        Step::Fork { x: _, after } => push(frames, OpenBody { at: after, ..frame }),
         _ => push(
             frames,
-            Frame {
+            OpenBody {
                 at: frame.at + 1,
                 ..frame
             },
@@ -67,9 +67,9 @@ fn push_on(frames: &mut Vec<Frame>, frame: Frame, step: Step) -> Result<(), NoMe
 
 /// The frame, which was taken away, goes on: to its next statement, or to the next turn of its loop; or it is at its end.
 pub(crate) fn go_on(
-    frames: &mut Vec<Frame>,
+    frames: &mut Vec<OpenBody>,
     checker: &Checker,
-    frame: Frame,
+    frame: OpenBody,
 ) -> Result<Option<Item>, NoMemory>
     requires within { frame.to ≤ length checker.now.steps }
     requires small { frame.of_loop + 1 < 2 ^ 32 }
@@ -90,7 +90,7 @@ pub(crate) fn go_on(
     }
     push(
         frames,
-        Frame {
+        OpenBody {
             at: frame.of_loop + 1,
             left: frame.left - 1,
             ..frame

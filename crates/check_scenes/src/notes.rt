@@ -3,7 +3,7 @@
 ghost use Rattle.std.specs.Prelude.{◌≡◌, ◌<◌, ◌+◌, ◌^◌, ◌++◌, ◌∷◌, [], length, OnOk};
 ghost use Rattle.check_scenes.specs.inside.Noted.{a_deed, last_noted, phaser_in, same_deed, task_in, turn_at, with_last_turn, with_notes};
 
-use crate::sight::Sight;
+use crate::sight::StepSight;
 use armus_base::{List, NoMemory, TaskId};
 use pl_plan::step::{NameId, Step, Thing};
 
@@ -74,7 +74,7 @@ pub(crate) fn phaser_in(thing: Thing) -> u32
 }
 
 /// Notes what this visit did, which passed.
-pub(crate) fn put_note(notes: &mut List<Note>, sight: Sight) -> Result<(), NoMemory>
+pub(crate) fn put_note(notes: &mut List<Note>, sight: StepSight) -> Result<(), NoMemory>
     requires { sight.item.at + 1 < 2 ^ 32 }
     ensures { OnOk result (notes.new ≡ with_notes sight notes.old) }
 {
@@ -132,7 +132,7 @@ pub(crate) fn turn_of(last_turns: &[LastTurn], t: TaskId, at: u32) -> u32
 }
 
 /// Counts a visit: one to a loop begins it anew, and one that begins a turn is one turn more.
-pub(crate) fn count_turn(last_turns: &mut Vec<LastTurn>, sight: Sight)
+pub(crate) fn count_turn(last_turns: &mut Vec<LastTurn>, sight: StepSight)
     requires here { sight.item.at < length last_turns.old.items }
     requires few { turn_at last_turns.old.items sight.t.0 sight.item.at + 1 < 2 ^ 32 }
     ensures { last_turns.new.items ≡ with_last_turn sight last_turns.old.items }

@@ -6,9 +6,9 @@ ghost use Rattle.pl_plan.specs.inside.CheckerSteps.{HasNames};
 ghost use Rattle.check_scenes.specs.inside.Noted.{turn_at};
 ghost use Rattle.check_scenes.specs.inside.Seeks.{Before, CameTo, HasBefore, HasLeaving, HasMidst, Leaving, Midst, SoughtAll, SoughtEnd, SoughtTask, SoughtVisits, Source, whole};
 
-use crate::frames::{Frame, Item, go_on};
+use crate::frames::{Item, OpenBody, go_on};
 use crate::notes::{LastTurn, Note, count_turn, put_note};
-use crate::sight::{Sight, leave, look, visit};
+use crate::sight::{StepSight, leave, look, visit};
 use armus_base::{List, MAX_PHASERS, NoMemory, PhaserId, TaskId};
 use pl_plan::CheckFault;
 use pl_plan::checker::Checker;
@@ -16,16 +16,16 @@ use std::alloc::Global;
 
 /// Where the fault stands: at a visit, before which this was looked at, or at the end of a task, which leaves a phaser.
 #[derive(Clone, Copy)]
-pub(crate) enum Place {
-    Visit(Sight),
+pub(crate) enum FaultPlace {
+    Visit(StepSight),
     End(TaskId, PhaserId),
 }
 
 /// The first fault, where it stands, and the steps of the task: the first one, and the one behind them.
 #[derive(Clone, Copy)]
-pub(crate) struct Stop {
+pub(crate) struct FoundFault {
     pub fault: CheckFault,
-    pub place: Place,
+    pub place: FaultPlace,
     pub first: u32,
     pub after: u32,
 }
@@ -46,7 +46,7 @@ fn come_to(
     item: Item,
     first: u32,
     after: u32,
-) -> Result<Option<Stop>, NoMemory>
+) -> Result<Option<FoundFault>, NoMemory>
     requires fits { IsChecker seeker.old.checker }
     requires task { t.0 < length seeker.old.checker.parents }
     requires names { HasNames (length seeker.old.checker.bindings.slots) item.step }
@@ -58,9 +58,9 @@ fn come_to(
     let sight = look(&seeker.checker, t, item);
     count_turn(&mut seeker.last_turns, sight);
     if let Some(fault) = visit(alloc, &mut seeker.checker, t, item)? {
-        return Ok(Some(Stop {
+        return Ok(Some(FoundFault {
             fault,
-            place: Place::Visit(sight),
+            place: FaultPlace::Visit(sight),
             first,
             after,
         }));
@@ -76,13 +76,13 @@ fn seek_visits(
     t: TaskId,
     first: u32,
     after: u32,
-) -> Result<Option<Stop>, NoMemory>
+) -> Result<Option<FoundFault>, NoMemory>
     requires begun { HasMidst t.0 first after (whole first after ∷ []) seeker.old.checker seeker.old.notes seeker.old.last_turns.items }
     ensures { (g : Source) → Midst g t.0 first after (whole first after ∷ []) seeker.old.checker seeker.old.notes seeker.old.last_turns.items →
         SoughtVisits g t.0 first after result seeker.new.checker seeker.new.notes seeker.new.last_turns.items }
 {
     let mut frames = Vec::new(alloc);
-    frames.push(Frame {
+    frames.push(OpenBody {
         at: first,
         to: after,
         of_loop: 0,
@@ -105,16 +105,16 @@ fn seek_end(
     t: TaskId,
     first: u32,
     after: u32,
-) -> Result<Option<Stop>, NoMemory>
+) -> Result<Option<FoundFault>, NoMemory>
     requires done { HasLeaving t.0 first after 0 seeker.old.checker seeker.old.notes seeker.old.last_turns.items }
     ensures { (g : Source) → Leaving g t.0 first after 0 seeker.old.checker seeker.old.notes seeker.old.last_turns.items →
         SoughtEnd g t.0 first after result seeker.new.checker seeker.new.notes seeker.new.last_turns.items }
 {
     for p in 0..MAX_PHASERS {
         if let Some(fault) = leave(&mut seeker.checker, t, first, PhaserId(p))? {
-            return Ok(Some(Stop {
+            return Ok(Some(FoundFault {
                 fault,
-                place: Place::End(t, PhaserId(p)),
+                place: FaultPlace::End(t, PhaserId(p)),
                 first,
                 after,
             }));
@@ -129,7 +129,7 @@ fn seek_task(
     seeker: &mut Seeker,
     two: bool,
     t: TaskId,
-) -> Result<Option<Stop>, NoMemory>
+) -> Result<Option<FoundFault>, NoMemory>
     requires next { HasBefore two t.0 seeker.old.checker seeker.old.notes seeker.old.last_turns.items }
     requires here { t.0 < length seeker.old.checker.parents }
     ensures { (g : Source) → g.program.two ≡ two → Before g t.0 seeker.old.checker seeker.old.notes seeker.old.last_turns.items →
@@ -152,7 +152,7 @@ pub(crate) fn seek_tasks(
     alloc: Global,
     seeker: &mut Seeker,
     two: bool,
-) -> Result<Option<Stop>, NoMemory>
+) -> Result<Option<FoundFault>, NoMemory>
     requires next { HasBefore two 0 seeker.old.checker seeker.old.notes seeker.old.last_turns.items }
     ensures { (g : Source) → g.program.two ≡ two → Before g 0 seeker.old.checker seeker.old.notes seeker.old.last_turns.items →
         SoughtAll g result seeker.new.notes seeker.new.last_turns.items }

@@ -16,7 +16,7 @@ use std::alloc::Global;
 /// What is looked at before a task comes to a step: what the step's names stand for, the task that drew the first of them, and how many tasks and phasers
 /// there are.
 #[derive(Clone, Copy)]
-pub(crate) struct Sight {
+pub(crate) struct StepSight {
     pub t: TaskId,
     pub item: Item,
     pub x: Thing,
@@ -76,7 +76,7 @@ fn parent_seen(checker: &Checker, thing: Thing) -> Option<TaskId>
 }
 
 /// What is looked at before task `t` comes to a step.
-pub(crate) fn look(checker: &Checker, t: TaskId, item: Item) -> Sight
+pub(crate) fn look(checker: &Checker, t: TaskId, item: Item) -> StepSight
     requires fits { IsChecker checker.now }
     requires task { t.0 < length checker.now.parents }
     requires first { IsOneOf (length checker.now.bindings.slots) (first_name_of item.step) }
@@ -85,7 +85,7 @@ pub(crate) fn look(checker: &Checker, t: TaskId, item: Item) -> Sight
 {
     let x = thing_seen(checker, first_of(item.step));
     let y = thing_seen(checker, second_of(item.step));
-    Sight {
+    StepSight {
         t,
         item,
         x,

@@ -7,7 +7,7 @@ ghost use Rattle.check_scenes.specs.inside.Told.{cells_told, drawn_told, forked_
 
 use crate::notes::{Deed, Note, last_note, phaser_in, task_in};
 use crate::scene::{Matter, NamedPhaser, NamedTask, Verb};
-use crate::sight::Sight;
+use crate::sight::StepSight;
 use armus_base::{List, MAX_PHASERS, MAX_TASKS, NoMemory, PhaserId, TaskId};
 use pl_plan::step::{NameId, Step, Thing};
 use pl_plan::{
@@ -141,7 +141,7 @@ fn reg_told(
     alloc: Global,
     names: &[&[u8]],
     notes: &[Note],
-    sight: Sight,
+    sight: StepSight,
     x: NameId,
     y: NameId,
 ) -> Result<Matter, NoMemory>
@@ -159,7 +159,7 @@ fn names_told(
     alloc: Global,
     names: &[&[u8]],
     notes: &[Note],
-    sight: Sight,
+    sight: StepSight,
 ) -> Result<Matter, NoMemory>
     ensures { IfOk result (λ m. m ≡ names_told (spelling names.now) notes.now sight sight.item.step) }
 {
@@ -174,7 +174,7 @@ fn names_told(
 }
 
 // The phaser of which the task has to be a member.
-fn wanted_told(sight: Sight) -> u32
+fn wanted_told(sight: StepSight) -> u32
     ensures { result ≡ wanted_told sight sight.item.step }
 {
     match sight.item.step {
@@ -261,7 +261,7 @@ fn forked_told(alloc: Global, names: &[&[u8]], notes: &[Note], c: u32) -> Result
 }
 
 // So many tasks and phasers, with the one that is drawn or made.
-fn cells_told(sight: Sight) -> Matter
+fn cells_told(sight: StepSight) -> Matter
     requires tasks { sight.tasks ≤ MAX_TASKS }
     requires phasers { sight.phasers ≤ MAX_PHASERS }
     ensures { result ≡ cells_told sight sight.item.step }
@@ -279,7 +279,7 @@ fn cells_told(sight: Sight) -> Matter
 }
 
 // Of a limit, by the kind of the fault.
-fn limit_told(kind: u8, sight: Sight) -> Matter
+fn limit_told(kind: u8, sight: StepSight) -> Matter
     requires tasks { sight.tasks ≤ MAX_TASKS }
     requires phasers { sight.phasers ≤ MAX_PHASERS }
     ensures { result ≡ limit_told kind sight }
@@ -305,7 +305,7 @@ pub(crate) fn visit_told(
     names: &[&[u8]],
     notes: &[Note],
     kind: u8,
-    sight: Sight,
+    sight: StepSight,
 ) -> Result<Matter, NoMemory>
     requires tasks { sight.tasks ≤ MAX_TASKS }
     requires phasers { sight.phasers ≤ MAX_PHASERS }

@@ -9,7 +9,7 @@ ghost use Rattle.clock_moves.specs.Unfolding.{clock_of, clocks_of};
 ghost use Rattle.clock_pl.specs.inside.ClockChecker.{current, spelled_names};
 ghost use Rattle.clock_pl.specs.inside.ClockCheckerSteps.{GivesClockChecker, GivesValue, checker_async, checker_stop, innermost_alone, kept_start_at, start_ops, stop_op, stop_ops};
 
-use crate::checker::{Checker, Start};
+use crate::checker::{ActivityStart, ClockChecker};
 use crate::fault::{ClockEnd, LISTED_TWICE, STILL_PENDING};
 use crate::known::registered_on;
 use crate::statements::{add_ops, fault_unless, next_activity, registered_clock};
@@ -30,7 +30,7 @@ fn list_once<'n>(listed: &mut IndexSet<&'n [u8]>, x: &'n [u8]) -> Result<bool, A
 // The clock of a name of an async, behind the names that are listed.
 #[tactic(auto, unfolding(clock_moves::specs::Unfolding::clock_of))]
 fn clock_once<'n>(
-    checker: &Checker<'_>,
+    checker: &ClockChecker<'_>,
     n: u32,
     listed: &mut IndexSet<&'n [u8]>,
     x: &'n [u8],
@@ -48,7 +48,7 @@ fn clock_once<'n>(
 // The clocks of the names of an async.
 fn clocks_of(
     alloc: Global,
-    checker: &Checker<'_>,
+    checker: &ClockChecker<'_>,
     n: u32,
     names: &[ClockName],
 ) -> Result<List<PhaserId>, ClockEnd>
@@ -64,7 +64,10 @@ fn clocks_of(
 }
 
 // These clocks, and the finish that governs the activity, if one does.
-fn with_finish(checker: &Checker<'_>, clocks: List<PhaserId>) -> Result<List<PhaserId>, NoMemory>
+fn with_finish(
+    checker: &ClockChecker<'_>,
+    clocks: List<PhaserId>,
+) -> Result<List<PhaserId>, NoMemory>
     ensures { IfOk result (λ on. on ≡ clocks ++ innermost_alone checker.now.known.governing) }
 {
     let mut on = clocks;
@@ -89,11 +92,11 @@ fn start_ops(alloc: Global, c: TaskId, on: &[PhaserId]) -> Result<Vec<Op>, Alloc
 // With what an activity is started at statement `n`, on these clocks and this finish.
 fn start_on<'p>(
     alloc: Global,
-    checker: &mut Checker<'p>,
+    checker: &mut ClockChecker<'p>,
     n: u32,
     body: &'p ClockBody,
     on: &[PhaserId],
-) -> Result<Start<'p>, NoMemory>
+) -> Result<ActivityStart<'p>, NoMemory>
     requires { n + clock_count body.now < 2 ^ 32 }
     ensures same { checker.new ≡ checker.old }
     ensures start { IfOk result (λ start. start ≡ kept_start_at n body.now on.now checker.old.known) }
@@ -101,7 +104,7 @@ fn start_on<'p>(
     let clocks = checker.share(alloc)?;
     let members = registered_on(alloc, on)?;
     let governing = with_finish(checker, List::new(alloc))?.into_vec();
-    Ok(Start {
+    Ok(ActivityStart {
         body,
         before: n,
         clocks,
@@ -114,7 +117,7 @@ fn start_on<'p>(
 #[tactic(auto, unfolding(crate::specs::inside::ClockCheckerSteps::checker_async, crate::specs::inside::ClockCheckerSteps::checker_move))]
 pub(crate) fn start<'p>(
     alloc: Global,
-    checker: &mut Checker<'p>,
+    checker: &mut ClockChecker<'p>,
     n: u32,
     names: &[ClockName],
     body: &'p ClockBody,
@@ -132,7 +135,7 @@ pub(crate) fn start<'p>(
 }
 
 // A Drop for each clock and finish on which the activity is registered, in order of number.
-fn stop_ops(alloc: Global, checker: &Checker<'_>) -> Result<Vec<Op>, AllocError>
+fn stop_ops(alloc: Global, checker: &ClockChecker<'_>) -> Result<Vec<Op>, AllocError>
     ensures { IfOk result (λ ops. ops.items ≡ stop_ops (λ p. slice_index_or checker.now.known.members p false) (length checker.now.makers)) }
 {
     let mut ops = Vec::new(alloc);
@@ -155,7 +158,7 @@ fn push_drop(ops: &mut Vec<Op>, p: PhaserId, is: bool) -> Result<(), AllocError>
 
 // The end of the activity.
 #[tactic(auto, unfolding(crate::specs::inside::ClockCheckerSteps::checker_stop, crate::specs::inside::ClockCheckerSteps::checker_move))]
-pub(crate) fn stop(alloc: Global, checker: &mut Checker<'_>, n: u32) -> Result<(), ClockEnd>
+pub(crate) fn stop(alloc: Global, checker: &mut ClockChecker<'_>, n: u32) -> Result<(), ClockEnd>
     ensures { GivesClockChecker result (checker_stop n checker.old) checker.new }
 {
     let ops = stop_ops(alloc, checker)?;

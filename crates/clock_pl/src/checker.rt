@@ -21,7 +21,7 @@ use std::rc::Rc;
 // With what an activity is started: its body, how many statements stand before that in the text, and what is known of it, where nothing is pending. The
 // clocks of the names are shared by activities that were started with the same ones. Its statements have numbers of 32 bits.
 #[derive(Drop)]
-pub(crate) struct Start<'p> {
+pub(crate) struct ActivityStart<'p> {
     pub body: &'p ClockBody,
     pub before: u32,
     pub clocks: Rc<Vec<Option<PhaserId>>>,
@@ -29,7 +29,7 @@ pub(crate) struct Start<'p> {
     pub governing: Vec<PhaserId>,
 }
 
-impl<'p> Model for Start<'p> {
+impl<'p> Model for ActivityStart<'p> {
     ghost use Rattle.std.specs.Prelude.{◌+◌, ◌<◌, ◌^◌, []};
     ghost use Rattle.std.specs.Coded.{codes};
     ghost use Rattle.clock_syntax.specs.Trees.{clock_count};
@@ -49,7 +49,7 @@ impl<'p> Model for Start<'p> {
     ghost invariant = { λ s. s.before + clock_count s.body.now < 2 ^ 32 };
 }
 
-impl<'p> Start<'p> {
+impl<'p> ActivityStart<'p> {
     // What is known of the activity, in memory of its own.
     fn known(&self, alloc: Global) -> Result<Known, AllocError>
         ensures { IfOk result (λ k. k ≡ self.now.known) }
@@ -74,19 +74,19 @@ pub(crate) struct Counts {
 // unfolded, and what is known of it; and the counts. A statement looks its name up and reads a few entries; an async copies the clocks of the names, where a
 // name has come to stand for something else since the last one.
 #[derive(Drop)]
-pub(crate) struct Checker<'p> {
+pub(crate) struct ClockChecker<'p> {
     names: IndexSet<&'p [u8]>,
     parents: Vec<Option<TaskId>>,
     makers: Vec<TaskId>,
     codes: Vec<List<Op>>,
-    starts: Vec<Start<'p>>,
+    starts: Vec<ActivityStart<'p>>,
     activity: TaskId,
     known: Known,
     shared: Option<Rc<Vec<Option<PhaserId>>>>,
     counts: Counts,
 }
 
-impl<'p> Model for Checker<'p> {
+impl<'p> Model for ClockChecker<'p> {
     ghost use Rattle.std.specs.Prelude.{◌≡◌, ◌<◌, ◌≤◌, IfSome, length};
     ghost use Rattle.std.specs.Coded.{codes as codings};
     ghost use Rattle.armus_base.specs.Limits.{max_tasks, max_phasers, max_ops};
@@ -114,9 +114,9 @@ impl<'p> Model for Checker<'p> {
         × IfSome k.shared (λ rc. rc.value.items ≡ k.known.clocks) };
 }
 
-impl<'p> Checker<'p> {
+impl<'p> ClockChecker<'p> {
     // What is kept before the first visit: activity 0 alone, with the whole program.
-    pub(crate) fn new(alloc: Global, body: &'p ClockBody) -> Result<Checker<'p>, NoMemory>
+    pub(crate) fn new(alloc: Global, body: &'p ClockBody) -> Result<ClockChecker<'p>, NoMemory>
         requires { clock_count body.now < 2 ^ 32 }
         ensures { IfOk result (λ k. k ≡ opening_checker body.now) }
     {
@@ -128,14 +128,14 @@ impl<'p> Checker<'p> {
         let Ok(clocks) = Rc::new(alloc, Vec::new(alloc)) else {
             return Err(NoMemory);
         };
-        starts.push(Start {
+        starts.push(ActivityStart {
             body,
             before: 0,
             clocks,
             members: Membership::new(alloc),
             governing: Vec::new(alloc),
         })?;
-        Ok(Checker {
+        Ok(ClockChecker {
             names: IndexSet::new(alloc),
             parents,
             makers: Vec::new(alloc),
@@ -346,7 +346,11 @@ impl<'p> Checker<'p> {
     }
 
     // The activity starts one more.
-    pub(crate) fn push_start(&mut self, alloc: Global, start: Start<'p>) -> Result<(), AllocError>
+    pub(crate) fn push_start(
+        &mut self,
+        alloc: Global,
+        start: ActivityStart<'p>,
+    ) -> Result<(), AllocError>
         requires { length self.old.parents < MAX_TASKS }
         ensures { OnOk result (self.new ≡ with_kept_activity start.entry self.old) }
     {

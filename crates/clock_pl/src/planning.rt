@@ -9,7 +9,7 @@ ghost use Rattle.clock_pl.specs.calls.ClockPlanning.{GivesClockPlan};
 ghost use Rattle.clock_pl.specs.inside.ClockCheckerSteps.{GivesClockChecker, checker_activities, checker_started};
 
 use crate::activities::stop;
-use crate::checker::{Checker, Lists};
+use crate::checker::{ClockChecker, Lists};
 use crate::fault::ClockEnd;
 use crate::walk::walk_body;
 use armus_base::{Code, List, MAX_TASKS, NoMemory, Op, Plan};
@@ -18,7 +18,7 @@ use pl_plan::push_each;
 use std::alloc::Global;
 
 // Activity `t`, from its start to its end.
-fn unfold_activity(alloc: Global, checker: &mut Checker<'_>, t: u32) -> Result<(), ClockEnd>
+fn unfold_activity(alloc: Global, checker: &mut ClockChecker<'_>, t: u32) -> Result<(), ClockEnd>
     requires { t < length checker.old.starts }
     ensures { GivesClockChecker result (checker_started t (slice_get checker.old.starts t) checker.old) checker.new }
 {
@@ -28,7 +28,7 @@ fn unfold_activity(alloc: Global, checker: &mut Checker<'_>, t: u32) -> Result<(
 }
 
 // All activities, those included that are started meanwhile.
-fn unfold_activities(alloc: Global, checker: &mut Checker<'_>) -> Result<(), ClockEnd>
+fn unfold_activities(alloc: Global, checker: &mut ClockChecker<'_>) -> Result<(), ClockEnd>
     ensures { GivesClockChecker result (checker_activities MAX_TASKS 0 checker.old) checker.new }
 {
     let mut t = 0;
@@ -70,7 +70,7 @@ pub fn clock_plan(alloc: Global, program: &ClockProgram) -> Result<Plan, ClockEn
     requires few { clock_count program.now.body < 2 ^ 32 }
     ensures unfolded { GivesClockPlan result (clock_plan_of program.now.body) }
 {
-    let mut checker = Checker::new(alloc, &program.body)?;
+    let mut checker = ClockChecker::new(alloc, &program.body)?;
     unfold_activities(alloc, &mut checker)?;
     let Lists {
         parents,

@@ -8,7 +8,7 @@ ghost use Rattle.armus_base.specs.declared.ids.TaskId.{TaskId};
 ghost use Rattle.clock_pl.specs.inside.ClockChecker.{current};
 ghost use Rattle.clock_pl.specs.inside.ClockCheckerSteps.{GivesClockChecker, clock_viewed, registered_clock, checker_ops, checker_next_clock, checker_next_activity, checker_open, checker_advance, checker_resume, checker_drop, checker_finish, checker_close, checker_visit};
 
-use crate::checker::Checker;
+use crate::checker::ClockChecker;
 use crate::fault::{
     ClockEnd, ClockFault, NOT_REGISTERED, STILL_PENDING, TOO_MANY_ACTIVITIES, TOO_MANY_CLOCK_CELLS,
     TOO_MANY_CLOCK_OPS, TOO_MANY_CLOCK_VISITS, TOO_MANY_CLOCKS, UNKNOWN_CLOCK,
@@ -29,7 +29,7 @@ pub(crate) fn fault_unless(holds: bool, kind: u8, n: u32) -> Result<(), ClockFau
 
 // A visit, or its fault.
 #[tactic(auto, unfolding(crate::specs::inside::ClockCheckerSteps::checker_visit))]
-pub(crate) fn count_visit(checker: &mut Checker<'_>, n: u32) -> Result<(), ClockEnd>
+pub(crate) fn count_visit(checker: &mut ClockChecker<'_>, n: u32) -> Result<(), ClockEnd>
     ensures { GivesClockChecker result (checker_visit n checker.old) checker.new }
 {
     fault_unless(checker.visits() < MAX_VISITS, TOO_MANY_CLOCK_VISITS, n)?;
@@ -38,7 +38,7 @@ pub(crate) fn count_visit(checker: &mut Checker<'_>, n: u32) -> Result<(), Clock
 }
 
 // The clock of this name.
-fn known_clock(checker: &Checker<'_>, n: u32, x: &[u8]) -> Result<PhaserId, ClockFault>
+fn known_clock(checker: &ClockChecker<'_>, n: u32, x: &[u8]) -> Result<PhaserId, ClockFault>
     ensures { clock_viewed (λ (p : PhaserId). p.0) result ≡ as_clock n ((current checker.now).names x.now) }
 {
     match checker.clock(x) {
@@ -52,7 +52,7 @@ fn known_clock(checker: &Checker<'_>, n: u32, x: &[u8]) -> Result<PhaserId, Cloc
 
 // The clock of this name, on which the activity is registered.
 pub(crate) fn registered_clock(
-    checker: &Checker<'_>,
+    checker: &ClockChecker<'_>,
     n: u32,
     x: &[u8],
 ) -> Result<PhaserId, ClockFault>
@@ -66,7 +66,7 @@ pub(crate) fn registered_clock(
 // The clock of this name, on which the activity is registered, and which is not pending if it is wanted idle.
 #[tactic(auto, unfolding(clock_moves::specs::Unfolding::clock_of))]
 fn clock_of(
-    checker: &Checker<'_>,
+    checker: &ClockChecker<'_>,
     wants_idle: bool,
     n: u32,
     x: &[u8],
@@ -80,7 +80,7 @@ fn clock_of(
 
 // Ops behind those of the activity, or the fault that there are too many.
 #[tactic(auto, unfolding(crate::specs::inside::ClockCheckerSteps::checker_ops))]
-pub(crate) fn add_ops(checker: &mut Checker<'_>, n: u32, ops: &[Op]) -> Result<(), ClockEnd>
+pub(crate) fn add_ops(checker: &mut ClockChecker<'_>, n: u32, ops: &[Op]) -> Result<(), ClockEnd>
     ensures { GivesClockChecker result (checker_ops n ops.now checker.old) checker.new }
 {
     let room = (MAX_OPS - checker.ops()) as usize;
@@ -100,7 +100,7 @@ fn has_cells(activities: u32, clocks: u32) -> bool
 
 // The number of a clock or finish more, or the fault that there are too many.
 #[tactic(auto, unfolding(crate::specs::inside::ClockCheckerSteps::checker_next_clock))]
-fn next_clock(checker: &Checker<'_>, n: u32) -> Result<PhaserId, ClockFault>
+fn next_clock(checker: &ClockChecker<'_>, n: u32) -> Result<PhaserId, ClockFault>
     ensures exact { clock_viewed (λ (p : PhaserId). p.0) result ≡ checker_next_clock n checker.now }
     ensures few { OnOk result (length checker.now.makers < MAX_PHASERS) }
 {
@@ -113,7 +113,7 @@ fn next_clock(checker: &Checker<'_>, n: u32) -> Result<PhaserId, ClockFault>
 
 // The number of an activity more, or the fault that there are too many.
 #[tactic(auto, unfolding(crate::specs::inside::ClockCheckerSteps::checker_next_activity))]
-pub(crate) fn next_activity(checker: &Checker<'_>, n: u32) -> Result<TaskId, ClockFault>
+pub(crate) fn next_activity(checker: &ClockChecker<'_>, n: u32) -> Result<TaskId, ClockFault>
     ensures exact { clock_viewed (λ (c : TaskId). c.0) result ≡ checker_next_activity n checker.now }
     ensures few { OnOk result (length checker.now.parents < MAX_TASKS) }
 {
@@ -126,7 +126,7 @@ pub(crate) fn next_activity(checker: &Checker<'_>, n: u32) -> Result<TaskId, Clo
 
 // `clock x;`
 #[tactic(auto, unfolding(crate::specs::inside::ClockCheckerSteps::checker_open, crate::specs::inside::ClockCheckerSteps::checker_move))]
-pub(crate) fn open<'p>(checker: &mut Checker<'p>, n: u32, x: &'p [u8]) -> Result<(), ClockEnd>
+pub(crate) fn open<'p>(checker: &mut ClockChecker<'p>, n: u32, x: &'p [u8]) -> Result<(), ClockEnd>
     ensures { GivesClockChecker result (checker_open n x.now checker.old) checker.new }
 {
     let p = next_clock(checker, n)?;
@@ -139,7 +139,7 @@ pub(crate) fn open<'p>(checker: &mut Checker<'p>, n: u32, x: &'p [u8]) -> Result
 
 // `advance(x);`
 #[tactic(auto, unfolding(crate::specs::inside::ClockCheckerSteps::checker_advance, crate::specs::inside::ClockCheckerSteps::checker_move))]
-pub(crate) fn advance(checker: &mut Checker<'_>, n: u32, x: &[u8]) -> Result<(), ClockEnd>
+pub(crate) fn advance(checker: &mut ClockChecker<'_>, n: u32, x: &[u8]) -> Result<(), ClockEnd>
     ensures { GivesClockChecker result (checker_advance n x.now checker.old) checker.new }
 {
     let p = clock_of(checker, false, n, x)?;
@@ -155,7 +155,7 @@ pub(crate) fn advance(checker: &mut Checker<'_>, n: u32, x: &[u8]) -> Result<(),
 
 // `resume(x);`
 #[tactic(auto, unfolding(crate::specs::inside::ClockCheckerSteps::checker_resume, crate::specs::inside::ClockCheckerSteps::checker_move))]
-pub(crate) fn resume(checker: &mut Checker<'_>, n: u32, x: &[u8]) -> Result<(), ClockEnd>
+pub(crate) fn resume(checker: &mut ClockChecker<'_>, n: u32, x: &[u8]) -> Result<(), ClockEnd>
     ensures { GivesClockChecker result (checker_resume n x.now checker.old) checker.new }
 {
     let p = clock_of(checker, true, n, x)?;
@@ -166,7 +166,7 @@ pub(crate) fn resume(checker: &mut Checker<'_>, n: u32, x: &[u8]) -> Result<(), 
 
 // `drop(x);`
 #[tactic(auto, unfolding(crate::specs::inside::ClockCheckerSteps::checker_drop, crate::specs::inside::ClockCheckerSteps::checker_move))]
-pub(crate) fn leave(checker: &mut Checker<'_>, n: u32, x: &[u8]) -> Result<(), ClockEnd>
+pub(crate) fn leave(checker: &mut ClockChecker<'_>, n: u32, x: &[u8]) -> Result<(), ClockEnd>
     ensures { GivesClockChecker result (checker_drop n x.now checker.old) checker.new }
 {
     let p = clock_of(checker, false, n, x)?;
@@ -178,7 +178,7 @@ pub(crate) fn leave(checker: &mut Checker<'_>, n: u32, x: &[u8]) -> Result<(), C
 
 // `finish {`
 #[tactic(auto, unfolding(crate::specs::inside::ClockCheckerSteps::checker_finish, crate::specs::inside::ClockCheckerSteps::checker_move))]
-pub(crate) fn begin_finish(checker: &mut Checker<'_>, n: u32) -> Result<(), ClockEnd>
+pub(crate) fn begin_finish(checker: &mut ClockChecker<'_>, n: u32) -> Result<(), ClockEnd>
     ensures { GivesClockChecker result (checker_finish n checker.old) checker.new }
 {
     let p = next_clock(checker, n)?;
@@ -191,7 +191,7 @@ pub(crate) fn begin_finish(checker: &mut Checker<'_>, n: u32) -> Result<(), Cloc
 
 // `}` of the innermost finish.
 #[tactic(auto, unfolding(crate::specs::inside::ClockCheckerSteps::checker_close, crate::specs::inside::ClockCheckerSteps::checker_move))]
-pub(crate) fn end_finish(checker: &mut Checker<'_>, n: u32) -> Result<(), ClockEnd>
+pub(crate) fn end_finish(checker: &mut ClockChecker<'_>, n: u32) -> Result<(), ClockEnd>
     ensures { GivesClockChecker result (checker_close n checker.old.known.governing checker.old) checker.new }
 {
     let Some(p) = checker.end_finish() else {

@@ -8,7 +8,7 @@ ghost use Rattle.clock_moves.specs.Unfolding.{a_turn, coming, comings_of};
 ghost use Rattle.clock_pl.specs.inside.ClockCheckerSteps.{GivesClockChecker, checker_come_all, checker_statement};
 
 use crate::activities::start;
-use crate::checker::Checker;
+use crate::checker::ClockChecker;
 use crate::fault::ClockEnd;
 use crate::statements::{advance, begin_finish, count_visit, end_finish, leave, open, resume};
 use clock_syntax::{ClockBody, ClockStmt};
@@ -18,7 +18,7 @@ use std::alloc::Global;
 #[cycle(walk)]
 fn walk_turns<'p>(
     alloc: Global,
-    checker: &mut Checker<'p>,
+    checker: &mut ClockChecker<'p>,
     n: u32,
     turns: u16,
     body: &'p ClockBody,
@@ -37,7 +37,7 @@ fn walk_turns<'p>(
 #[cycle(walk)]
 fn act<'p>(
     alloc: Global,
-    checker: &mut Checker<'p>,
+    checker: &mut ClockChecker<'p>,
     n: u32,
     stmt: &'p ClockStmt,
 ) -> Result<(), ClockEnd>
@@ -64,7 +64,7 @@ fn act<'p>(
 #[cycle(walk)]
 fn walk_statement<'p>(
     alloc: Global,
-    checker: &mut Checker<'p>,
+    checker: &mut ClockChecker<'p>,
     before: u32,
     stmt: &'p ClockStmt,
 ) -> Result<(), ClockEnd>
@@ -80,7 +80,7 @@ fn walk_statement<'p>(
 #[cycle(walk)]
 pub(crate) fn walk_body<'p>(
     alloc: Global,
-    checker: &mut Checker<'p>,
+    checker: &mut ClockChecker<'p>,
     before: u32,
     body: &'p ClockBody,
 ) -> Result<(), ClockEnd>

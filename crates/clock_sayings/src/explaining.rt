@@ -9,7 +9,7 @@ ghost use Rattle.clock_sayings.specs.ClockFacts.{ClockFacts};
 ghost use Rattle.clock_sayings.specs.ClockExplanations.{ExplainsActivities, clock_lines, some_activity_waits};
 
 use crate::counts::{put_counts, put_nobody, somebody_waits};
-use crate::facts::{Facts, Wait};
+use crate::facts::{ClockFacts, Wait};
 use crate::text_facts::{ClockLayout, ClockTextFacts};
 use crate::waits::waits_of;
 use armus_base::{Final, List, NoMemory};
@@ -28,7 +28,7 @@ pub struct ClockExplanation {
 }
 
 // Explains what is known.
-fn explain_facts(facts: &Facts<'_>) -> Result<ClockExplanation, NoMemory>
+fn explain_facts(facts: &ClockFacts<'_>) -> Result<ClockExplanation, NoMemory>
     ensures lines { IfOk result (λ e. e.lines ≡ clock_lines facts.now) }
     ensures waits { IfOk result (λ e. e.has_waiting ≡ some_activity_waits facts.now.ends) }
 {
@@ -56,7 +56,7 @@ fn explain_waits(
     ensures { IfOk result (λ e. (f : ClockFacts) → f ≡ record { of_text = of_text.now; ends = end.now.ends; blocked = end.now.blocked; waits = waits.items }
         → (e.lines ≡ clock_lines f) × (e.has_waiting ≡ some_activity_waits f.ends)) }
 {
-    let facts = Facts::new(of_text, end, waits);
+    let facts = ClockFacts::new(of_text, end, waits);
     let explanation = explain_facts(&facts)?;
     Ok(explanation)
 }

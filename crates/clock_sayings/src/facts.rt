@@ -42,13 +42,13 @@ impl Wait {
 // What is known where a run of a clock text has ended: of the text alone, how its activities have ended, the statuses of those that wait, and where each
 // waits.
 #[derive(Drop)]
-pub(crate) struct Facts<'a> {
+pub(crate) struct ClockFacts<'a> {
     pub(crate) of_text: &'a ClockTextFacts<'a>,
     pub(crate) end: &'a Final,
     pub(crate) waits: Vec<Wait>,
 }
 
-impl<'a> Model for Facts<'a> {
+impl<'a> Model for ClockFacts<'a> {
     ghost use Rattle.std.specs.Prelude.{◌<◌, ◌^◌, length};
     ghost use Rattle.std.specs.Coded.{codes};
     ghost use Rattle.clock_syntax.specs.calls.Trees.{clock_tree_code};
@@ -63,7 +63,7 @@ impl<'a> Model for Facts<'a> {
     ghost invariant = { λ f. length f.end.now.ends < 2 ^ 32 };
 }
 
-impl<'a> Facts<'a> {
+impl<'a> ClockFacts<'a> {
     ghost use Rattle.clock_sayings.specs.ClockWords.{waits_at};
     ghost use Rattle.clock_sayings.specs.ClockExplanations.{pending_in};
     ghost use Rattle.std.specs.Prelude.{slice_index_or, false};
@@ -73,11 +73,11 @@ impl<'a> Facts<'a> {
         of_text: &'a ClockTextFacts<'a>,
         end: &'a Final,
         waits: Vec<Wait>,
-    ) -> Facts<'a>
+    ) -> ClockFacts<'a>
         requires few { length end.now.ends < 2 ^ 32 }
         ensures { result ≡ record { of_text = of_text.now; ends = end.now.ends; blocked = end.now.blocked; waits = waits.items } }
     {
-        Facts {
+        ClockFacts {
             of_text,
             end,
             waits,

@@ -3,7 +3,7 @@ ghost use Rattle.std.specs.Prelude.{◌≡◌, ◌++◌, OnOk, codes, option_map
 ghost use Rattle.clock_sayings.specs.ClockExplanations.{is_below, is_missing, line_if_missing, missing_line, missing_lines, missing_words};
 ghost use Rattle.clock_sayings.specs.ClockWords.{activity_words};
 
-use crate::facts::Facts;
+use crate::facts::ClockFacts;
 use crate::text_facts::ClockTextFacts;
 use accounts::put_words;
 use armus_base::{Event, Member, NoMemory, Status};
@@ -33,7 +33,7 @@ impl<'a> ClockTextFacts<'a> {
     }
 }
 
-impl<'a> Facts<'a> {
+impl<'a> ClockFacts<'a> {
     // Appends an activity whose signal on a clock of this name is missing, or that has not ended.
     fn put_missing(&self, out: &mut Vec<u8>, name: Option<&[u8]>, u: u32) -> Result<(), NoMemory>
         ensures { OnOk result (out.new.items ≡ out.old.items ++ missing_words (option_map (λ x. x.now) name.entry) (activity_words self.now.of_text u)) }

@@ -3,7 +3,7 @@ ghost use Rattle.std.specs.Prelude.{◌≡◌, ◌++◌, OnOk, length, option_co
 ghost use Rattle.armus_base.specs.declared.ending.TaskEnd.TheVariants.{Done};
 ghost use Rattle.clock_sayings.specs.ClockExplanations.{lines_below, activity_paragraph, paragraph_at, paragraph_of_thing, started_at, unstarted_line, wait_words, waiting_paragraph};
 
-use crate::facts::Facts;
+use crate::facts::ClockFacts;
 use crate::text_facts::ClockTextFacts;
 use crate::words::put_number;
 use accounts::put_words;
@@ -56,7 +56,7 @@ impl<'a> ClockTextFacts<'a> {
     }
 }
 
-impl<'a> Facts<'a> {
+impl<'a> ClockFacts<'a> {
     // Appends the paragraph of activity `t`, which waits for the event of this clock or finish.
     fn put_waiting(
         &self,

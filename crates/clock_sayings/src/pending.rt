@@ -2,7 +2,7 @@
 ghost use Rattle.std.specs.Prelude.{◌≡◌, ◌++◌, OnOk, length, option_copied, option_map, slice_get};
 ghost use Rattle.clock_sayings.specs.ClockExplanations.{line_if_pending, lines_below, pending_in, pending_line, pending_lines, pending_named};
 
-use crate::facts::Facts;
+use crate::facts::ClockFacts;
 use crate::text_facts::ClockTextFacts;
 use accounts::put_words;
 use armus_base::{Event, NoMemory, PhaserId};
@@ -38,7 +38,7 @@ impl<'a> ClockTextFacts<'a> {
     }
 }
 
-impl<'a> Facts<'a> {
+impl<'a> ClockFacts<'a> {
     // Appends the line of `p`, where it is pending and not what activity `t` waits for.
     fn put_if_pending(
         &self,

@@ -12,7 +12,7 @@ use Rattle.armus_base.specs.States.{State}
 use Rattle.armus_base.proofs.DeadByStatuses.{dead_by_final, run_is_of_plan}
 use Rattle.armus_base.proofs.Stepping.{places_fix}
 use Rattle.adaptive.specs.declared.analysis.Wanted.{Wanted}
-use Rattle.explained_tasks.specs.declared.outcome.Verdict.TheVariants.{Circle}
+use Rattle.explained_tasks.specs.declared.outcome.WaitVerdict.TheVariants.{Circle}
 use Rattle.explained_tasks.specs.Paragraphs.{paragraphs}
 use Rattle.explained_tasks.specs.RunEnds.{AreFactsAt}
 use Rattle.explained_tasks.specs.VerdictWords.{verdict_line}

@@ -12,8 +12,8 @@ use Rattle.explain.specs.declared.answer.Answer.{Answer}
 use Rattle.explain.specs.Languages.{is_of_clocks}
 use Rattle.explain.specs.Outputs.{AnswersStepsIn, IsExplainCall, MayWrite, text_limit}
 use Rattle.explain.specs.Requests.{Asked, avoided, clocks, explanation, help, nothing, steps, version}
-use Rattle.explain.specs.declared.answer.Wanted.{Wanted}
-use Rattle.explain.specs.declared.answer.Wanted.TheVariants.{Explanation}
+use Rattle.explain.specs.declared.answer.WantedOutput.{WantedOutput}
+use Rattle.explain.specs.declared.answer.WantedOutput.TheVariants.{Explanation}
 use Rattle.explain.specs.calls.Requested.{asked_for}
 use Rattle.explain.specs.inside.Ending.{AnswersSource}
 use Rattle.explain.proofs.Fixing.{completes}
@@ -48,7 +48,7 @@ at_most_three version src status lines is = (let zero = is.0 in omega (arith, ze
 at_most_three nothing src status lines is = (let two = is.0 in omega (arith, two))
 
 -- where a text is read, it has a limit
-limited : (wanted : Wanted) (file : Option Text) → text_limit (asked_for wanted file) ≡ Some MAX_TEXT_BYTES
+limited : (wanted : WantedOutput) (file : Option Text) → text_limit (asked_for wanted file) ≡ Some MAX_TEXT_BYTES
 limited Explanation file = refl
 limited wanted file = refl
 
@@ -92,7 +92,7 @@ module _ (src out : Passage) (same_source same_sink : Type 0) where
       subst (λ (a : Asked). IsExplainCall a src out same_source same_sink number) same (call_finished own lines status number may still (λ _. (source, is)) done)
 
   -- an output for what the source gave was to be written
-  pub call_answered : (wanted : Wanted) (file read : Option Text) (answer : Answer) (lines : Text) (number : ℕ) → read ≡ file
+  pub call_answered : (wanted : WantedOutput) (file read : Option Text) (answer : Answer) (lines : Text) (number : ℕ) → read ≡ file
       → AnswersSource wanted read src answer → lines ≡ answer.lines → Finished out lines (number_of_status answer.status) number
       → IsExplainCall (asked_for wanted file) src out same_source same_sink number
   call_answered wanted file read answer lines number same (may, still) lines_are done =
@@ -101,7 +101,7 @@ module _ (src out : Passage) (same_source same_sink : Type 0) where
       let wrote : Finished out answer.lines status number = subst (λ (t : Text). Finished out t status number) lines_are done in
       call_finished (asked_for wanted file) answer.lines status number own still (λ none. absurd (let limit = limited wanted file in cc)) wrote
 
-module _ (src : Passage) (bytes : Option Text) (faults : ℕ) (same_source same_sink : Type 0) (wanted : Wanted) (file : Option Text) (number : ℕ) where
+module _ (src : Passage) (bytes : Option Text) (faults : ℕ) (same_source same_sink : Type 0) (wanted : WantedOutput) (file : Option Text) (number : ℕ) where
   abbrev same_out : Passage
   same_out = record { before = bytes; after = bytes; faults_before = faults; faults_after = faults }
 

@@ -9,8 +9,8 @@ use Rattle.armus_top.specs.Headline.{GaveTooMuch, HasInput, IsSound, Passage}
 use Rattle.armus_top.specs.declared.programs.TheConstants.{MAX_TEXT_BYTES}
 use Rattle.armus_top.specs.inside.Status.{number_of_status}
 use Rattle.explain.specs.declared.answer.Answer.{Answer}
-use Rattle.explain.specs.declared.answer.Wanted.{Wanted}
-use Rattle.explain.specs.declared.answer.Wanted.TheVariants.{Avoided, Clocks, Explanation, Steps}
+use Rattle.explain.specs.declared.answer.WantedOutput.{WantedOutput}
+use Rattle.explain.specs.declared.answer.WantedOutput.TheVariants.{Avoided, Clocks, Explanation, Steps}
 use Rattle.explain.specs.declared.answer.ClockWanted as clocks
 use Rattle.explain.specs.declared.answer.ClockWanted.TheVariants as c
 use Rattle.explain.specs.declared.answer.PlWanted as pl
@@ -66,7 +66,7 @@ module _ (wanted : clocks.ClockWanted) (file : Option Text) (text : Text) where
       → IfOk r (IsClockAnswerTo wanted file text)
   clock_steps_answer r wanted_is is = rw wanted_is (IfOk-weaker r _ (IsClockAnswerTo c.Steps file text) (λ a told. inl told) is)
 
-module _ (wanted : Wanted) (file : Option Text) (text : Text) where
+module _ (wanted : WantedOutput) (file : Option Text) (text : Text) where
   pub text_is_explained : (r : Result Answer NoMemory) → wanted ≡ Explanation → IfOk r (IsPlAnswerTo p.Explanation file text) → IfOk r (IsAnswerTo wanted file text)
   text_is_explained r wanted_is is = rw wanted_is is
 
@@ -75,7 +75,7 @@ module _ (wanted : Wanted) (file : Option Text) (text : Text) where
   steps_in of_clocks a language is wanted_is =
       let own : AnswersStepsIn (is_of_clocks file text) file text (number_of_status a.status) a.lines =
       subst (λ (b : Bool). AnswersStepsIn b file text (number_of_status a.status) a.lines) (sym language) is in
-      subst (λ (w : Wanted). IsAnswerTo w file text a) (sym wanted_is) own
+      subst (λ (w : WantedOutput). IsAnswerTo w file text a) (sym wanted_is) own
 
   pub text_has_steps : (r : Result Answer NoMemory) → wanted ≡ Steps → is_of_clocks file text ≡ false → IfOk r (IsPlAnswerTo p.Steps file text)
       → IfOk r (IsAnswerTo wanted file text)
@@ -94,13 +94,13 @@ module _ (wanted : Wanted) (file : Option Text) (text : Text) where
   clocks_answer r wanted_is is = rw wanted_is is
 
 -- an output for the text that was read is one for the source
-pub text_answers : (wanted : Wanted) (file : Option Text) (src : Passage) (text : Text) (answer : Answer) → HasInput (Some MAX_TEXT_BYTES) src text
+pub text_answers : (wanted : WantedOutput) (file : Option Text) (src : Passage) (text : Text) (answer : Answer) → HasInput (Some MAX_TEXT_BYTES) src text
     → IsAnswerTo wanted file text answer → IsSound src → AnswersSource wanted file src answer
 text_answers Explanation file src text answer has is still = (inl (text, has, is), still)
 text_answers wanted file src text answer has is still = (inl (text, has, is), still)
 
 -- and so is the refusal of too long a text
-pub length_answers : (wanted : Wanted) (file : Option Text) (src : Passage) (answer : Answer) → GaveTooMuch (Some MAX_TEXT_BYTES) src
+pub length_answers : (wanted : WantedOutput) (file : Option Text) (src : Passage) (answer : Answer) → GaveTooMuch (Some MAX_TEXT_BYTES) src
     → number_of_status answer.status ≡ 3 → answer.lines ≡ length_refusal file → IsSound src → AnswersSource wanted file src answer
 length_answers Explanation file src answer much three lines still = (inr (much, three, lines), still)
 length_answers wanted file src answer much three lines still = (inr (much, three, lines), still)

@@ -16,7 +16,7 @@ pub(crate) struct Answer {
 
 /// Which output is wanted of a text.
 #[derive(Clone, Copy, Debug, PartialEq, Eq)]
-pub enum Wanted {
+pub enum WantedOutput {
     /// Its explanation.
     Explanation,
     /// The steps of its run, and then its explanation.

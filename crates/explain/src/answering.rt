@@ -7,7 +7,7 @@ ghost use Rattle.armus_top.specs.declared.programs.TheConstants.{MAX_TEXT_BYTES}
 ghost use Rattle.explain.specs.inside.Ending.{AnswersSource, EndsUnanswered, IsAnswerTo, IsPlAnswerTo};
 ghost use Rattle.explain.specs.calls.Requested.{file_bytes};
 
-use crate::answer::{Answer, AnswerEnd, ClockWanted, PlWanted, Wanted};
+use crate::answer::{Answer, AnswerEnd, ClockWanted, PlWanted, WantedOutput};
 use crate::checked_text::CheckedText;
 use crate::clocks::answer_clocks;
 use crate::language::is_of_clocks;
@@ -69,7 +69,7 @@ fn answer_pl(
 // The whole output for a text.
 fn answer_text(
     alloc: Global,
-    wanted: Wanted,
+    wanted: WantedOutput,
     file: Option<&[u8]>,
     text: &[u8],
 ) -> Result<Answer, NoMemory>
@@ -77,23 +77,23 @@ fn answer_text(
     ensures answers { IfOk result (IsAnswerTo wanted (file_bytes file.entry) text.now) }
 {
     match wanted {
-        Wanted::Explanation => answer_pl(alloc, PlWanted::Explanation, file, text),
-        Wanted::Steps => {
+        WantedOutput::Explanation => answer_pl(alloc, PlWanted::Explanation, file, text),
+        WantedOutput::Steps => {
             if is_of_clocks(file, text) {
                 answer_clocks(alloc, ClockWanted::Steps, file, text)
             } else {
                 answer_pl(alloc, PlWanted::Steps, file, text)
             }
         }
-        Wanted::Avoided => answer_pl(alloc, PlWanted::Avoided, file, text),
-        Wanted::Clocks => answer_clocks(alloc, ClockWanted::Explanation, file, text),
+        WantedOutput::Avoided => answer_pl(alloc, PlWanted::Avoided, file, text),
+        WantedOutput::Clocks => answer_clocks(alloc, ClockWanted::Explanation, file, text),
     }
 }
 
 /// The whole output for what the source gives, the text of a file with this name or of none, or why there is none.
 pub(crate) fn answer_source<S: Source>(
     alloc: Global,
-    wanted: Wanted,
+    wanted: WantedOutput,
     file: Option<&[u8]>,
     src: &mut S,
 ) -> Result<Answer, AnswerEnd>

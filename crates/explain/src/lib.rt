@@ -12,7 +12,7 @@ mod refusing;
 mod request;
 mod top;
 
-pub use answer::Wanted;
+pub use answer::WantedOutput;
 pub use laws::{
     explains_as_run, one_avoided_output, one_clock_output, one_output, one_steps_output,
 };

@@ -3,7 +3,7 @@ ghost use Rattle.std.specs.Prelude.{◌≡◌, [], ◌∷◌, map, string_bytes}
 ghost use Rattle.explain.specs.Requests.{asked, file_asked, names_file, word_asked};
 ghost use Rattle.explain.specs.calls.Requested.{asked_for, requested, wanted_by_word};
 
-use crate::answer::Wanted;
+use crate::answer::WantedOutput;
 
 const RUN: &str = "run";
 
@@ -21,7 +21,7 @@ const VERSION: &str = "--version";
 #[derive(Clone, Copy, Debug)]
 pub enum Request<'w> {
     /// This of a text, from the file with this name, or from standard input.
-    Text(Wanted, Option<&'w str>),
+    Text(WantedOutput, Option<&'w str>),
     /// The lines of help.
     Help,
     /// The line of the version.
@@ -32,7 +32,7 @@ pub enum Request<'w> {
 
 impl<'w> Request<'w> {
     // What is asked for where a word can only be the name of the file with the text of which this is wanted.
-    fn of_file(wanted: Wanted, word: &'w str) -> Request<'w>
+    fn of_file(wanted: WantedOutput, word: &'w str) -> Request<'w>
         ensures { requested result ≡ file_asked (asked_for wanted) word.now }
     {
         if names_file(word) {
@@ -54,20 +54,20 @@ fn names_file(word: &str) -> bool
 }
 
 // What a word asks for of a text, if it does.
-fn wanted_by_word(word: &str) -> Option<Wanted>
+fn wanted_by_word(word: &str) -> Option<WantedOutput>
     ensures { result ≡ wanted_by_word word.now }
 {
     if word == RUN {
-        return Some(Wanted::Explanation);
+        return Some(WantedOutput::Explanation);
     }
     if word == STEPS {
-        return Some(Wanted::Steps);
+        return Some(WantedOutput::Steps);
     }
     if word == AVOID {
-        return Some(Wanted::Avoided);
+        return Some(WantedOutput::Avoided);
     }
     if word == CLOCK {
-        return Some(Wanted::Clocks);
+        return Some(WantedOutput::Clocks);
     }
     None
 }
@@ -85,7 +85,7 @@ fn word_request(word: &str) -> Request<'_>
     if word == VERSION {
         return Request::Version;
     }
-    Request::of_file(Wanted::Explanation, word)
+    Request::of_file(WantedOutput::Explanation, word)
 }
 
 // What two words ask for.
@@ -103,7 +103,7 @@ pub fn request_of(words: &[String]) -> Request<'_>
     ensures asked { requested result ≡ asked (map string_bytes words.now) }
 {
     match words {
-        [] => Request::Text(Wanted::Explanation, None),
+        [] => Request::Text(WantedOutput::Explanation, None),
         [word] => word_request(word.as_str()),
         [word, file] => words_request(word.as_str(), file.as_str()),
         _ => Request::Usage,

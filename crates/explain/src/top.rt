@@ -6,7 +6,7 @@ ghost use Rattle.explain.specs.Outputs.{IsExplainCall};
 ghost use Rattle.explain.specs.Requests.{asked};
 ghost use Rattle.explain.specs.calls.Requested.{asked_for, file_bytes};
 
-use crate::answer::{AnswerEnd, Wanted};
+use crate::answer::{AnswerEnd, WantedOutput};
 use crate::answering::answer_source;
 use crate::request::{Request, request_of};
 use armus_base::{Sink, Source};
@@ -45,7 +45,7 @@ fn name_bytes(file: Option<&str>) -> Option<&[u8]>
 // Writes the explanation or the refusal of what the source gives.
 fn explain_source<S: Source, K: Sink>(
     alloc: Global,
-    wanted: Wanted,
+    wanted: WantedOutput,
     file: Option<&str>,
     src: &mut S,
     out: &mut K,

@@ -16,8 +16,8 @@ use Rattle.armus_base.specs.States.{State}
 use Rattle.report.specs.Reports.{IsLeastDead, IsReportedCycle, IsSomeDead}
 use Rattle.verdict.specs.Cycles.{IsDeadStep}
 use Rattle.task_sayings.specs.declared.impeders.Impeder.{Impeder}
-use Rattle.explained_tasks.specs.declared.outcome.Verdict.{Verdict}
-use Rattle.explained_tasks.specs.declared.outcome.Verdict.TheVariants.{Nobody, Circle, Chain}
+use Rattle.explained_tasks.specs.declared.outcome.WaitVerdict.{WaitVerdict}
+use Rattle.explained_tasks.specs.declared.outcome.WaitVerdict.TheVariants.{Nobody, Circle, Chain}
 use Rattle.task_sayings.specs.declared.situation.Situation.{Situation}
 use Rattle.task_sayings.specs.declared.situation.Situation.TheVariants.{Deadlocked, Held, HasEnded, NotForkedYet, NeverForked}
 use Rattle.task_sayings.specs.Facts.{FactsValue, forking_of, is_deadlocked, is_waiting, situation_of, tasks_that}
@@ -87,12 +87,12 @@ module _ (plan : Plan) (a : ℕ → Place) (f : FactsValue) (at : AreFactsAt pla
         let is = all_keep (IsNext f s.phases) IsDeadTask keeps start dead whole w.steps w.starts (length w.before + 1) start (omega arith) in
         has_next last (subst IsDeadTask (get_or-append-add w.before (held ∷ last ∷ []) 1 start) is) w.ends
 
-    shown_circle : (v : Verdict) → IsVerdictFrom f s.phases (Some start) v → (cycle : List TaskId) × (v ≡ Circle cycle) × IsWalkCycle (IsNext f s.phases) start cycle
+    shown_circle : (v : WaitVerdict) → IsVerdictFrom f s.phases (Some start) v → (cycle : List TaskId) × (v ≡ Circle cycle) × IsWalkCycle (IsNext f s.phases) start cycle
     shown_circle Nobody is = absurd is
     shown_circle (Circle c) is = (c, refl, is)
     shown_circle (Chain held last) is = absurd (no_end held last is)
 
-  pub reported : (v : Verdict) → IsVerdictFrom f s.phases (walk_start f) v → IsSomeDead blocked → (cycle : List TaskId) × (v ≡ Circle cycle) × IsReportedCycle blocked cycle
+  pub reported : (v : WaitVerdict) → IsVerdictFrom f s.phases (walk_start f) v → IsSomeDead blocked → (cycle : List TaskId) × (v ≡ Circle cycle) × IsReportedCycle blocked cycle
   reported v is some =
       let (start, starts, least) = starts_dead some in
       let (c, same, walk) = shown_circle start least.dead v (subst (λ o. IsVerdictFrom f s.phases o v) starts is) in

@@ -35,7 +35,7 @@ use Rattle.task_sayings.specs.Nexts.{IsNext, next_by, next_of}
 use Rattle.task_sayings.specs.declared.impeders.Impeder.{Impeder}
 use Rattle.task_sayings.specs.declared.situation.Situation.{Situation}
 use Rattle.task_sayings.specs.declared.situation.Situation.TheVariants.{Deadlocked, Held, HasEnded, NotForkedYet, NeverForked}
-use Rattle.explained_tasks.specs.declared.outcome.Verdict.TheVariants.{Chain}
+use Rattle.explained_tasks.specs.declared.outcome.WaitVerdict.TheVariants.{Chain}
 use Rattle.explained_tasks.specs.calls.Laws.{ChainsEnd, ForkersAreToCome, HeldAreNotImpededByDead, IsToCome}
 use Rattle.explained_tasks.specs.RunEnds.{AreFactsAt}
 use Rattle.explained_tasks.specs.Verdicts.{IsVerdictFrom, walk_start}

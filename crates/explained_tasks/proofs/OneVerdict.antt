@@ -6,8 +6,8 @@ use Rattle.armus_base.specs.declared.ids.TaskId.{TaskId}
 use Rattle.armus_base.specs.Relations.{IsWalk, IsWalkCycle}
 use Rattle.armus_base.specs.States.{Phases}
 use Rattle.verdict.proofs.OneCycle.{one_cycle}
-use Rattle.explained_tasks.specs.declared.outcome.Verdict.{Verdict}
-use Rattle.explained_tasks.specs.declared.outcome.Verdict.TheVariants.{Nobody, Circle, Chain}
+use Rattle.explained_tasks.specs.declared.outcome.WaitVerdict.{WaitVerdict}
+use Rattle.explained_tasks.specs.declared.outcome.WaitVerdict.TheVariants.{Nobody, Circle, Chain}
 use Rattle.task_sayings.specs.Facts.{FactsValue}
 use Rattle.task_sayings.specs.Nexts.{IsNext, next_of}
 use Rattle.explained_tasks.specs.Verdicts.{IsVerdict, IsVerdictFrom, IsWalkTo, walk_start}
@@ -119,7 +119,7 @@ module _ (f : FactsValue) (phases : ℕ → Phases) where
           let none = w.ends in
           cc
 
-  one_from : (start : Option TaskId) (v w : Verdict) → IsVerdictFrom f phases start v → IsVerdictFrom f phases start w → v ≡ w
+  one_from : (start : Option TaskId) (v w : WaitVerdict) → IsVerdictFrom f phases start v → IsVerdictFrom f phases start w → v ≡ w
   one_from None v w a b = a ∙ sym b
   one_from (Some s) Nobody w a b = absurd a
   one_from (Some s) (Circle c) Nobody a b = absurd b
@@ -131,5 +131,5 @@ module _ (f : FactsValue) (phases : ℕ → Phases) where
       let both = one_end s h l h' l' a b in
       ap (λ x. Chain x l) both.0 ∙ ap (λ x. Chain h' x) both.1
 
-  pub one_verdict : (v w : Verdict) → IsVerdict f phases v → IsVerdict f phases w → v ≡ w
+  pub one_verdict : (v w : WaitVerdict) → IsVerdict f phases v → IsVerdict f phases w → v ≡ w
   one_verdict v w a b = one_from (walk_start f) v w a b

@@ -5,8 +5,8 @@ use Rattle.armus_base.specs.declared.ids.TaskId.{TaskId}
 use Rattle.armus_base.specs.Finals.{list_below}
 use Rattle.armus_base.specs.States.{Phases}
 use Rattle.armus_base.proofs.Elements.{nothing_in_nil}
-use Rattle.explained_tasks.specs.declared.outcome.Verdict.{Verdict}
-use Rattle.explained_tasks.specs.declared.outcome.Verdict.TheVariants.{Nobody, Circle, Chain}
+use Rattle.explained_tasks.specs.declared.outcome.WaitVerdict.{WaitVerdict}
+use Rattle.explained_tasks.specs.declared.outcome.WaitVerdict.TheVariants.{Nobody, Circle, Chain}
 use Rattle.task_sayings.specs.Facts.{FactsValue, is_deadlocked, is_waiting, situation_of, tasks_that}
 use Rattle.explained_tasks.specs.calls.Laws.{WaitingIsTold}
 use Rattle.task_sayings.specs.Nexts.{first_or}
@@ -21,7 +21,7 @@ has_first [] t m e = nothing_in_nil t m
 has_first (x ∷ xs) t m e = cc
 
 -- where there is a start, the verdict is not that nobody waits
-told : (f : FactsValue) (phases : ℕ → Phases) (o : Option TaskId) (v : Verdict) → IsVerdictFrom f phases o v → ((o ≡ None) × (somebody_waits v ≡ false)) ⊎ ((s : TaskId) × (o ≡ Some s) × (somebody_waits v ≡ true))
+told : (f : FactsValue) (phases : ℕ → Phases) (o : Option TaskId) (v : WaitVerdict) → IsVerdictFrom f phases o v → ((o ≡ None) × (somebody_waits v ≡ false)) ⊎ ((s : TaskId) × (o ≡ Some s) × (somebody_waits v ≡ true))
 told f phases None v is = inl (refl, ap somebody_waits is)
 told f phases (Some s) Nobody is = absurd is
 told f phases (Some s) (Circle shown) is = inr (s, refl, refl)

@@ -13,8 +13,8 @@ use Rattle.armus_base.proofs.Counts.{IsDistinct-push, distinct_le}
 use Rattle.armus_base.proofs.WalkCycles.{IsWalkTo as Goes, walk_more}
 use Rattle.adaptive.proofs.Deciding.{told_in}
 use Rattle.report.proofs.CycleExists.{told_task}
-use Rattle.explained_tasks.specs.declared.outcome.Verdict.{Verdict}
-use Rattle.explained_tasks.specs.declared.outcome.Verdict.TheVariants.{Nobody, Circle, Chain}
+use Rattle.explained_tasks.specs.declared.outcome.WaitVerdict.{WaitVerdict}
+use Rattle.explained_tasks.specs.declared.outcome.WaitVerdict.TheVariants.{Nobody, Circle, Chain}
 use Rattle.task_sayings.specs.Facts.{FactsValue, is_waiting, situation_of}
 use Rattle.task_sayings.specs.Nexts.{IsNext, next_of}
 use Rattle.explained_tasks.specs.Verdicts.{IsVerdict, IsVerdictFrom, walk_start}
@@ -43,12 +43,12 @@ module _ (f : FactsValue) (phases : ℕ → Phases) (plan : Plan) (fits : FactsF
     all : (t : TaskId) → Contains path t → t.0 < n
 
   module _ (path : List TaskId) (node : TaskId) (h : Walked path node) where
-    back_at : Contains path node → (v : Verdict) × IsVerdictFrom f phases (Some start) v
+    back_at : Contains path node → (v : WaitVerdict) × IsVerdictFrom f phases (Some start) v
     back_at (k, lt, e) =
         let v = Circle (drop k path) in
         (v, closes f phases start node path h.walk v (k, lt, λ d. get_or_default path k d node lt ∙ e, refl))
 
-    ends_at : next_of f phases node.0 ≡ None → (v : Verdict) × IsVerdictFrom f phases (Some start) v
+    ends_at : next_of f phases node.0 ≡ None → (v : WaitVerdict) × IsVerdictFrom f phases (Some start) v
     ends_at none =
         elim (cases_lt 0 (length path)) [
           | inl some ↦
@@ -79,12 +79,12 @@ module _ (f : FactsValue) (phases : ℕ → Phases) (plan : Plan) (fits : FactsF
   -- the walk ends here, or goes on
   next_or_end :
       (path : List TaskId) (node : TaskId) → Walked path node →
-      ((next : TaskId) → next_of f phases node.0 ≡ Some next → (v : Verdict) × IsVerdictFrom f phases (Some start) v) →
-      (o : Option TaskId) → next_of f phases node.0 ≡ o → (v : Verdict) × IsVerdictFrom f phases (Some start) v
+      ((next : TaskId) → next_of f phases node.0 ≡ Some next → (v : WaitVerdict) × IsVerdictFrom f phases (Some start) v) →
+      (o : Option TaskId) → next_of f phases node.0 ≡ o → (v : WaitVerdict) × IsVerdictFrom f phases (Some start) v
   next_or_end path node h on None is = ends_at path node h is
   next_or_end path node h on (Some next) is = on next is
 
-  goes : (fuel : ℕ) (path : List TaskId) (node : TaskId) → Walked path node → n ≤ length path + fuel → (v : Verdict) × IsVerdictFrom f phases (Some start) v
+  goes : (fuel : ℕ) (path : List TaskId) (node : TaskId) → Walked path node → n ≤ length path + fuel → (v : WaitVerdict) × IsVerdictFrom f phases (Some start) v
   goes zero path node h few =
       elim (told_in told_task path node) [ inl there ↦ back_at path node h there | inr new ↦ absurd (let lt = shorter path node h new in omega arith) ]
   goes (suc fuel) path node h few =
@@ -96,7 +96,7 @@ module _ (f : FactsValue) (phases : ℕ → Phases) (plan : Plan) (fits : FactsF
             (next_of f phases node.0) refl
       ]
 
-  shown_from : start.0 < n → (v : Verdict) × IsVerdictFrom f phases (Some start) v
+  shown_from : start.0 < n → (v : WaitVerdict) × IsVerdictFrom f phases (Some start) v
   shown_from lt =
       goes n [] start
       (record {
@@ -113,11 +113,11 @@ module _ (f : FactsValue) (phases : ℕ → Phases) (plan : Plan) (fits : FactsF
       (omega arith)
 
 module _ (f : FactsValue) (phases : ℕ → Phases) (plan : Plan) (fits : FactsFitPlan f plan) (wait : WaitForSome f phases) where
-  by_start : (o : Option TaskId) → walk_start f ≡ o → (v : Verdict) × IsVerdictFrom f phases o v
+  by_start : (o : Option TaskId) → walk_start f ≡ o → (v : WaitVerdict) × IsVerdictFrom f phases o v
   by_start None is = (Nobody, refl)
   by_start (Some s) is =
       let (lt, waits) = start_waits f s is in
       shown_from f phases plan fits wait s waits (omega (arith, lt, fits.sized))
 
-  pub verdict_exists : (v : Verdict) × IsVerdict f phases v
+  pub verdict_exists : (v : WaitVerdict) × IsVerdict f phases v
   verdict_exists = by_start (walk_start f) refl

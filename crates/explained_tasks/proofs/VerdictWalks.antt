@@ -8,8 +8,8 @@ use Rattle.armus_base.specs.Relations.{IsWalk, IsWalkCycle}
 use Rattle.armus_base.specs.States.{Phases}
 use Rattle.armus_base.proofs.WalkCycles.{IsWalk-push, walk_done, IsWalkTo as Goes}
 use Rattle.armus_base.proofs.Lists.{set_flag}
-use Rattle.explained_tasks.specs.declared.outcome.Verdict.{Verdict}
-use Rattle.explained_tasks.specs.declared.outcome.Verdict.TheVariants.{Nobody, Circle, Chain}
+use Rattle.explained_tasks.specs.declared.outcome.WaitVerdict.{WaitVerdict}
+use Rattle.explained_tasks.specs.declared.outcome.WaitVerdict.TheVariants.{Nobody, Circle, Chain}
 use Rattle.task_sayings.specs.Facts.{FactsValue}
 use Rattle.task_sayings.specs.Nexts.{IsNext, next_of}
 use Rattle.explained_tasks.specs.Verdicts.{IsVerdictFrom}
@@ -28,13 +28,13 @@ last_split xs x some at =
 
 module _ (f : FactsValue) (phases : ℕ → Phases) (start t : TaskId) (path : List TaskId) (goes : Goes (IsNext f phases) start path t) where
   -- it closes
-  pub closes : (v : Verdict) → ClosesIn path t v → IsVerdictFrom f phases (Some start) v
+  pub closes : (v : WaitVerdict) → ClosesIn path t v → IsVerdictFrom f phases (Some start) v
   closes Nobody is = is
   closes (Chain held last) is = absurd is
   closes (Circle shown) (at, lt, there, same) = subst (λ xs. IsWalkCycle (IsNext f phases) start xs) (sym same) (walk_done (IsNext f phases) start path t goes at lt there)
 
   -- it comes to its end
-  pub ends : (v : Verdict) → 0 < length path → next_of f phases t.0 ≡ None → WalkEndsIn path t v → IsVerdictFrom f phases (Some start) v
+  pub ends : (v : WaitVerdict) → 0 < length path → next_of f phases t.0 ≡ None → WalkEndsIn path t v → IsVerdictFrom f phases (Some start) v
   ends Nobody some none is = is
   ends (Circle shown) some none is = absurd is
   ends (Chain held last) some none (at, same) =

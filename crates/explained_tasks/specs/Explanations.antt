@@ -12,7 +12,7 @@ use Rattle.report.specs.Counts.{counts_of}
 use Rattle.report.specs.Lines.{counts_line}
 use Rattle.report.specs.Standings.{AreStandings}
 use Rattle.report.specs.declared.standing.Standing.{Standing}
-use Rattle.explained_tasks.specs.declared.outcome.Verdict.{Verdict}
+use Rattle.explained_tasks.specs.declared.outcome.WaitVerdict.{WaitVerdict}
 use Rattle.task_sayings.specs.Facts.{FactsValue, facts_of}
 use Rattle.explained_tasks.specs.Paragraphs.{paragraphs}
 use Rattle.explained_tasks.specs.RunEnds.{IsAccountOf}
@@ -20,12 +20,12 @@ use Rattle.explained_tasks.specs.VerdictWords.{verdict_line}
 use Rattle.explained_tasks.specs.Verdicts.{IsVerdict, shown_of, somebody_waits}
 
 -- the lines with this verdict: how many tasks stand in each way, the verdict, and the paragraphs
-abbrev pub explained_by : FactsValue → (ℕ → Phases) → List ℕ → Verdict → List ℕ
+abbrev pub explained_by : FactsValue → (ℕ → Phases) → List ℕ → WaitVerdict → List ℕ
 explained_by f phases counts v = counts ++ verdict_line f v ++ paragraphs f phases (shown_of v)
 
 -- these lines explain what is known in a state with these phases, behind this line of counts, and tell whether somebody waits for ever
 pub record Explains (f : FactsValue) (phases : ℕ → Phases) (counts : List ℕ) (lines : List ℕ) (waits : Bool) : Type 0 where
-  pub verdict : Verdict
+  pub verdict : WaitVerdict
   pub found : IsVerdict f phases verdict
   pub is_it : lines ≡ explained_by f phases counts verdict
   pub tells : waits ≡ somebody_waits verdict

@@ -9,8 +9,8 @@ use Rattle.armus_base.specs.Runs.{Place}
 use Rattle.armus_base.specs.States.{Phases}
 use Rattle.accounts.specs.declared.account.Waiting.{Waiting}
 use Rattle.report.specs.Reports.{IsReportedCycle, IsSomeDead}
-use Rattle.explained_tasks.specs.declared.outcome.Verdict.{Verdict}
-use Rattle.explained_tasks.specs.declared.outcome.Verdict.TheVariants.{Circle}
+use Rattle.explained_tasks.specs.declared.outcome.WaitVerdict.{WaitVerdict}
+use Rattle.explained_tasks.specs.declared.outcome.WaitVerdict.TheVariants.{Circle}
 use Rattle.task_sayings.specs.Facts.{FactsValue, is_waiting, situation_of, wait_of}
 use Rattle.explained_tasks.specs.ImpederLines.{group_of, rest_of, told_of}
 use Rattle.task_sayings.specs.Impeders.{impeders_by_facts}
@@ -64,6 +64,6 @@ EachImpederIsTold =
 -- where a task is dead, the verdict is a circle: the cycle of the report
 abbrev pub DeadlockIsReported : Type 0
 DeadlockIsReported =
-    (plan : Plan) (a : ℕ → Place) (f : FactsValue) (v : Verdict) → AreFactsAt plan a f → IsVerdict f (state_at plan a).phases v →
+    (plan : Plan) (a : ℕ → Place) (f : FactsValue) (v : WaitVerdict) → AreFactsAt plan a f → IsVerdict f (state_at plan a).phases v →
     IsSomeDead (final_of plan (state_at plan a)).blocked →
     (cycle : List TaskId) × (v ≡ Circle cycle) × IsReportedCycle (final_of plan (state_at plan a)).blocked cycle

@@ -6,8 +6,8 @@ use Rattle.armus_base.specs.declared.ids.TaskId.{TaskId}
 use Rattle.pl_syntax.specs.Printed.{line}
 use Rattle.task_sayings.specs.declared.situation.Situation.{Situation}
 use Rattle.task_sayings.specs.declared.situation.Situation.TheVariants.{HasEnded, NotForkedYet}
-use Rattle.explained_tasks.specs.declared.outcome.Verdict.{Verdict}
-use Rattle.explained_tasks.specs.declared.outcome.Verdict.TheVariants.{Nobody, Circle, Chain}
+use Rattle.explained_tasks.specs.declared.outcome.WaitVerdict.{WaitVerdict}
+use Rattle.explained_tasks.specs.declared.outcome.WaitVerdict.TheVariants.{Nobody, Circle, Chain}
 use Rattle.task_sayings.specs.Facts.{FactsValue, is_deadlocked, is_waiting, situation_of, tasks_that}
 use Rattle.task_sayings.specs.Places.{end_words, fork_place, named_task, wait_place}
 
@@ -45,7 +45,7 @@ walk_end_words f t HasEnded = codes ", which ended at " ++ end_words f t
 walk_end_words f t _ = codes ", which is never forked"
 
 -- what the verdict says
-abbrev pub verdict_words : FactsValue → Verdict → List ℕ
+abbrev pub verdict_words : FactsValue → WaitVerdict → List ℕ
 verdict_words f Nobody = codes "nobody waits for ever"
 verdict_words f (Circle shown) = circle_words f shown
 verdict_words f (Chain held last) = linked_words f 0 held ++ named_task f last.0 ++ walk_end_words f last.0 (situation_of f last.0)
@@ -56,10 +56,10 @@ kind_words zero = codes "waits for ever: "
 kind_words (suc n) = codes "deadlock: "
 
 -- with what the verdict begins, if anybody waits
-abbrev pub verdict_kind : FactsValue → Verdict → List ℕ
+abbrev pub verdict_kind : FactsValue → WaitVerdict → List ℕ
 verdict_kind f Nobody = []
 verdict_kind f _ = kind_words (length (tasks_that is_deadlocked f))
 
 -- the line of the verdict
-abbrev pub verdict_line : FactsValue → Verdict → List ℕ
+abbrev pub verdict_line : FactsValue → WaitVerdict → List ℕ
 verdict_line f v = line (verdict_kind f v ++ verdict_words f v)

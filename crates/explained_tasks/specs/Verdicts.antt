@@ -3,8 +3,8 @@ use Rattle.std.specs.Prelude.{◌≡◌, ℕ, Bool, true, false, List, [], ◌�
 use Rattle.armus_base.specs.declared.ids.TaskId.{TaskId}
 use Rattle.armus_base.specs.Relations.{IsWalk, IsWalkCycle}
 use Rattle.armus_base.specs.States.{Phases}
-use Rattle.explained_tasks.specs.declared.outcome.Verdict.{Verdict}
-use Rattle.explained_tasks.specs.declared.outcome.Verdict.TheVariants.{Nobody, Circle, Chain}
+use Rattle.explained_tasks.specs.declared.outcome.WaitVerdict.{WaitVerdict}
+use Rattle.explained_tasks.specs.declared.outcome.WaitVerdict.TheVariants.{Nobody, Circle, Chain}
 use Rattle.task_sayings.specs.Facts.{FactsValue, is_deadlocked, is_waiting, tasks_that}
 use Rattle.task_sayings.specs.Nexts.{IsNext, first_or, next_of}
 
@@ -20,23 +20,23 @@ pub record IsWalkTo (f : FactsValue) (phases : ℕ → Phases) (start held last 
   pub ends : next_of f phases last.0 ≡ None
 
 -- what the walk from the start shows: the circle in which it closes, or the last two tasks, where it comes to an end
-abbrev pub IsVerdictFrom : FactsValue → (ℕ → Phases) → Option TaskId → Verdict → Type 0
+abbrev pub IsVerdictFrom : FactsValue → (ℕ → Phases) → Option TaskId → WaitVerdict → Type 0
 IsVerdictFrom f phases None v = v ≡ Nobody
 IsVerdictFrom f phases (Some start) Nobody = ⊥
 IsVerdictFrom f phases (Some start) (Circle shown) = IsWalkCycle (IsNext f phases) start shown
 IsVerdictFrom f phases (Some start) (Chain held last) = IsWalkTo f phases start held last
 
 -- the verdict: where no task waits, that nobody does, else what the walk shows
-abbrev pub IsVerdict : FactsValue → (ℕ → Phases) → Verdict → Type 0
+abbrev pub IsVerdict : FactsValue → (ℕ → Phases) → WaitVerdict → Type 0
 IsVerdict f phases v = IsVerdictFrom f phases (walk_start f) v
 
 -- the shown tasks
-abbrev pub shown_of : Verdict → List TaskId
+abbrev pub shown_of : WaitVerdict → List TaskId
 shown_of Nobody = []
 shown_of (Circle shown) = shown
 shown_of (Chain held last) = held ∷ last ∷ []
 
 -- somebody waits for ever: the verdict is not that nobody does
-abbrev pub somebody_waits : Verdict → Bool
+abbrev pub somebody_waits : WaitVerdict → Bool
 somebody_waits Nobody = false
 somebody_waits _ = true

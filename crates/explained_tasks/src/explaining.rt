@@ -9,7 +9,7 @@ ghost use Rattle.explained_tasks.specs.inside.Fitting.{WaitForSome};
 ghost use Rattle.pl_core.specs.calls.Worlds.{places_of, state_of};
 ghost use Rattle.explained_tasks.specs.Verdicts.{shown_of, somebody_waits};
 
-use crate::outcome::Verdict;
+use crate::outcome::WaitVerdict;
 use crate::paragraphs::put_paragraphs;
 use crate::verdict_line::put_verdict;
 use crate::walk::verdict_of;
@@ -31,14 +31,14 @@ pub struct Explanation {
 }
 
 // The shown tasks.
-fn shown_of(alloc: Global, verdict: &Verdict) -> Result<Vec<TaskId>, NoMemory>
+fn shown_of(alloc: Global, verdict: &WaitVerdict) -> Result<Vec<TaskId>, NoMemory>
     ensures { IfOk result (λ v. v.items ≡ shown_of verdict.now) }
 {
     let mut shown = Vec::new(alloc);
     match verdict {
-        Verdict::Nobody => {}
-        Verdict::Circle(tasks) => shown.extend_from_slice(tasks.as_slice())?,
-        Verdict::Chain(held, last) => {
+        WaitVerdict::Nobody => {}
+        WaitVerdict::Circle(tasks) => shown.extend_from_slice(tasks.as_slice())?,
+        WaitVerdict::Chain(held, last) => {
             shown.push(*held)?;
             shown.push(*last)?;
         }
@@ -47,11 +47,11 @@ fn shown_of(alloc: Global, verdict: &Verdict) -> Result<Vec<TaskId>, NoMemory>
 }
 
 // Whether a task waits, by the verdict.
-fn has_waiting(verdict: &Verdict) -> bool
+fn has_waiting(verdict: &WaitVerdict) -> bool
     ensures { result ≡ somebody_waits verdict.now }
 {
     match verdict {
-        Verdict::Nobody => false,
+        WaitVerdict::Nobody => false,
         _ => true,
     }
 }

@@ -16,5 +16,5 @@ pub use laws::{
     explanation_exists, held_are_not_impeded_by_dead, nothing_is_said_twice, one_explanation,
     says_what_is_so, somebody_waits, walks_end,
 };
-pub use outcome::Verdict;
+pub use outcome::WaitVerdict;
 pub use paragraphs::put_paragraphs;

@@ -4,7 +4,7 @@ use armus_base::{List, TaskId};
 
 /// Whether somebody waits for ever, and which tasks show it.
 #[derive(Drop)]
-pub enum Verdict {
+pub enum WaitVerdict {
     /// No task waits.
     Nobody,
     /// The walk from the least task that waits closes in these tasks.

@@ -1,12 +1,12 @@
 // The line of the verdict.
 ghost use Rattle.std.specs.Prelude.{◌<◌, ◌↔◌, ◌≡◌, ◌++◌, IsTrue, OnOk, flat_map, length};
 ghost use Rattle.std.specs.List.{enumerate_from};
-ghost use Rattle.explained_tasks.specs.declared.outcome.Verdict.TheVariants.{Chain};
+ghost use Rattle.explained_tasks.specs.declared.outcome.WaitVerdict.TheVariants.{Chain};
 ghost use Rattle.task_sayings.specs.declared.situation.Situation.TheVariants.{HasEnded, NotForkedYet};
 ghost use Rattle.task_sayings.specs.Facts.{is_deadlocked, situation_of, tasks_that};
 ghost use Rattle.explained_tasks.specs.VerdictWords.{circle_words, walk_end_words, link_as, link_words, linked_words, shown_as, shown_words, verdict_kind, verdict_line, verdict_words};
 
-use crate::outcome::Verdict;
+use crate::outcome::WaitVerdict;
 use crate::walk::least_dead;
 use accounts::put_words;
 use armus_base::{NoMemory, TaskId};
@@ -129,13 +129,17 @@ fn put_chain(facts: &Facts, out: &mut Vec<u8>, held: TaskId, last: TaskId) -> Re
 }
 
 // Appends what the verdict says.
-fn put_verdict_words(facts: &Facts, out: &mut Vec<u8>, verdict: &Verdict) -> Result<(), NoMemory>
+fn put_verdict_words(
+    facts: &Facts,
+    out: &mut Vec<u8>,
+    verdict: &WaitVerdict,
+) -> Result<(), NoMemory>
     ensures { OnOk result (out.new.items ≡ out.old.items ++ verdict_words facts.now verdict.now) }
 {
     match verdict {
-        Verdict::Nobody => put_words(out, b"nobody waits for ever"),
-        Verdict::Circle(shown) => put_circle(facts, out, shown.as_slice()),
-        Verdict::Chain(held, last) => put_chain(facts, out, *held, *last),
+        WaitVerdict::Nobody => put_words(out, b"nobody waits for ever"),
+        WaitVerdict::Circle(shown) => put_circle(facts, out, shown.as_slice()),
+        WaitVerdict::Chain(held, last) => put_chain(facts, out, *held, *last),
     }
 }
 
@@ -147,11 +151,11 @@ fn has_deadlocked(facts: &Facts) -> bool
 }
 
 // Appends with what the verdict begins.
-fn put_verdict_kind(facts: &Facts, out: &mut Vec<u8>, verdict: &Verdict) -> Result<(), NoMemory>
+fn put_verdict_kind(facts: &Facts, out: &mut Vec<u8>, verdict: &WaitVerdict) -> Result<(), NoMemory>
     ensures { OnOk result (out.new.items ≡ out.old.items ++ verdict_kind facts.now verdict.now) }
 {
     match verdict {
-        Verdict::Nobody => Ok(()),
+        WaitVerdict::Nobody => Ok(()),
         _ => {
             if has_deadlocked(facts) {
                 put_words(out, b"deadlock: ")
@@ -166,7 +170,7 @@ fn put_verdict_kind(facts: &Facts, out: &mut Vec<u8>, verdict: &Verdict) -> Resu
 pub(crate) fn put_verdict(
     facts: &Facts,
     out: &mut Vec<u8>,
-    verdict: &Verdict,
+    verdict: &WaitVerdict,
 ) -> Result<(), NoMemory>
     ensures { OnOk result (out.new.items ≡ out.old.items ++ verdict_line facts.now verdict.now) }
 {

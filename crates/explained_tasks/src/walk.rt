@@ -8,7 +8,7 @@ ghost use Rattle.armus_base.specs.declared.ids.TaskId.{TaskId};
 ghost use Rattle.explained_tasks.specs.inside.WalkEnds.{ClosesIn, WalkEndsIn};
 ghost use Rattle.pl_core.specs.calls.Worlds.{state_of};
 
-use crate::outcome::Verdict;
+use crate::outcome::WaitVerdict;
 use armus_base::{List, NoMemory, TaskId};
 use pl_core::World;
 use std::alloc::Global;
@@ -28,20 +28,20 @@ fn place(path: &[TaskId], t: TaskId) -> usize
 }
 
 // The circle in which a walk closes that comes back to a task.
-fn circle_of(alloc: Global, path: &[TaskId], t: TaskId) -> Result<Verdict, NoMemory>
+fn circle_of(alloc: Global, path: &[TaskId], t: TaskId) -> Result<WaitVerdict, NoMemory>
     requires { Contains path.now t }
     ensures { IfOk result (ClosesIn path.now t) }
 {
     let at = place(path, t);
-    Ok(Verdict::Circle(List::from_vec(Vec::from_slice(alloc, &path[at..])?)))
+    Ok(WaitVerdict::Circle(List::from_vec(Vec::from_slice(alloc, &path[at..])?)))
 }
 
 // What a walk shows that comes to its end in a task, from the task before it.
-fn chain_of(path: &[TaskId], t: TaskId) -> Verdict
+fn chain_of(path: &[TaskId], t: TaskId) -> WaitVerdict
     requires { 0 < length path.now }
     ensures { WalkEndsIn path.now t result }
 {
-    Verdict::Chain(path[path.len() - 1], t)
+    WaitVerdict::Chain(path[path.len() - 1], t)
 }
 
 /// The least deadlocked task.
@@ -66,7 +66,7 @@ fn start(facts: &Facts) -> Option<TaskId>
 }
 
 // What the walk from a task that waits shows.
-fn walk_from(facts: &Facts, world: &World, start: TaskId) -> Result<Verdict, NoMemory>
+fn walk_from(facts: &Facts, world: &World, start: TaskId) -> Result<WaitVerdict, NoMemory>
     requires fits { FactsFitPlan facts.now world.now.plan }
     requires wait { WaitForSome facts.now (state_of world.now).phases }
     requires inside { start.0 < length world.now.plan.parents }
@@ -89,13 +89,13 @@ fn walk_from(facts: &Facts, world: &World, start: TaskId) -> Result<Verdict, NoM
 }
 
 /// The verdict.
-pub(crate) fn verdict_of(facts: &Facts, world: &World) -> Result<Verdict, NoMemory>
+pub(crate) fn verdict_of(facts: &Facts, world: &World) -> Result<WaitVerdict, NoMemory>
     requires fits { FactsFitPlan facts.now world.now.plan }
     requires wait { WaitForSome facts.now (state_of world.now).phases }
     ensures { IfOk result (IsVerdict facts.now (state_of world.now).phases) }
 {
     match start(facts) {
         Some(start) => walk_from(facts, world, start),
-        None => Ok(Verdict::Nobody),
+        None => Ok(WaitVerdict::Nobody),
     }
 }

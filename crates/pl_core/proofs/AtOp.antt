@@ -7,8 +7,8 @@ use Rattle.armus_base.specs.declared.op.Op.{Op}
 use Rattle.armus_base.specs.declared.offset.Offset.TheVariants.{Here}
 use Rattle.armus_base.specs.declared.op.Op.TheVariants.{Await}
 use Rattle.armus_base.specs.Plans.{Plan, code_of}
-use Rattle.pl_core.specs.declared.task.Task.{Task}
-use Rattle.pl_core.specs.declared.phase_table.PhaseTable.{PhaseTable}
+use Rattle.pl_core.specs.declared.task.TaskRecord.{TaskRecord}
+use Rattle.pl_core.specs.declared.phase_table.MemberTable.{MemberTable}
 use Rattle.pl_core.specs.inside.Kept.{KeepsState}
 use Rattle.pl_core.specs.calls.Tables.{world_from}
 use Rattle.pl_core.specs.Tasks.{IsAtOp, actions_before}
@@ -17,7 +17,7 @@ use Rattle.pl_core.specs.calls.Worlds.{places_of}
 use Rattle.pl_core.proofs.OpCounts.{actions_before-suc, at_least_one, await_is_two}
 use Rattle.pl_core.proofs.Standing.{await_of_waiting, done_is, of_task, published_kept}
 
-module _ (plan : Plan) (tasks : List Task) (table : PhaseTable) (kept : KeepsState plan tasks table) (t : ℕ) (task : Task) (read : slice_get tasks t ≡ Some task) where
+module _ (plan : Plan) (tasks : List TaskRecord) (table : MemberTable) (kept : KeepsState plan tasks table) (t : ℕ) (task : TaskRecord) (read : slice_get tasks t ≡ Some task) where
   op_here : task.op < length (code_of plan t) → (op : Op) × slice_get (code_of plan t) task.op ≡ Some op
   op_here l = go (slice_get (code_of plan t) task.op) refl
     where

@@ -11,8 +11,8 @@ use Rattle.armus_base.proofs.Members.{member_made}
 use Rattle.armus_base.proofs.PhasesFit.{phases_fit}
 use Rattle.armus_base.proofs.Reachable.{reachable_is_fixed}
 use Rattle.armus_base.proofs.Tasks.{member_within}
-use Rattle.pl_core.specs.declared.task.Task.{Task}
-use Rattle.pl_core.specs.declared.phase_table.PhaseTable.{PhaseTable}
+use Rattle.pl_core.specs.declared.task.TaskRecord.{TaskRecord}
+use Rattle.pl_core.specs.declared.phase_table.MemberTable.{MemberTable}
 use Rattle.pl_core.specs.inside.Kept.{KeepsState}
 use Rattle.pl_core.specs.calls.Tables.{world_from}
 use Rattle.pl_core.specs.calls.Worlds.{WorldValue, action_by_code, places_of, state_of}
@@ -62,7 +62,7 @@ phase_fits w checked t p n forked undropped e =
 
 -- a child that is forked next is kept
 pub child_bound :
-    (plan : Plan) (tasks : List Task) (table : PhaseTable) → KeepsState plan tasks table → (t c : ℕ) →
+    (plan : Plan) (tasks : List TaskRecord) (table : MemberTable) → KeepsState plan tasks table → (t c : ℕ) →
     action_by_code (world_from plan tasks) t ≡ Some (Forks c) → c < length tasks
 child_bound plan tasks table kept t c next =
     let parent = (kept.checked.codes.well_formed t (places_of (world_from plan tasks) t).done (Forks c) next).0 in

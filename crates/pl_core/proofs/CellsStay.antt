@@ -3,12 +3,12 @@ use Rattle.std.proofs.Common.{◌≡◌, ℕ, refl, sym}
 use Rattle.armus_base.specs.declared.op.Op.{Op}
 use Rattle.armus_base.specs.declared.op.Op.TheVariants.{Make, Reg, Fork, Adv, Drop, Await}
 use Rattle.armus_base.specs.Plans.{Makes, Plan, Registers}
-use Rattle.pl_core.specs.declared.phase_table.PhaseTable.{PhaseTable}
+use Rattle.pl_core.specs.declared.phase_table.MemberTable.{MemberTable}
 use Rattle.pl_core.specs.inside.Enrolling.{Enrols, HasCells}
 use Rattle.pl_core.specs.inside.Ops.{action_of}
 use Rattle.pl_core.specs.inside.PhaseTables.{KeepsCells}
 
-pub cells_stay : (plan : Plan) (old new : PhaseTable) → HasCells plan old → KeepsCells old new → HasCells plan new
+pub cells_stay : (plan : Plan) (old new : MemberTable) → HasCells plan old → KeepsCells old new → HasCells plan new
 cells_stay plan old new has keeps = λ t c p inside child phaser enrolled. keeps c p (has t c p inside child phaser enrolled)
 
 pub enrols_made : (op : Op) (t q : ℕ) → action_of op ≡ Makes q → Enrols t op t q

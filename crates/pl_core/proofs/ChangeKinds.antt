@@ -11,8 +11,8 @@ use Rattle.armus_base.specs.States.{IsActive, IsLegal, State, after}
 use Rattle.armus_base.proofs.Codes.{child_later, child_within, phaser_within}
 use Rattle.armus_base.proofs.Steps.{updated_same, updated_other}
 use Rattle.armus_base.proofs.Lists.{slice_get-set_same, slice_get-set_other}
-use Rattle.pl_core.specs.declared.task.Task.{Task}
-use Rattle.pl_core.specs.declared.phase_table.PhaseTable.{PhaseTable}
+use Rattle.pl_core.specs.declared.task.TaskRecord.{TaskRecord}
+use Rattle.pl_core.specs.declared.phase_table.MemberTable.{MemberTable}
 use Rattle.pl_core.specs.inside.Changes.{after_fork, after_op}
 use Rattle.pl_core.specs.inside.Effects.{HasRoomFor}
 use Rattle.pl_core.specs.calls.Moves.{IsWorldStep, further}
@@ -83,7 +83,7 @@ set_there [] k v e = refl
 set_there (x ∷ xs) zero v e = ap (λ y. y ∷ xs) (let is : v ≡ x = (cc) in is)
 set_there (x ∷ xs) (suc k) v e = ap (λ ys. x ∷ ys) (set_there xs k v e)
 
-module _ (plan : Plan) (tasks : List Task) (table : PhaseTable) (kept : KeepsState plan tasks table) (t : ℕ) (task : Task)
+module _ (plan : Plan) (tasks : List TaskRecord) (table : MemberTable) (kept : KeepsState plan tasks table) (t : ℕ) (task : TaskRecord)
     (read : slice_get tasks t ≡ Some task) (active : IsActive (state_of (world_from plan tasks)) t) where
   abbrev old : WorldValue
   old = world_from plan tasks
@@ -158,7 +158,7 @@ module _ (plan : Plan) (tasks : List Task) (table : PhaseTable) (kept : KeepsSta
         go (Await p off) n c = absurd c
 
     pub change_stepped :
-        (table' : PhaseTable) → KeepsCells table table' → table'.phasers ≡ table.phasers →
+        (table' : MemberTable) → KeepsCells table table' → table'.phasers ≡ table.phasers →
         phases_in table' ≡ phases_moved (phases_in table) t (action_of op) →
         KeepsState plan (set tasks t (after_op task)) table' × IsWorldStep old (world_from plan (set tasks t (after_op task))) t
     change_stepped table' cells columns phases =
@@ -179,8 +179,8 @@ module _ (plan : Plan) (tasks : List Task) (table : PhaseTable) (kept : KeepsSta
     pub later : t < c
     later = child_later plan kept.checked.tables t c fork_legal.1
 
-    module _ (child : Task) (child_read : slice_get tasks c ≡ Some child) where
-      abbrev pub with_child : List Task
+    module _ (child : TaskRecord) (child_read : slice_get tasks c ≡ Some child) where
+      abbrev pub with_child : List TaskRecord
       with_child = set tasks c (after_fork child)
 
       other : t ≢ c
@@ -192,8 +192,8 @@ module _ (plan : Plan) (tasks : List Task) (table : PhaseTable) (kept : KeepsSta
 
       same_places : kept_places (set with_child t (after_op task)) ≡ set (kept_places tasks) t (further task.place)
       same_places =
-          map-set (λ (k : Task). k.place) with_child t (after_op task)
-          ∙ ap (λ ps. set ps t (further task.place)) (map-set (λ (k : Task). k.place) tasks c (after_fork child) ∙
+          map-set (λ (k : TaskRecord). k.place) with_child t (after_op task)
+          ∙ ap (λ ps. set ps t (further task.place)) (map-set (λ (k : TaskRecord). k.place) tasks c (after_fork child) ∙
           set_there (kept_places tasks) c child.place (standing_there tasks c child child_read))
 
       kept_child : IsKeptOf plan (after (state_of old) t (Forks c)) c (after_fork child)
@@ -206,7 +206,7 @@ module _ (plan : Plan) (tasks : List Task) (table : PhaseTable) (kept : KeepsSta
             events = k.events;
           }
 
-      each : (u : ℕ) (k : Task) → slice_get (set with_child t (after_op task)) u ≡ Some k → IsKeptOf plan (after (state_of old) t (Forks c)) u k
+      each : (u : ℕ) (k : TaskRecord) → slice_get (set with_child t (after_op task)) u ≡ Some k → IsKeptOf plan (after (state_of old) t (Forks c)) u k
       each u k e =
           elim (cases_eq u t) [
             | inl same ↦

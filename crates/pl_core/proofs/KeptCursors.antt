@@ -10,7 +10,7 @@ use Rattle.armus_base.specs.Finals.{list_below}
 use Rattle.armus_base.specs.Plans.{Plan, code_of}
 use Rattle.armus_base.proofs.Below.{length-list_below, list_below-at}
 use Rattle.armus_base.proofs.Lists.{slice_get-set_same, slice_get-set_other}
-use Rattle.pl_core.specs.declared.task.Task.{Task}
+use Rattle.pl_core.specs.declared.task.TaskRecord.{TaskRecord}
 use Rattle.pl_core.specs.inside.Changes.{after_fork, opening_tasks, unbegun}
 use Rattle.pl_core.specs.inside.Cursors.{AreAt, KeepsOtherCursors, moved_on, op_from, op_index_of}
 use Rattle.pl_core.specs.inside.Walks.{marked_by, with_forked}
@@ -35,17 +35,17 @@ gone_on None old new some none = none.1 ∙ sym (ap (drop 1) none.0)
 
 -- ---- the next ops of the tasks
 
-op_set_other : (tasks : List Task) (t u : ℕ) (task : Task) → u ≢ t → op_index_of (set tasks t task) u ≡ op_index_of tasks u
+op_set_other : (tasks : List TaskRecord) (t u : ℕ) (task : TaskRecord) → u ≢ t → op_index_of (set tasks t task) u ≡ op_index_of tasks u
 op_set_other tasks t u task n = ap op_from (slice_get-set_other tasks t u task n)
 
-pub op_set_same : (tasks : List Task) (t : ℕ) (task : Task) → t < length tasks → op_index_of (set tasks t task) t ≡ task.op
+pub op_set_same : (tasks : List TaskRecord) (t : ℕ) (task : TaskRecord) → t < length tasks → op_index_of (set tasks t task) t ≡ task.op
 op_set_same tasks t task l = ap op_from (slice_get-set_same tasks t task l)
 
-pub keeps_others : (tasks : List Task) (t : ℕ) (task : Task) → KeepsOtherCursors t tasks (set tasks t task)
+pub keeps_others : (tasks : List TaskRecord) (t : ℕ) (task : TaskRecord) → KeepsOtherCursors t tasks (set tasks t task)
 keeps_others tasks t task u n = op_set_other tasks t u task n
 
 -- a task that stays at its op
-pub op_set_kept : (tasks : List Task) (t : ℕ) (old task : Task) → slice_get tasks t ≡ Some old → task.op ≡ old.op → (u : ℕ) → op_index_of (set tasks t task) u ≡ op_index_of tasks u
+pub op_set_kept : (tasks : List TaskRecord) (t : ℕ) (old task : TaskRecord) → slice_get tasks t ≡ Some old → task.op ≡ old.op → (u : ℕ) → op_index_of (set tasks t task) u ≡ op_index_of tasks u
 op_set_kept tasks t old task read same u = elim (cases_eq u t) [
   | inl e ↦ subst (λ v. op_index_of (set tasks t task) v ≡ op_index_of tasks v) (sym e) (ap op_from (slice_get-set_same tasks t task within) ∙ same ∙ ap op_from (sym read))
   | inr n ↦ op_set_other tasks t u task n
@@ -55,12 +55,12 @@ op_set_kept tasks t old task read same u = elim (cases_eq u t) [
     within = slice_get_within tasks t old read
 
 -- a fork changes no task's op
-pub op_marked : (tasks : List Task) (op : Op) (u : ℕ) → op_index_of (marked_by tasks op) u ≡ op_index_of tasks u
+pub op_marked : (tasks : List TaskRecord) (op : Op) (u : ℕ) → op_index_of (marked_by tasks op) u ≡ op_index_of tasks u
 op_marked tasks (Make p) u = refl
 op_marked tasks (Reg c p) u = refl
 op_marked tasks (Fork c) u = go (slice_get tasks c.0) refl
   where
-    go : (o : Option Task) → slice_get tasks c.0 ≡ o → op_index_of (with_forked tasks c.0 o) u ≡ op_index_of tasks u
+    go : (o : Option TaskRecord) → slice_get tasks c.0 ≡ o → op_index_of (with_forked tasks c.0 o) u ≡ op_index_of tasks u
     go None e = refl
     go (Some child) e = op_set_kept tasks c.0 child (after_fork child) e refl u
 op_marked tasks (Adv p) u = refl
@@ -81,7 +81,7 @@ opening_op (suc n) (suc u) = unbegun_op n u
 
 -- before any op
 pub at_opening :
-    (plan : Plan) (n : ℕ) (tasks : List Task) (cursors : List (List Op)) → tasks ≡ opening_tasks n → cursors ≡ list_below (code_of plan) n → AreAt plan n tasks cursors
+    (plan : Plan) (n : ℕ) (tasks : List TaskRecord) (cursors : List (List Op)) → tasks ≡ opening_tasks n → cursors ≡ list_below (code_of plan) n → AreAt plan n tasks cursors
 at_opening plan n tasks cursors tasks_are cursors_are =
     subst (λ ts. AreAt plan n ts cursors) (sym tasks_are)
     (subst (AreAt plan n (opening_tasks n)) (sym cursors_are) (record {
@@ -90,10 +90,10 @@ at_opening plan n tasks cursors tasks_are cursors_are =
     }))
 
 -- none yet
-pub at_none : (plan : Plan) (tasks : List Task) (cursors : List (List Op)) → cursors ≡ [] → AreAt plan 0 tasks cursors
+pub at_none : (plan : Plan) (tasks : List TaskRecord) (cursors : List (List Op)) → cursors ≡ [] → AreAt plan 0 tasks cursors
 at_none plan tasks cursors none = record { one_each = ap length none; each = λ t l. absurd (omega arith) }
 
-module _ (plan : Plan) (n : ℕ) (old new : List Task) (cursors : List (List Op)) (at : AreAt plan n old cursors) where
+module _ (plan : Plan) (n : ℕ) (old new : List TaskRecord) (cursors : List (List Op)) (at : AreAt plan n old cursors) where
   -- where no task comes to another op
   pub at_same : ((u : ℕ) → op_index_of new u ≡ op_index_of old u) → AreAt plan n new cursors
   at_same same = record { one_each = at.one_each; each = λ u l. at.each u l ∙ ap (λ k. Some (drop k (code_of plan u))) (sym (same u)) }
@@ -123,8 +123,8 @@ module _ (plan : Plan) (n : ℕ) (old new : List Task) (cursors : List (List Op)
             ∙ ap Some (one_less_left (code_of plan t) (op_index_of old t))
             ∙ ap (λ i. Some (drop i (code_of plan t))) further
 
-module _ (plan : Plan) (tasks : List Task) (cursors : List (List Op)) (at : AreAt plan (length plan.parents) tasks cursors)
-    (one_each : length tasks ≡ length plan.parents) (t : ℕ) (old : Task) (read : slice_get tasks t ≡ Some old) (new : Task) where
+module _ (plan : Plan) (tasks : List TaskRecord) (cursors : List (List Op)) (at : AreAt plan (length plan.parents) tasks cursors)
+    (one_each : length tasks ≡ length plan.parents) (t : ℕ) (old : TaskRecord) (read : slice_get tasks t ≡ Some old) (new : TaskRecord) where
   -- task t stays at its op
   pub stays : new.op ≡ old.op → AreAt plan (length plan.parents) (set tasks t new) cursors
   stays same = at_same plan (length plan.parents) tasks (set tasks t new) cursors at (op_set_kept tasks t old new read same)
@@ -141,7 +141,7 @@ module _ (plan : Plan) (tasks : List Task) (cursors : List (List Op)) (at : AreA
 
     -- and forks task c before
     pub forks_and_goes_on :
-        (c : ℕ) (child forked : Task) → slice_get tasks c ≡ Some child → forked.op ≡ child.op →
+        (c : ℕ) (child forked : TaskRecord) → slice_get tasks c ≡ Some child → forked.op ≡ child.op →
         AreAt plan (length plan.parents) (set (set tasks c forked) t new) (moved_on cursors t)
     forks_and_goes_on c child forked there same =
         at_next plan (length plan.parents) tasks (set (set tasks c forked) t new) cursors at t
@@ -150,7 +150,7 @@ module _ (plan : Plan) (tasks : List Task) (cursors : List (List Op)) (at : AreA
         ∙ next ∙ ap (λ o. op_from o + 1) (sym read))
 
 -- one task more
-module _ (plan : Plan) (t : ℕ) (old new : List Task) (cursors : List (List Op)) (at : AreAt plan t old cursors) (others : KeepsOtherCursors t old new) (cursor : List Op)
+module _ (plan : Plan) (t : ℕ) (old new : List TaskRecord) (cursors : List (List Op)) (at : AreAt plan t old cursors) (others : KeepsOtherCursors t old new) (cursor : List Op)
     (own : cursor ≡ drop (op_index_of new t) (code_of plan t)) where
   pub at_more : AreAt plan (t + 1) new (cursors ++ cursor ∷ [])
   at_more = record {
@@ -176,7 +176,7 @@ module _ (plan : Plan) (t : ℕ) (old new : List Task) (cursors : List (List Op)
 
 -- the op at which a cursor stands
 pub op_of_cursor :
-    (plan : Plan) (n : ℕ) (tasks : List Task) (cursors : List (List Op)) → AreAt plan n tasks cursors → (t : ℕ) → t < n → (task : Task) → slice_get tasks t ≡ Some task →
+    (plan : Plan) (n : ℕ) (tasks : List TaskRecord) (cursors : List (List Op)) → AreAt plan n tasks cursors → (t : ℕ) → t < n → (task : TaskRecord) → slice_get tasks t ≡ Some task →
     slice_get (get_or cursors t []) 0 ≡ slice_get (code_of plan t) task.op
 op_of_cursor plan n tasks cursors at t l task read =
     ap (λ ops. slice_get ops 0) (get_or_from_slice_get cursors t (drop (op_index_of tasks t) (code_of plan t)) [] (at.each t l))

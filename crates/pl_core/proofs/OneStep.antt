@@ -15,8 +15,8 @@ use Rattle.armus_base.proofs.Steps.{updated_same, updated_other}
 use Rattle.armus_base.proofs.Lists.{slice_get-set_same, slice_get-set_other}
 use Rattle.armus_base.proofs.Again.{in_code_plain}
 use Rattle.pl_core.specs.declared.place.Place.{Place as PlaceValue}
-use Rattle.pl_core.specs.declared.task.Task.{Task}
-use Rattle.pl_core.specs.declared.phase_table.PhaseTable.{PhaseTable}
+use Rattle.pl_core.specs.declared.task.TaskRecord.{TaskRecord}
+use Rattle.pl_core.specs.declared.phase_table.MemberTable.{MemberTable}
 use Rattle.pl_core.specs.calls.Moves.{IsWorldStep, further}
 use Rattle.pl_core.specs.inside.PhaseTables.{KeepsCells, phases_in}
 use Rattle.pl_core.proofs.CellsStay.{cells_stay}
@@ -54,7 +54,7 @@ event_of_other s t u x true n = refl
 event_of_other s t u x false n = refl
 
 pub kept_of_other :
-    (plan : Plan) (s : State) (t u : ℕ) (x : Action) (task : Task) → u ≢ t → x ≢ Forks u → IsKeptOf plan s u task → IsKeptOf plan (after s t x) u task
+    (plan : Plan) (s : State) (t u : ℕ) (x : Action) (task : TaskRecord) → u ≢ t → x ≢ Forks u → IsKeptOf plan s u task → IsKeptOf plan (after s t x) u task
 kept_of_other plan s t u x task n f k =
     record {
       forked = k.forked ∙ sym (forked_of_other s t u x f);
@@ -63,7 +63,7 @@ kept_of_other plan s t u x task n f k =
       events = k.events;
     }
 
-module _ (plan : Plan) (tasks : List Task) (table : PhaseTable) (kept : KeepsState plan tasks table) (t : ℕ) (task : Task)
+module _ (plan : Plan) (tasks : List TaskRecord) (table : MemberTable) (kept : KeepsState plan tasks table) (t : ℕ) (task : TaskRecord)
     (read : slice_get tasks t ≡ Some task) (x : Action) (next : action_by_code (world_from plan tasks) t ≡ Some x)
     (legal : IsLegal plan (state_of (world_from plan tasks)) t x) where
   abbrev old : WorldValue
@@ -137,9 +137,9 @@ module _ (plan : Plan) (tasks : List Task) (table : PhaseTable) (kept : KeepsSta
         state = state_is;
       }
 
-  module _ (tasks' : List Task) (table' : PhaseTable) (same_places : kept_places tasks' ≡ set (kept_places tasks) t (further task.place))
+  module _ (tasks' : List TaskRecord) (table' : MemberTable) (same_places : kept_places tasks' ≡ set (kept_places tasks) t (further task.place))
       (cells : KeepsCells table table') (columns : table'.phasers ≡ table.phasers) (phases : phases_in table' ≡ (after (state_of old) t x).phases)
-      (one_each : length tasks' ≡ length tasks) (each : (u : ℕ) (k : Task) → slice_get tasks' u ≡ Some k → IsKeptOf plan (after (state_of old) t x) u k) where
+      (one_each : length tasks' ≡ length tasks) (each : (u : ℕ) (k : TaskRecord) → slice_get tasks' u ≡ Some k → IsKeptOf plan (after (state_of old) t x) u k) where
     seen : world_from plan tasks' ≡ new
     seen = ap (λ ps. record { plan = plan; places = ps }) same_places
 
@@ -162,11 +162,11 @@ module _ (plan : Plan) (tasks : List Task) (table : PhaseTable) (kept : KeepsSta
     makes_after = subst (λ v. IsWorldStep old v t) (sym seen) makes_step
 
   -- where only what is kept of the task itself changes
-  module _ (task' : Task) (place : task'.place ≡ further task.place) (own : IsKeptOf plan (after (state_of old) t x) t task') (no_fork : (u : ℕ) → x ≢ Forks u) where
+  module _ (task' : TaskRecord) (place : task'.place ≡ further task.place) (own : IsKeptOf plan (after (state_of old) t x) t task') (no_fork : (u : ℕ) → x ≢ Forks u) where
     pub same_places_set : kept_places (set tasks t task') ≡ set (kept_places tasks) t (further task.place)
-    same_places_set = map-set (λ (k : Task). k.place) tasks t task' ∙ ap (set (kept_places tasks) t) place
+    same_places_set = map-set (λ (k : TaskRecord). k.place) tasks t task' ∙ ap (set (kept_places tasks) t) place
 
-    pub each_set : (u : ℕ) (k : Task) → slice_get (set tasks t task') u ≡ Some k → IsKeptOf plan (after (state_of old) t x) u k
+    pub each_set : (u : ℕ) (k : TaskRecord) → slice_get (set tasks t task') u ≡ Some k → IsKeptOf plan (after (state_of old) t x) u k
     each_set u k e =
         elim (cases_eq u t) [
           | inl same ↦
@@ -178,7 +178,7 @@ module _ (plan : Plan) (tasks : List Task) (table : PhaseTable) (kept : KeepsSta
         ]
 
     pub stepped_set :
-        (table' : PhaseTable) → KeepsCells table table' → table'.phasers ≡ table.phasers → phases_in table' ≡ (after (state_of old) t x).phases →
+        (table' : MemberTable) → KeepsCells table table' → table'.phasers ≡ table.phasers → phases_in table' ≡ (after (state_of old) t x).phases →
         KeepsState plan (set tasks t task') table' × IsWorldStep old (world_from plan (set tasks t task')) t
     stepped_set table' cells columns phases = (
       kept_after (set tasks t task') table' same_places_set cells columns phases (length-set tasks t task') each_set,

@@ -14,8 +14,8 @@ use Rattle.armus_base.specs.CheckedPlans.{IsCheckedPlan}
 use Rattle.armus_base.proofs.Stepping.{opening_fixed}
 use Rattle.armus_base.proofs.Lists.{slice_get-set_same, slice_get-set_other}
 use Rattle.pl_core.specs.declared.place.Place.{Place as KeptPlace}
-use Rattle.pl_core.specs.declared.task.Task.{Task}
-use Rattle.pl_core.specs.declared.phase_table.PhaseTable.{PhaseTable}
+use Rattle.pl_core.specs.declared.task.TaskRecord.{TaskRecord}
+use Rattle.pl_core.specs.declared.phase_table.MemberTable.{MemberTable}
 use Rattle.pl_core.specs.inside.Changes.{opening_tasks, unbegun}
 use Rattle.pl_core.specs.inside.Enrolling.{HasCells}
 use Rattle.pl_core.specs.inside.PhaseTables.{phases_in}
@@ -30,7 +30,7 @@ copy_is zero k x y e = absurd (cc)
 copy_is (suc n) zero x y e = cc
 copy_is (suc n) (suc k) x y e = copy_is n k x y e
 
-copies_of : (n : ℕ) (task : Task) → kept_places (replicate n task) ≡ replicate n task.place
+copies_of : (n : ℕ) (task : TaskRecord) → kept_places (replicate n task) ≡ replicate n task.place
 copies_of zero task = refl
 copies_of (suc n) task = ap (λ ps. task.place ∷ ps) (copies_of n task)
 
@@ -40,7 +40,7 @@ set_first (suc n) x = refl
 
 pub opening_standings : (n : ℕ) → kept_places (opening_tasks n) ≡ replicate n (record { events = 0; refused = false })
 opening_standings n =
-    map-set (λ (k : Task). k.place) (replicate n unbegun) 0 (record unbegun { forked = true })
+    map-set (λ (k : TaskRecord). k.place) (replicate n unbegun) 0 (record unbegun { forked = true })
     ∙ ap (λ ps. set ps 0 unbegun.place) (copies_of n unbegun)
     ∙ set_first n unbegun.place
 
@@ -79,7 +79,7 @@ module _ (plan : Plan) (checked : IsCheckedPlan plan) where
   zero_is : (t : ℕ) → t ≡ 0 → true ≡ (t == 0)
   zero_is t e = grind (arith, nat_tests)
 
-  pub kept_first : (n t : ℕ) (task : Task) → slice_get (opening_tasks n) t ≡ Some task → IsKeptOf plan opening t task
+  pub kept_first : (n t : ℕ) (task : TaskRecord) → slice_get (opening_tasks n) t ≡ Some task → IsKeptOf plan opening t task
   kept_first n t task e =
       elim (cases_eq t 0) [
         | inl z ↦
@@ -94,7 +94,7 @@ module _ (plan : Plan) (checked : IsCheckedPlan plan) where
             subst (IsKeptOf plan opening t) (sym is) (kept_unbegun t false (not_zero t other))
       ]
 
-  module _ (tasks : List Task) (table : PhaseTable) (tasks_are : tasks ≡ opening_tasks (length plan.parents)) (cells : HasCells plan table)
+  module _ (tasks : List TaskRecord) (table : MemberTable) (tasks_are : tasks ≡ opening_tasks (length plan.parents)) (cells : HasCells plan table)
       (columns : table.phasers ≡ length plan.makers) (empty : phases_in table ≡ (λ _ _. None)) where
     seen : world_from plan tasks ≡ first_world
     seen = ap (world_from plan) tasks_are ∙ opening_seen

@@ -13,8 +13,8 @@ use Rattle.armus_base.specs.Places.{done_by, kept as kept_phases, members_below,
 use Rattle.armus_base.proofs.Fixed.{kept_above, kept_below, phases_forked}
 use Rattle.armus_base.proofs.Steps.{updated_same, updated_other}
 use Rattle.armus_base.proofs.Lists.{slice_get-set_same, slice_get-set_other}
-use Rattle.pl_core.specs.declared.task.Task.{Task}
-use Rattle.pl_core.specs.declared.phase_table.PhaseTable.{PhaseTable}
+use Rattle.pl_core.specs.declared.task.TaskRecord.{TaskRecord}
+use Rattle.pl_core.specs.declared.phase_table.MemberTable.{MemberTable}
 use Rattle.pl_core.specs.inside.Changes.{after_refusal}
 use Rattle.pl_core.specs.calls.Moves.{LeadsOn, MakesRefusal, drops_from, refused_there}
 use Rattle.pl_core.specs.inside.PhaseTables.{KeepsCells, phases_in}
@@ -37,7 +37,7 @@ kept_of_none m d q e =
 
 -- what another task keeps
 kept_beside :
-    (plan : Plan) (s s' : State) (u : ℕ) (task : Task) → s'.forked u ≡ s.forked u → s'.published u ≡ s.published u → s'.refused u ≡ s.refused u →
+    (plan : Plan) (s s' : State) (u : ℕ) (task : TaskRecord) → s'.forked u ≡ s.forked u → s'.published u ≡ s.published u → s'.refused u ≡ s.refused u →
     IsKeptOf plan s u task → IsKeptOf plan s' u task
 kept_beside plan s s' u task forked published refused k =
     record {
@@ -51,7 +51,7 @@ kept_beside plan s s' u task forked published refused k =
     by_flag true = sym refused
     by_flag false = sym published
 
-module _ (plan : Plan) (tasks : List Task) (table : PhaseTable) (kept : KeepsState plan tasks table) (t : ℕ) (task : Task)
+module _ (plan : Plan) (tasks : List TaskRecord) (table : MemberTable) (kept : KeepsState plan tasks table) (t : ℕ) (task : TaskRecord)
     (read : slice_get tasks t ≡ Some task) (e : Event) (before : IsAtAwaitOf (world_from plan tasks) t e) where
   abbrev old : WorldValue
   old = world_from plan tasks
@@ -159,7 +159,7 @@ module _ (plan : Plan) (tasks : List Task) (table : PhaseTable) (kept : KeepsSta
         events = (let n = k.events in omega arith);
       }
 
-  each : (u : ℕ) (k : Task) → slice_get (set tasks t (after_refusal task e)) u ≡ Some k → IsKeptOf plan (state_of new) u k
+  each : (u : ℕ) (k : TaskRecord) → slice_get (set tasks t (after_refusal task e)) u ≡ Some k → IsKeptOf plan (state_of new) u k
   each u k h =
       elim (cases_eq u t) [
         | inl same ↦
@@ -172,7 +172,7 @@ module _ (plan : Plan) (tasks : List Task) (table : PhaseTable) (kept : KeepsSta
       ]
 
   pub refusal_kept :
-      (table' : PhaseTable) → KeepsCells table table' → table'.phasers ≡ table.phasers → phases_in table' ≡ updated (phases_in table) t (λ _. None) →
+      (table' : MemberTable) → KeepsCells table table' → table'.phasers ≡ table.phasers → phases_in table' ≡ updated (phases_in table) t (λ _. None) →
       KeepsState plan (set tasks t (after_refusal task e)) table'
   refusal_kept table' cells columns cleared =
       record {
@@ -186,7 +186,7 @@ module _ (plan : Plan) (tasks : List Task) (table : PhaseTable) (kept : KeepsSta
       }
     where
       same_world : world_from plan (set tasks t (after_refusal task e)) ≡ new
-      same_world = ap (λ ps. record { plan = plan; places = ps }) (map-set (λ (k : Task). k.place) tasks t (after_refusal task e))
+      same_world = ap (λ ps. record { plan = plan; places = ps }) (map-set (λ (k : TaskRecord). k.place) tasks t (after_refusal task e))
 
       phases_of : (u : ℕ) → updated (phases_in table) t (λ _. None) u ≡ (state_of new).phases u
       phases_of u =
@@ -200,7 +200,7 @@ module _ (plan : Plan) (tasks : List Task) (table : PhaseTable) (kept : KeepsSta
 
   pub refusal_made : MakesRefusal old (world_from plan (set tasks t (after_refusal task e))) t
   refusal_made =
-      subst (λ v. MakesRefusal old v t) (sym (ap (λ ps. record { plan = plan; places = ps }) (map-set (λ (k : Task). k.place) tasks t (after_refusal task e))))
+      subst (λ v. MakesRefusal old v t) (sym (ap (λ ps. record { plan = plan; places = ps }) (map-set (λ (k : TaskRecord). k.place) tasks t (after_refusal task e))))
       (record {
         aim = blocks.0;
         drops = lead.0;

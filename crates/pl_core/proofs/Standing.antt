@@ -16,8 +16,8 @@ use Rattle.armus_base.proofs.Reachable.{reachable_is_fixed}
 use Rattle.armus_base.proofs.NextIsLegal.{unrefused_undropped}
 use Rattle.armus_base.proofs.Published.{published_after_is, published_undropped}
 use Rattle.pl_core.specs.declared.place.Place.{Place as PlaceValue}
-use Rattle.pl_core.specs.declared.task.Task.{Task}
-use Rattle.pl_core.specs.declared.phase_table.PhaseTable.{PhaseTable}
+use Rattle.pl_core.specs.declared.task.TaskRecord.{TaskRecord}
+use Rattle.pl_core.specs.declared.phase_table.MemberTable.{MemberTable}
 use Rattle.pl_core.specs.inside.Ops.{action_of}
 use Rattle.pl_core.specs.inside.KeptTasks.{IsKeptOf, begun, event_in}
 use Rattle.pl_core.specs.Tasks.{actions_before}
@@ -31,7 +31,7 @@ pub place_is : (plan : Plan) (places : List PlaceValue) (t : ℕ) (place : Place
 unfolding places_at
 place_is plan places t place e = ap (place_from plan t) e
 
-pub standing_there : (tasks : List Task) (t : ℕ) (task : Task) → slice_get tasks t ≡ Some task → slice_get (kept_places tasks) t ≡ Some task.place
+pub standing_there : (tasks : List TaskRecord) (t : ℕ) (task : TaskRecord) → slice_get tasks t ≡ Some task → slice_get (kept_places tasks) t ≡ Some task.place
 standing_there tasks t task e = slice_get-map (λ x. x.place) tasks t ∙ ap (option_map (λ x. x.place)) e
 
 -- an action of a code, by the op
@@ -48,21 +48,21 @@ none_of : (s : State) (t : ℕ) (b : Bool) → s.published t ≡ None → s.refu
 none_of s t false p r = p
 none_of s t true p r = r
 
-pub begun_none : (task : Task) → task.event ≡ None → begun task ≡ 0
+pub begun_none : (task : TaskRecord) → task.event ≡ None → begun task ≡ 0
 begun_none task e = ap (λ o. if task.place.refused then 0 else (if is_some o then 1 else 0)) e ∙ both task.place.refused 0
   where
     both : (b : Bool) (n : ℕ) → (if b then n else n) ≡ n
     both true n = refl
     both false n = refl
 
-pub begun_some : (task : Task) (e : Event) → task.event ≡ Some e → task.place.refused ≡ false → begun task ≡ 1
+pub begun_some : (task : TaskRecord) (e : Event) → task.event ≡ Some e → task.place.refused ≡ false → begun task ≡ 1
 begun_some task e is r = ap (λ o. if task.place.refused then 0 else (if is_some o then 1 else 0)) is ∙ ap (λ b. if b then 0 else 1) r
 
-module _ (plan : Plan) (tasks : List Task) (table : PhaseTable) (kept : KeepsState plan tasks table) where
+module _ (plan : Plan) (tasks : List TaskRecord) (table : MemberTable) (kept : KeepsState plan tasks table) where
   pub consistent : IsConsistent plan (places_of (world_from plan tasks))
   consistent = (reachable_is_fixed plan (places_of (world_from plan tasks)) kept.checked kept.reachable).1
 
-  module _ (t : ℕ) (task : Task) (read : slice_get tasks t ≡ Some task) where
+  module _ (t : ℕ) (task : TaskRecord) (read : slice_get tasks t ≡ Some task) where
     pub of_task : IsKeptOf plan (state_of (world_from plan tasks)) t task
     of_task = kept.each t task read
 

@@ -16,8 +16,8 @@ use Rattle.armus_base.proofs.Published.{published_after_is, published_passes}
 use Rattle.armus_base.proofs.PhasesFit.{actions_fit}
 use Rattle.armus_base.proofs.NextIsLegal.{next_legal}
 use Rattle.armus_base.proofs.Steps.{updated_same}
-use Rattle.pl_core.specs.declared.task.Task.{Task}
-use Rattle.pl_core.specs.declared.phase_table.PhaseTable.{PhaseTable}
+use Rattle.pl_core.specs.declared.task.TaskRecord.{TaskRecord}
+use Rattle.pl_core.specs.declared.phase_table.MemberTable.{MemberTable}
 use Rattle.pl_core.specs.inside.Changes.{after_block, after_op}
 use Rattle.pl_core.specs.calls.Moves.{IsWorldStep}
 use Rattle.pl_core.specs.inside.KeptTasks.{IsKeptOf, event_in}
@@ -53,7 +53,7 @@ pub awaits_block :
 awaits_block (Some (Blocks aim)) m e h = (aim, refl, h)
 awaits_block o m e h = absurd (cc)
 
-module _ (plan : Plan) (tasks : List Task) (table : PhaseTable) (kept : KeepsState plan tasks table) (t : ℕ) (task : Task) (read : slice_get tasks t ≡ Some task) where
+module _ (plan : Plan) (tasks : List TaskRecord) (table : MemberTable) (kept : KeepsState plan tasks table) (t : ℕ) (task : TaskRecord) (read : slice_get tasks t ≡ Some task) where
   abbrev old : WorldValue
   old = world_from plan tasks
 

@@ -7,34 +7,34 @@ use Rattle.std.proofs.lemmas.Option.{slice_get_past}
 use Rattle.armus_base.specs.States.{with_phase}
 use Rattle.armus_base.proofs.Steps.{with_phase_same, with_phase_other}
 use Rattle.pl_core.specs.declared.members.Members.{Members}
-use Rattle.pl_core.specs.declared.phase_table.PhaseTable.{PhaseTable}
+use Rattle.pl_core.specs.declared.phase_table.MemberTable.{MemberTable}
 use Rattle.pl_core.specs.inside.Cells.{StandsIn, phase_among}
 use Rattle.pl_core.specs.inside.PhaseTables.{HasCell, cells_at, cells_from, phases_in}
 use Rattle.pl_core.proofs.Cells.{stands_with_phase}
 use Rattle.pl_core.proofs.NewMembers.{cells_set_other, cells_set_same}
 
 -- what the table says is what the row says
-pub phase_is : (table : PhaseTable) (t p : ℕ) → phases_in table t p ≡ phase_among (cells_at table.rows.items p) t
+pub phase_is : (table : MemberTable) (t p : ℕ) → phases_in table t p ≡ phase_among (cells_at table.rows.items p) t
 unfolding phases_in
 phase_is table t p = refl
 
-pub row_says : (table : PhaseTable) (t p : ℕ) (row : Members) → slice_get table.rows.items p ≡ Some row → phases_in table t p ≡ phase_among row.cells.items t
+pub row_says : (table : MemberTable) (t p : ℕ) (row : Members) → slice_get table.rows.items p ≡ Some row → phases_in table t p ≡ phase_among row.cells.items t
 row_says table t p row read = phase_is table t p ∙ ap (λ o. phase_among (cells_from o) t) read
 
 -- who has a phase has a cell
-pub has_cell : (table : PhaseTable) (t p n : ℕ) → phases_in table t p ≡ Some n → HasCell table t p
+pub has_cell : (table : MemberTable) (t p n : ℕ) → phases_in table t p ≡ Some n → HasCell table t p
 has_cell table t p n e = stands_with_phase (cells_at table.rows.items p) t n (sym (phase_is table t p) ∙ e)
 
 -- behind the last phaser nobody is a member
-pub past_rows : (table : PhaseTable) (t p : ℕ) → length table.rows.items ≤ p → phases_in table t p ≡ None
+pub past_rows : (table : MemberTable) (t p : ℕ) → length table.rows.items ≤ p → phases_in table t p ≡ None
 past_rows table t p l = phase_is table t p ∙ ap (λ o. phase_among (cells_from o) t) (slice_get_past table.rows.items p l)
 
-pub nobody_in : (table : PhaseTable) → ((p t : ℕ) → phase_among (cells_at table.rows.items p) t ≡ None) → phases_in table ≡ (λ _ _. None)
+pub nobody_in : (table : MemberTable) → ((p t : ℕ) → phase_among (cells_at table.rows.items p) t ≡ None) → phases_in table ≡ (λ _ _. None)
 nobody_in table empty = fun_ext (λ t. fun_ext (λ p. phase_is table t p ∙ empty p t))
 
 -- one task's phase on one phaser is another, and all else is as before
 pub row_changed :
-    (old new : PhaseTable) (t p : ℕ) (phase : Option ℕ) (row more : Members) → new.rows.items ≡ set old.rows.items p more → p < length old.rows.items →
+    (old new : MemberTable) (t p : ℕ) (phase : Option ℕ) (row more : Members) → new.rows.items ≡ set old.rows.items p more → p < length old.rows.items →
     slice_get old.rows.items p ≡ Some row → phase_among more.cells.items t ≡ phase →
     ((u : ℕ) → u ≢ t → phase_among more.cells.items u ≡ phase_among row.cells.items u) → phases_in new ≡ with_phase (phases_in old) t p phase
 row_changed old new t p phase row more rows inside read here others =

@@ -12,8 +12,8 @@ use Rattle.armus_base.specs.Places.{done_by, forked_at, state_at}
 use Rattle.armus_base.specs.CheckedPlans.{IsCheckedPlan}
 use Rattle.armus_base.proofs.Stepping.{opening_fixed}
 use Rattle.pl_core.specs.declared.place.Place.{Place as KeptPlace}
-use Rattle.pl_core.specs.declared.task.Task.{Task}
-use Rattle.pl_core.specs.declared.phase_table.PhaseTable.{PhaseTable}
+use Rattle.pl_core.specs.declared.task.TaskRecord.{TaskRecord}
+use Rattle.pl_core.specs.declared.phase_table.MemberTable.{MemberTable}
 use Rattle.pl_core.specs.inside.Changes.{opening_tasks, unbegun}
 use Rattle.pl_core.specs.inside.Reachable.{AreReachable}
 use Rattle.pl_core.specs.inside.Enrolling.{HasCells}
@@ -27,7 +27,7 @@ use Rattle.pl_core.proofs.Opening.{kept_first}
 use Rattle.pl_core.proofs.Walking.{walked_below, walked_from}
 
 -- before any task
-module _ (plan : Plan) (checked : IsCheckedPlan plan) (places : List KeptPlace) (tasks : List Task) (table : PhaseTable)
+module _ (plan : Plan) (checked : IsCheckedPlan plan) (places : List KeptPlace) (tasks : List TaskRecord) (table : MemberTable)
     (tasks_are : tasks ≡ opening_tasks (length plan.parents)) (cells : HasCells plan table) (columns : table.phasers ≡ length plan.makers)
     (empty : phases_in table ≡ (λ _ _. None)) where
   state_first : opening ≡ state_at plan (walked (places_at plan places) 0)
@@ -47,7 +47,7 @@ module _ (plan : Plan) (checked : IsCheckedPlan plan) (places : List KeptPlace) 
       }
 
 standings_are :
-    (tasks : List Task) (places : List KeptPlace) → length tasks ≡ length places → ((u : ℕ) (task : Task) → slice_get tasks u ≡ Some task → slice_get places u ≡ Some task.place) →
+    (tasks : List TaskRecord) (places : List KeptPlace) → length tasks ≡ length places → ((u : ℕ) (task : TaskRecord) → slice_get tasks u ≡ Some task → slice_get places u ≡ Some task.place) →
     kept_places tasks ≡ places
 standings_are [] [] l h = refl
 standings_are [] (y ∷ ys) l h = absurd (omega arith)
@@ -58,12 +58,12 @@ standings_are (x ∷ xs) (y ∷ ys) l h =
     ap (λ p. p ∷ kept_places xs) same ∙ ap (λ ps. y ∷ ps) (standings_are xs ys (omega arith) (λ u task e. h (suc u) task e))
 
 -- behind all tasks
-module _ (plan : Plan) (places : List KeptPlace) (given : AreReachable plan places) (tasks : List Task) (table : PhaseTable)
+module _ (plan : Plan) (places : List KeptPlace) (given : AreReachable plan places) (tasks : List TaskRecord) (table : MemberTable)
     (walk : HasWalked plan places (walked (places_at plan places) (length plan.parents)) (length plan.parents) tasks table) where
   abbrev a : ℕ → Place
   a = places_at plan places
 
-  here : (u : ℕ) (task : Task) → slice_get tasks u ≡ Some task → u < length plan.parents
+  here : (u : ℕ) (task : TaskRecord) → slice_get tasks u ≡ Some task → u < length plan.parents
   here u task e = (let l = slice_get_within tasks u task e in let one = walk.one_each in omega arith)
 
   pub same_places : kept_places tasks ≡ places
@@ -100,7 +100,7 @@ module _ (plan : Plan) (places : List KeptPlace) (given : AreReachable plan plac
         each = λ u task e. subst (λ s. IsKeptOf plan s u task) (sym state_seen) (each u task e);
       }
     where
-      each : (u : ℕ) (task : Task) → slice_get tasks u ≡ Some task → IsKeptOf plan (state_at plan a) u task
+      each : (u : ℕ) (task : TaskRecord) → slice_get tasks u ≡ Some task → IsKeptOf plan (state_at plan a) u task
       each u task e =
           let s = walk.settled u task (here u task e) e in
           record {

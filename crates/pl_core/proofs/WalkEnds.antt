@@ -21,8 +21,8 @@ use Rattle.armus_base.proofs.PhasesFit.{phases_fit}
 use Rattle.armus_base.proofs.Steps.{updated_other, updated_same}
 use Rattle.pl_core.specs.declared.place.Place.{Place as KeptPlace}
 use Rattle.pl_core.specs.declared.stop.Stop.{Stop}
-use Rattle.pl_core.specs.declared.task.Task.{Task}
-use Rattle.pl_core.specs.declared.phase_table.PhaseTable.{PhaseTable}
+use Rattle.pl_core.specs.declared.task.TaskRecord.{TaskRecord}
+use Rattle.pl_core.specs.declared.phase_table.MemberTable.{MemberTable}
 use Rattle.pl_core.specs.inside.Reachable.{AreReachable}
 use Rattle.pl_core.specs.inside.Ops.{action_of}
 use Rattle.pl_core.specs.inside.PhaseTables.{KeepsCells, phases_in}
@@ -61,8 +61,8 @@ abbrev pub cleared : Bool → (ℕ → Phases) → ℕ → ℕ → Phases
 cleared b f t = if b then updated f t (λ _. None) else f
 
 module _ (plan : Plan) (checked : IsCheckedPlan plan) (places : List KeptPlace) (given : AreReachable plan places) (t : ℕ) (place : KeptPlace)
-    (at_place : slice_get places t ≡ Some place) (stop : Stop) (stops : IsStopOf (code_of plan t) (places_at plan places t).done stop) (tasks : List Task)
-    (table : PhaseTable) (walk : HasWalked plan places (walking (places_at plan places) t (actions_before (code_of plan t) stop.op)) t tasks table) where
+    (at_place : slice_get places t ≡ Some place) (stop : Stop) (stops : IsStopOf (code_of plan t) (places_at plan places t).done stop) (tasks : List TaskRecord)
+    (table : MemberTable) (walk : HasWalked plan places (walking (places_at plan places) t (actions_before (code_of plan t) stop.op)) t tasks table) where
   abbrev a : ℕ → Place
   a = places_at plan places
 
@@ -171,12 +171,12 @@ module _ (plan : Plan) (checked : IsCheckedPlan plan) (places : List KeptPlace) 
   event_nowhere : stop.begun || place.refused ≡ false → event ≡ None
   event_nowhere e = ap (λ b. if b then event_of_op op (phases_in table t) else None) e
 
-  module _ (was : Task) (read : slice_get tasks t ≡ Some was) where
-    abbrev pub task : Task
+  module _ (was : TaskRecord) (read : slice_get tasks t ≡ Some was) where
+    abbrev pub task : TaskRecord
     task = record { place = place; op = stop.op; event = event; forked = was.forked }
 
     -- at its place the phases and the forked tasks are those of the state
-    module _ (table' : PhaseTable) (cells : KeepsCells table table') (columns : table'.phasers ≡ table.phasers)
+    module _ (table' : MemberTable) (cells : KeepsCells table table') (columns : table'.phasers ≡ table.phasers)
         (phases : phases_in table' ≡ cleared place.refused (phases_in table) t) where
       come :
           (b : ℕ → Place) → b ≡ walked a (suc t) → phases_in table' ≡ (state_at plan b).phases →
@@ -193,7 +193,7 @@ module _ (plan : Plan) (checked : IsCheckedPlan plan) (places : List KeptPlace) 
             forked = λ u other e. elim (cases_eq u t) [
               | inl same ↦
                   let is_task : task ≡ other = itself u other same e in
-                  ap (λ (x : Task). x.forked) (sym is_task) ∙ walk.forked t was read ∙ forked_are t ∙ ap (forked_at plan (done_by b)) (sym same)
+                  ap (λ (x : TaskRecord). x.forked) (sym is_task) ∙ walk.forked t was read ∙ forked_are t ∙ ap (forked_at plan (done_by b)) (sym same)
               | inr n ↦ walk.forked u other (sym (slice_get-set_other tasks t u task n) ∙ e) ∙ forked_are u
             ];
             settled = λ u other l e. elim (cases_eq u t) [
@@ -203,7 +203,7 @@ module _ (plan : Plan) (checked : IsCheckedPlan plan) (places : List KeptPlace) 
             ];
           })
         where
-          itself : (u : ℕ) (other : Task) → u ≡ t → slice_get (set tasks t task) u ≡ Some other → task ≡ other
+          itself : (u : ℕ) (other : TaskRecord) → u ≡ t → slice_get (set tasks t task) u ≡ Some other → task ≡ other
           itself u other same e =
               let one = slice_get-set_same tasks t task (slice_get_within tasks t was read) in
               let two = subst (λ v. slice_get (set tasks t task) v ≡ Some other) same e in

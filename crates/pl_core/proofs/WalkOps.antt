@@ -18,8 +18,8 @@ use Rattle.armus_base.proofs.PhasesFit.{phases_fit}
 use Rattle.armus_base.proofs.Reachable.{reachable_is_fixed}
 use Rattle.armus_base.proofs.Steps.{updated_other, updated_same}
 use Rattle.pl_core.specs.declared.place.Place.{Place as KeptPlace}
-use Rattle.pl_core.specs.declared.task.Task.{Task}
-use Rattle.pl_core.specs.declared.phase_table.PhaseTable.{PhaseTable}
+use Rattle.pl_core.specs.declared.task.TaskRecord.{TaskRecord}
+use Rattle.pl_core.specs.declared.phase_table.MemberTable.{MemberTable}
 use Rattle.pl_core.specs.inside.Changes.{after_fork}
 use Rattle.pl_core.specs.inside.Effects.{HasRoomFor}
 use Rattle.pl_core.specs.inside.Reachable.{AreReachable}
@@ -46,12 +46,12 @@ no_pass (Await q off) p e = absurd (cc)
 
 -- what an op leaves of what is kept of a task: all, but that it may be forked
 pub marked_is :
-    (tasks : List Task) (op : Op) (u : ℕ) (task : Task) → slice_get (marked_by tasks op) u ≡ Some task →
-    (old : Task) × slice_get tasks u ≡ Some old × (task ≡ old ⊎ task ≡ after_fork old)
+    (tasks : List TaskRecord) (op : Op) (u : ℕ) (task : TaskRecord) → slice_get (marked_by tasks op) u ≡ Some task →
+    (old : TaskRecord) × slice_get tasks u ≡ Some old × (task ≡ old ⊎ task ≡ after_fork old)
 marked_is tasks (Fork c) u task e = go (slice_get tasks c.0) refl e
   where
-    go : (o : Option Task) → slice_get tasks c.0 ≡ o → slice_get (with_forked tasks c.0 o) u ≡ Some task →
-        (old : Task) × slice_get tasks u ≡ Some old × (task ≡ old ⊎ task ≡ after_fork old)
+    go : (o : Option TaskRecord) → slice_get tasks c.0 ≡ o → slice_get (with_forked tasks c.0 o) u ≡ Some task →
+        (old : TaskRecord) × slice_get tasks u ≡ Some old × (task ≡ old ⊎ task ≡ after_fork old)
     go None none e = (task, e, inl refl)
     go (Some child) is e =
         elim (cases_eq u c.0) [
@@ -67,10 +67,10 @@ marked_is tasks (Adv q) u task e = (task, e, inl refl)
 marked_is tasks (Drop q) u task e = (task, e, inl refl)
 marked_is tasks (Await q off) u task e = (task, e, inl refl)
 
-length-marked : (tasks : List Task) (op : Op) → length (marked_by tasks op) ≡ length tasks
+length-marked : (tasks : List TaskRecord) (op : Op) → length (marked_by tasks op) ≡ length tasks
 length-marked tasks (Fork c) = go (slice_get tasks c.0)
   where
-    go : (o : Option Task) → length (with_forked tasks c.0 o) ≡ length tasks
+    go : (o : Option TaskRecord) → length (with_forked tasks c.0 o) ≡ length tasks
     go None = refl
     go (Some child) = length-set tasks c.0 (after_fork child)
 length-marked tasks (Make q) = refl
@@ -81,11 +81,11 @@ length-marked tasks (Await q off) = refl
 
 -- who is forked after an op
 forked_marked :
-    (s : State) (t : ℕ) (tasks : List Task) → ((u : ℕ) (task : Task) → slice_get tasks u ≡ Some task → task.forked ≡ s.forked u) →
-    (op : Op) (u : ℕ) (task : Task) → slice_get (marked_by tasks op) u ≡ Some task → task.forked ≡ (after s t (action_of op)).forked u
+    (s : State) (t : ℕ) (tasks : List TaskRecord) → ((u : ℕ) (task : TaskRecord) → slice_get tasks u ≡ Some task → task.forked ≡ s.forked u) →
+    (op : Op) (u : ℕ) (task : TaskRecord) → slice_get (marked_by tasks op) u ≡ Some task → task.forked ≡ (after s t (action_of op)).forked u
 forked_marked s t tasks before (Fork c) u task e = go (slice_get tasks c.0) refl e
   where
-    go : (o : Option Task) → slice_get tasks c.0 ≡ o → slice_get (with_forked tasks c.0 o) u ≡ Some task → task.forked ≡ (after s t (Forks c.0)).forked u
+    go : (o : Option TaskRecord) → slice_get tasks c.0 ≡ o → slice_get (with_forked tasks c.0 o) u ≡ Some task → task.forked ≡ (after s t (Forks c.0)).forked u
     go None none e =
         elim (cases_eq u c.0) [
           | inl same ↦ absurd (let two = ap (slice_get tasks) same in cc)
@@ -97,7 +97,7 @@ forked_marked s t tasks before (Fork c) u task e = go (slice_get tasks c.0) refl
               let there : slice_get (set tasks c.0 (after_fork child)) u ≡ Some (after_fork child) =
               ap (slice_get (set tasks c.0 (after_fork child))) same ∙ slice_get-set_same tasks c.0 (after_fork child) (slice_get_within tasks c.0 child is) in
               let both : task ≡ after_fork child = (let two : Some task ≡ Some (after_fork child) = sym e ∙ there in cc) in
-              ap (λ (k : Task). k.forked) both ∙ sym (updated_same s.forked c.0 u true same)
+              ap (λ (k : TaskRecord). k.forked) both ∙ sym (updated_same s.forked c.0 u true same)
           | inr n ↦ before u task (sym (slice_get-set_other tasks c.0 u (after_fork child) n) ∙ e) ∙ sym (updated_other s.forked c.0 u true n)
         ]
 forked_marked s t tasks before (Make q) u task e = before u task e
@@ -107,7 +107,7 @@ forked_marked s t tasks before (Drop q) u task e = before u task e
 forked_marked s t tasks before (Await q off) u task e = before u task e
 
 -- a task that is forked stays settled
-settled_forked : (plan : Plan) (places : List KeptPlace) (u : ℕ) (task : Task) → IsPlaced plan places u task → IsPlaced plan places u (after_fork task)
+settled_forked : (plan : Plan) (places : List KeptPlace) (u : ℕ) (task : TaskRecord) → IsPlaced plan places u task → IsPlaced plan places u (after_fork task)
 settled_forked plan places u task is = record { place = is.place; event = is.event; within = is.within; events = is.events }
 
 module _ (plan : Plan) (checked : IsCheckedPlan plan) (places : List KeptPlace) (given : AreReachable plan places) (t : ℕ) where
@@ -119,7 +119,7 @@ module _ (plan : Plan) (checked : IsCheckedPlan plan) (places : List KeptPlace) 
 
   -- other places at which the phases and the forked tasks are the same
   pub walk_same :
-      (b b' : ℕ → Place) (tasks : List Task) (table : PhaseTable) → HasWalked plan places b t tasks table →
+      (b b' : ℕ → Place) (tasks : List TaskRecord) (table : MemberTable) → HasWalked plan places b t tasks table →
       (state_at plan b).phases ≡ (state_at plan b').phases → ((c : ℕ) → forked_at plan (done_by b) c ≡ forked_at plan (done_by b') c) →
       HasWalked plan places b' t tasks table
   walk_same b b' tasks table walk phases forked =
@@ -133,7 +133,7 @@ module _ (plan : Plan) (checked : IsCheckedPlan plan) (places : List KeptPlace) 
         settled = walk.settled;
       }
 
-  module _ (tasks : List Task) (table : PhaseTable) (n : ℕ) (op : Op) (is : slice_get (code_of plan t) n ≡ Some op)
+  module _ (tasks : List TaskRecord) (table : MemberTable) (n : ℕ) (op : Op) (is : slice_get (code_of plan t) n ≡ Some op)
       (walk : HasWalked plan places (walking a t (actions_before (code_of plan t) n)) t tasks table) (few : actions_before (code_of plan t) n < (a t).done)
     where
       abbrev k : ℕ
@@ -198,7 +198,7 @@ module _ (plan : Plan) (checked : IsCheckedPlan plan) (places : List KeptPlace) 
           go (Drop p) e = tt
           go (Await p off) e = tt
 
-      module _ (table' : PhaseTable) (cells : KeepsCells table table') (columns : table'.phasers ≡ table.phasers)
+      module _ (table' : MemberTable) (cells : KeepsCells table table') (columns : table'.phasers ≡ table.phasers)
           (phases : phases_in table' ≡ phases_moved (phases_in table) t (action_of op)) where
         state_next : after (state_at plan (walking a t k)) t (action_of op) ≡ state_at plan (walking a t (suc k))
         state_next = stepped plan checked a given_consistent t k (omega arith) forked_there (action_of op) next (no_pass op)

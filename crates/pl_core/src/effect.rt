@@ -5,7 +5,7 @@ ghost use Rattle.pl_core.specs.inside.Effects.{HasRoomFor};
 ghost use Rattle.pl_core.specs.inside.Ops.{action_of, phases_moved};
 ghost use Rattle.pl_core.specs.inside.PhaseTables.{KeepsCells, phases_in};
 
-use crate::phase_table::PhaseTable;
+use crate::phase_table::MemberTable;
 use armus_base::{Op, Phase};
 
 // One phase more.
@@ -20,7 +20,7 @@ fn raised(phase: Option<Phase>) -> Option<Phase>
 }
 
 /// The phases after task `t` has begun the op.
-pub(crate) fn move_phases(phases: &mut PhaseTable, t: usize, op: Op)
+pub(crate) fn move_phases(phases: &mut MemberTable, t: usize, op: Op)
     requires task { t < 2 ^ 32 }
     requires room { HasRoomFor phases.old t op }
     ensures phasers { phases.new.phasers ≡ phases.old.phasers }

@@ -4,7 +4,7 @@ ghost use Rattle.std.specs.Prelude.{◌≡◌, ℕ, ◌<◌, ◌≤◌, false, S
 ghost use Rattle.armus_base.specs.declared.event.Event.{Event};
 ghost use Rattle.pl_core.specs.inside.Highest.{AreHighest, highest_at};
 
-use crate::task::Task;
+use crate::task::TaskRecord;
 use armus_base::{Event, NoMemory};
 use std::alloc::Global;
 
@@ -21,7 +21,7 @@ pub(crate) fn raise(highest: &mut Vec<u32>, event: Event)
 }
 
 // The task stands so.
-fn raise_for(highest: &mut Vec<u32>, task: Task)
+fn raise_for(highest: &mut Vec<u32>, task: TaskRecord)
     ensures len { length highest.new.items ≡ length highest.old.items }
     ensures reaches { (e : Event) → task.place.refused ≡ false → task.event ≡ Some e → e.p.0 < length highest.old.items → e.n ≤ highest_at highest.new.items e.p.0 }
     ensures keeps { (p : ℕ) → highest_at highest.old.items p ≤ highest_at highest.new.items p }
@@ -35,7 +35,7 @@ fn raise_for(highest: &mut Vec<u32>, task: Task)
 /// The highest phases where the tasks stand so.
 pub(crate) fn highest_of(
     alloc: Global,
-    tasks: &[Task],
+    tasks: &[TaskRecord],
     phasers: usize,
 ) -> Result<Vec<u32>, NoMemory>
     ensures { IfOk result (λ highest. AreHighest tasks.now phasers highest.items) }

@@ -8,20 +8,20 @@ use std::alloc::Global;
 
 // For each phaser its members: as many cells as there are tasks that the plan makes members of it.
 #[derive(Drop)]
-pub(crate) struct PhaseTable {
+pub(crate) struct MemberTable {
     phasers: usize,
     rows: Vec<Members>,
     ghost sized: { vec_len rows ≡ phasers },
 }
 
-impl PhaseTable {
+impl MemberTable {
     ghost use Rattle.armus_base.specs.States.{updated, with_phase};
     ghost use Rattle.pl_core.specs.inside.Behind.{IsNextBelow};
     ghost use Rattle.pl_core.specs.inside.Enrolling.{HasCells};
     ghost use Rattle.pl_core.specs.inside.PhaseTables.{HasCell, KeepsCells, phases_in};
 
     /// The table for a plan, in which no task is a member of anything.
-    pub(crate) fn of(alloc: Global, plan: &Plan) -> Result<PhaseTable, NoMemory>
+    pub(crate) fn of(alloc: Global, plan: &Plan) -> Result<MemberTable, NoMemory>
         ensures phasers { IfOk result (λ table. table.phasers ≡ length plan.now.makers) }
         ensures empty { IfOk result (λ table. phases_in table ≡ (λ _ _. None)) }
         ensures cells { IfOk result (λ table. HasCells plan.now table) }
@@ -29,7 +29,7 @@ impl PhaseTable {
         let enrolled = phasers_of_tasks(alloc, plan)?;
         let phasers = plan.phasers() as usize;
         let rows = members_of_phasers(alloc, &enrolled, phasers)?;
-        Ok(PhaseTable { phasers, rows })
+        Ok(MemberTable { phasers, rows })
     }
 
     /// The phase of task `t` on phaser `p`.

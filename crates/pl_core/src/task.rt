@@ -7,7 +7,7 @@ use armus_base::{Event, NoMemory};
 use std::alloc::Global;
 
 #[derive(Clone, Copy, Debug, PartialEq, Eq)]
-pub(crate) struct Task {
+pub(crate) struct TaskRecord {
     pub(crate) place: Place,
     // the index of its next op, or of the await that it has begun
     pub(crate) op: u32,
@@ -16,13 +16,13 @@ pub(crate) struct Task {
     pub(crate) forked: bool,
 }
 
-impl Task {
+impl TaskRecord {
     /// It has published the event.
-    pub(crate) fn after_block(self, event: Event) -> Task
+    pub(crate) fn after_block(self, event: Event) -> TaskRecord
         requires fits { self.place.events + 1 < 2 ^ 32 }
         ensures { result ≡ after_block self event }
     {
-        Task {
+        TaskRecord {
             place: Place {
                 events: self.place.events + 1,
                 ..self.place
@@ -33,12 +33,12 @@ impl Task {
     }
 
     /// It has made the last event of its op.
-    pub(crate) fn after_op(self) -> Task
+    pub(crate) fn after_op(self) -> TaskRecord
         requires fits { self.place.events + 1 < 2 ^ 32 }
         requires op_fits { self.op + 1 < 2 ^ 32 }
         ensures { result ≡ after_op self }
     {
-        Task {
+        TaskRecord {
             place: Place {
                 events: self.place.events + 1,
                 ..self.place
@@ -50,10 +50,10 @@ impl Task {
     }
 
     /// Its await of the event is refused.
-    pub(crate) fn after_refusal(self, event: Event) -> Task
+    pub(crate) fn after_refusal(self, event: Event) -> TaskRecord
         ensures { result ≡ after_refusal self event }
     {
-        Task {
+        TaskRecord {
             place: Place {
                 refused: true,
                 ..self.place
@@ -64,10 +64,10 @@ impl Task {
     }
 
     /// It is forked.
-    pub(crate) fn after_fork(self) -> Task
+    pub(crate) fn after_fork(self) -> TaskRecord
         ensures { result ≡ after_fork self }
     {
-        Task {
+        TaskRecord {
             forked: true,
             ..self
         }
@@ -75,7 +75,7 @@ impl Task {
 }
 
 /// What is kept of one task.
-pub(crate) fn task_at(tasks: &[Task], at: usize) -> Task
+pub(crate) fn task_at(tasks: &[TaskRecord], at: usize) -> TaskRecord
     requires { at < length tasks.now }
     ensures { slice_get tasks.now at ≡ Some result }
 {
@@ -83,11 +83,11 @@ pub(crate) fn task_at(tasks: &[Task], at: usize) -> Task
 }
 
 /// What is kept of the tasks before any event.
-pub(crate) fn first_tasks(alloc: Global, count: usize) -> Result<Vec<Task>, NoMemory>
+pub(crate) fn first_tasks(alloc: Global, count: usize) -> Result<Vec<TaskRecord>, NoMemory>
     requires { 0 < count }
     ensures { IfOk result (λ tasks. tasks.items ≡ opening_tasks count) }
 {
-    let unbegun = Task {
+    let unbegun = TaskRecord {
         place: Place {
             events: 0,
             refused: false,

@@ -16,9 +16,9 @@ ghost use Rattle.pl_core.specs.calls.Worlds.{places_at};
 
 use crate::Place;
 use crate::effect::move_phases;
-use crate::phase_table::PhaseTable;
+use crate::phase_table::MemberTable;
 use crate::stop::{Stop, events_in};
-use crate::task::{Task, first_tasks, task_at};
+use crate::task::{TaskRecord, first_tasks, task_at};
 use armus_base::{Cursor, Event, NoMemory, Op, Plan, TaskId};
 use std::alloc::Global;
 
@@ -31,7 +31,7 @@ pub(crate) fn place_within(places: &[Place], at: usize) -> Place
 }
 
 // Marks the child that the op forks.
-fn mark_forked(tasks: &mut Vec<Task>, op: Op)
+fn mark_forked(tasks: &mut Vec<TaskRecord>, op: Op)
     requires child { ForksBelow (length tasks.old.items) op }
     ensures { tasks.new.items ≡ marked_by tasks.old.items op }
 {
@@ -45,7 +45,7 @@ fn mark_forked(tasks: &mut Vec<Task>, op: Op)
 }
 
 // The event of the await before which a task stands.
-fn event_of(phases: &PhaseTable, t: usize, op: Option<Op>) -> Option<Event>
+fn event_of(phases: &MemberTable, t: usize, op: Option<Op>) -> Option<Event>
     requires task { t < 2 ^ 32 }
     requires phaser { AwaitsBelow phases.now.phasers op }
     requires near { AwaitsNear (phases_in phases.now t) op }
@@ -64,7 +64,7 @@ fn event_of(phases: &PhaseTable, t: usize, op: Option<Op>) -> Option<Event>
 }
 
 // Takes a refused task off all phasers.
-fn clear_refused(phases: &mut PhaseTable, t: usize, refused: bool)
+fn clear_refused(phases: &mut MemberTable, t: usize, refused: bool)
     requires task { t < 2 ^ 32 }
     ensures phasers { phases.new.phasers ≡ phases.old.phasers }
     ensures cells { KeepsCells phases.old phases.new }
@@ -78,8 +78,8 @@ fn clear_refused(phases: &mut PhaseTable, t: usize, refused: bool)
 // What is kept of the tasks, and their phases, so far.
 #[derive(Drop)]
 pub(crate) struct Walk {
-    pub(crate) tasks: Vec<Task>,
-    pub(crate) phases: PhaseTable,
+    pub(crate) tasks: Vec<TaskRecord>,
+    pub(crate) phases: MemberTable,
 }
 
 impl Walk {
@@ -95,7 +95,7 @@ impl Walk {
         ensures cursors { IfOk result (λ w. AreAt plan.now (length plan.now.parents) w.0.tasks.items w.1.items) }
     {
         let count = plan.tasks() as usize;
-        let phases = PhaseTable::of(alloc, plan)?;
+        let phases = MemberTable::of(alloc, plan)?;
         let tasks = first_tasks(alloc, count)?;
         let mut walk = Walk { tasks, phases };
         let mut cursors = Vec::new(alloc);
@@ -187,7 +187,7 @@ impl Walk {
         let event = self.event(t, op, stop.begun, place.refused);
         clear_refused(&mut self.phases, at, place.refused);
         let forked = task_at(&self.tasks, at).forked;
-        self.tasks[at] = Task {
+        self.tasks[at] = TaskRecord {
             place,
             op: stop.op,
             event,

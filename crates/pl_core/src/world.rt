@@ -14,8 +14,8 @@ mod task_stands;
 use crate::Place;
 use crate::cursors::first_cursors;
 use crate::highest::highest_of;
-use crate::phase_table::PhaseTable;
-use crate::task::{Task, first_tasks};
+use crate::phase_table::MemberTable;
+use crate::task::{TaskRecord, first_tasks};
 use crate::walk::Walk;
 use armus_base::{Cursor, NoMemory, Plan};
 use std::alloc::Global;
@@ -25,10 +25,10 @@ use std::marker::Model;
 #[derive(Drop)]
 pub struct World<'p> {
     plan: &'p Plan,
-    tasks: Vec<Task>,
+    tasks: Vec<TaskRecord>,
     // one for each task, at its next op, or at the await that it has begun
     cursors: Vec<Cursor<'p>>,
-    phases: PhaseTable,
+    phases: MemberTable,
     highest: Vec<u32>,
 }
 
@@ -51,7 +51,7 @@ impl<'p> World<'p> {
         ensures opening { IfOk result (λ world. IsOpeningWorld plan.now world) }
     {
         let count = plan.tasks() as usize;
-        let phases = PhaseTable::of(alloc, plan)?;
+        let phases = MemberTable::of(alloc, plan)?;
         let tasks = first_tasks(alloc, count)?;
         let cursors = first_cursors(alloc, plan)?;
         let highest = highest_of(alloc, &tasks, plan.phasers() as usize)?;

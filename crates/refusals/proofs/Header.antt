@@ -14,8 +14,8 @@ use Rattle.pl_syntax.proofs.FirstFaults.{no_fault}
 use Rattle.pl_syntax.proofs.Forest.{begins_if, runs_if}
 use Rattle.pl_syntax.proofs.Fronts.{front_le, ok_pair}
 use Rattle.refusals.specs.declared.stand.Behind.TheVariants as behind
-use Rattle.refusals.specs.declared.stand.Stand.{Stand}
-use Rattle.refusals.specs.declared.wanted.Wanted.TheVariants as w
+use Rattle.refusals.specs.declared.stand.GrammarStand.{GrammarStand}
+use Rattle.refusals.specs.declared.wanted.WantedTokens.TheVariants as w
 use Rattle.refusals.specs.Stands.{IsStand, StandsBehind}
 use Rattle.refusals.specs.Wanted.{IsTokenOf, IsWanted, is_wanted}
 use Rattle.refusals.specs.inside.Walking.{WalkComesTo, IsOutside}
@@ -302,7 +302,7 @@ module _ (text : List ℕ) (f : SyntaxFault) where
       back (sign Plus) e = absurd cc
       back (sign Minus) e = absurd cc
 
-  stand_of : (b : HasFault text f) (before : List Token) (stand : Stand) → b.two ≡ false → b.before ≡ before → StandsBehind text false before stand → IsStand text f stand
+  stand_of : (b : HasFault text f) (before : List Token) (stand : GrammarStand) → b.two ≡ false → b.before ≡ before → StandsBehind text false before stand → IsStand text f stand
   stand_of b before stand e is s = record {
     found = b;
     stands = subst (λ x. StandsBehind text x b.before stand) (sym e) (subst (λ x. StandsBehind text false x stand) (sym is) s);
@@ -402,7 +402,7 @@ module _ (text : List ℕ) (f : SyntaxFault) where
       }
 
   -- what stands behind the tokens before the fault is what stands at the fault
-  pub at_fault : (b : HasFault text f) (two : Bool) (stand : Stand) → b.two ≡ two → StandsBehind text two b.before stand → IsStand text f stand
+  pub at_fault : (b : HasFault text f) (two : Bool) (stand : GrammarStand) → b.two ≡ two → StandsBehind text two b.before stand → IsStand text f stand
   at_fault b two stand e s = record { found = b; stands = subst (λ x. StandsBehind text x b.before stand) (sym e) s }
 
 -- the fault stands in the text

@@ -10,9 +10,9 @@ use Rattle.pl_syntax.specs.Grammar.{HasFault, header, scan_of}
 use Rattle.pl_syntax.proofs.Beginnings.{one_rest}
 use Rattle.pl_syntax.proofs.Fronts.{front_le}
 use Rattle.refusals.specs.declared.stand.Behind.{Behind}
-use Rattle.refusals.specs.declared.stand.Stand.{Stand}
-use Rattle.refusals.specs.declared.wanted.Wanted.{Wanted}
-use Rattle.refusals.specs.declared.wanted.Wanted.TheVariants as w
+use Rattle.refusals.specs.declared.stand.GrammarStand.{GrammarStand}
+use Rattle.refusals.specs.declared.wanted.WantedTokens.{WantedTokens}
+use Rattle.refusals.specs.declared.wanted.WantedTokens.TheVariants as w
 use Rattle.refusals.specs.calls.Laws.{HasOneStand}
 use Rattle.refusals.specs.Stands.{StandsBehind}
 use Rattle.refusals.specs.Wanted.{IsWanted, is_wanted}
@@ -23,7 +23,7 @@ use Rattle.refusals.proofs.Header.{fault_cases, two_by_header}
 -- ---- what is wanted is one thing
 
 -- what is wanted, told by which tokens are
-abbrev told : (Token → Bool) → Wanted
+abbrev told : (Token → Bool) → WantedTokens
 told f =
     if f the_end then w.StatementOrEnd
     else (if f (name []) then (if f (sign s.CloseBrace) then w.StatementOrBrace else w.Name)
@@ -39,7 +39,7 @@ told f =
     else (if f (sign s.OpenBrace) then w.Sign s.OpenBrace
     else (if f (sign s.CloseBrace) then w.Sign s.CloseBrace else w.Sign s.Minus))))))))))))
 
-told_is : (x : Wanted) → told (is_wanted x) ≡ x
+told_is : (x : WantedTokens) → told (is_wanted x) ≡ x
 told_is w.StatementOrBrace = refl
 told_is w.StatementOrEnd = refl
 told_is w.EqualsOrTwo = refl
@@ -62,7 +62,7 @@ same_bool true b f g = sym (f refl)
 same_bool false true f g = g refl
 same_bool false false f g = refl
 
-one_wanted : (two : Bool) (before : List Token) (x y : Wanted) → IsWanted two before x → IsWanted two before y → x ≡ y
+one_wanted : (two : Bool) (before : List Token) (x y : WantedTokens) → IsWanted two before x → IsWanted two before y → x ≡ y
 one_wanted two before x y p q =
     let same : is_wanted x ≡ is_wanted y = fun_ext (λ t. same_bool (is_wanted x t) (is_wanted y t) (λ e. (q t).0 ((p t).1 e)) (λ e. (p t).0 ((q t).1 e))) in
     sym (told_is x) ∙ (ap told same ∙ told_is y)
@@ -95,11 +95,11 @@ one_before text f a b = elim (fault_cases text f a) [
   ]
 ]
 
-stand_is : (x y : Wanted) (b c : Behind) (o p : Option ℕ) → x ≡ y → b ≡ c → o ≡ p →
-    ◌≡◌ {A = Stand} (record { wanted = x; behind = b; brace = o }) (record { wanted = y; behind = c; brace = p })
+stand_is : (x y : WantedTokens) (b c : Behind) (o p : Option ℕ) → x ≡ y → b ≡ c → o ≡ p →
+    ◌≡◌ {A = GrammarStand} (record { wanted = x; behind = b; brace = o }) (record { wanted = y; behind = c; brace = p })
 stand_is x y b c o p e f g = cc
 
-same_stand : (text : List ℕ) (two : Bool) (before : List Token) (a b : Stand) → StandsBehind text two before a → StandsBehind text two before b → a ≡ b
+same_stand : (text : List ℕ) (two : Bool) (before : List Token) (a b : GrammarStand) → StandsBehind text two before a → StandsBehind text two before b → a ≡ b
 same_stand text two before a b p q =
     stand_is a.wanted b.wanted a.behind b.behind a.brace b.brace (one_wanted two before a.wanted b.wanted p.wanted q.wanted) (p.behind ∙ sym q.behind)
     (one_brace text two before a.brace b.brace p.brace q.brace)

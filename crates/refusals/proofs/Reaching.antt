@@ -7,8 +7,8 @@ use Rattle.pl_syntax.proofs.Fronts.{front_le, ok_pair}
 use Rattle.refusals.specs.declared.shape.Shape.{Shape}
 use Rattle.refusals.specs.declared.stand.Behind.{Behind}
 use Rattle.refusals.specs.declared.stand.Behind.TheVariants.{Other}
-use Rattle.refusals.specs.declared.stand.Stand.{Stand}
-use Rattle.refusals.specs.declared.wanted.Wanted.{Wanted}
+use Rattle.refusals.specs.declared.stand.GrammarStand.{GrammarStand}
+use Rattle.refusals.specs.declared.wanted.WantedTokens.{WantedTokens}
 use Rattle.refusals.specs.Stands.{StandsBehind, first_as_name}
 use Rattle.refusals.specs.inside.OpenBraces.{braces_after, first_brace}
 use Rattle.refusals.specs.inside.Shapes.{shapes_after, wanted_by}
@@ -94,12 +94,12 @@ module _ (text : List ℕ) (two : Bool) (body : List ℕ) (at : ℕ) where
         let none : p.1 ≡ [] = none_read (scan_of two text) rest p.1 c.left on.fits (todo_no_end c.left p.0 p.1 p.3) p.3.goes (here ∙ c.at_is) in
         let all : before ≡ p.0 = p.2 ∙ (ap (λ x. p.0 ++ x) none ∙ append-nil p.0) in
         let w = subst (λ x. Walked text two c.left p.0 x rest shapes braces behind) none p.3 in
-        let stand : Stand = record { wanted = wanted_by two shapes (is_some (first_brace (reverse braces))); behind = behind; brace = first_brace (reverse braces) } in
+        let stand : GrammarStand = record { wanted = wanted_by two shapes (is_some (first_brace (reverse braces))); behind = behind; brace = first_brace (reverse braces) } in
         subst (λ x. StandsBehind text two x stand) (sym all)
         (stands text two c.left p.0 rest shapes braces behind w (subst (λ x. (t : Token) → Begins two (x ++ t ∷ []) → Begins true (x ++ t ∷ [])) all c.only))
 
     -- the same with other names
-    pub arrives_so : place (scan_of two text) rest ≡ at → (wanted : Wanted) (brace : Option ℕ) (is_open : Bool) → brace ≡ first_brace (reverse braces) → is_open ≡ is_some brace →
+    pub arrives_so : place (scan_of two text) rest ≡ at → (wanted : WantedTokens) (brace : Option ℕ) (is_open : Bool) → brace ≡ first_brace (reverse braces) → is_open ≡ is_some brace →
         wanted ≡ wanted_by two shapes is_open → (before : List Token) → WalkComesTo text two body at before →
         StandsBehind text two before (record { wanted = wanted; behind = behind; brace = brace })
     arrives_so here wanted brace is_open b o w before c =

@@ -4,17 +4,17 @@ use Rattle.std.specs.Prelude.{Option}
 use Rattle.pl_syntax.specs.declared.fault.SyntaxFault.{SyntaxFault}
 use Rattle.text_places.specs.TextPlaces.{text_place}
 use Rattle.text_places.specs.declared.place.TextPlace.{TextPlace}
-use Rattle.refusals.specs.declared.stand.Stand.{Stand}
+use Rattle.refusals.specs.declared.stand.GrammarStand.{GrammarStand}
 use Rattle.refusals.specs.CaretLines.{caret_lines}
 use Rattle.refusals.specs.Hints.{first_fit, hints}
 use Rattle.refusals.specs.SyntaxRefusals.{brace_note, first_line, hint_line, syntax_fault_line, syntax_lines, syntax_notes}
 use Rattle.refusals.proofs.Pieces.{three_from_none}
 
 -- the notes, where this is left of the text
-abbrev notes_of : List ℕ → SyntaxFault → List ℕ → Stand → List ℕ
+abbrev notes_of : List ℕ → SyntaxFault → List ℕ → GrammarStand → List ℕ
 notes_of text f rest s = brace_note text rest s.brace ++ hint_line (first_fit (hints f.kind f.at rest s))
 
-pub lines_are : (file : Option (List ℕ)) (text : List ℕ) (f : SyntaxFault) (s : Stand) (placed : List ℕ) (place : TextPlace) (rest o o1 o2 o3 : List ℕ) →
+pub lines_are : (file : Option (List ℕ)) (text : List ℕ) (f : SyntaxFault) (s : GrammarStand) (placed : List ℕ) (place : TextPlace) (rest o o1 o2 o3 : List ℕ) →
     placed ≡ text → place ≡ text_place placed f.at → rest ≡ drop f.at text → o ≡ [] → o1 ≡ o ++ first_line placed file place f rest s.wanted →
     o2 ≡ o1 ++ caret_lines text f.at → o3 ≡ o2 ++ (brace_note placed rest s.brace ++ hint_line (first_fit (hints f.kind f.at rest s))) →
     o3 ≡ syntax_lines file text f s

@@ -9,8 +9,8 @@ use Rattle.pl_syntax.specs.inside.Reading.{is_pl, is_two}
 use Rattle.refusals.specs.declared.shape.Shape.{Shape}
 use Rattle.refusals.specs.declared.stand.Behind.{Behind}
 use Rattle.refusals.specs.declared.stand.Behind.TheVariants as behind
-use Rattle.refusals.specs.declared.stand.Stand.{Stand}
-use Rattle.refusals.specs.declared.wanted.Wanted.TheVariants as w
+use Rattle.refusals.specs.declared.stand.GrammarStand.{GrammarStand}
+use Rattle.refusals.specs.declared.wanted.WantedTokens.TheVariants as w
 use Rattle.refusals.specs.calls.Laws.{HasOneSyntaxRefusal, HasSyntaxRefusal}
 use Rattle.refusals.specs.Stands.{IsStand, StandsBehind, first_as_name}
 use Rattle.refusals.specs.SyntaxRefusals.{syntax_lines}
@@ -24,7 +24,7 @@ use Rattle.refusals.proofs.Walked.{Walked, runs_before, stands, walked_more, wal
 -- a walk over all tokens finds something
 walk_all : (text : List ℕ) (two : Bool) (left : List ℕ) (done todo : List Token) (rest : List ℕ) (shapes : List Shape) (braces : List ℕ) (behind : Behind) →
     Walked text two left done todo rest shapes braces behind →
-    ((t : Token) → Begins two ((done ++ todo) ++ t ∷ []) → Begins true ((done ++ todo) ++ t ∷ [])) → (stand : Stand) × StandsBehind text two (done ++ todo) stand
+    ((t : Token) → Begins two ((done ++ todo) ++ t ∷ []) → Begins true ((done ++ todo) ++ t ∷ [])) → (stand : GrammarStand) × StandsBehind text two (done ++ todo) stand
 walk_all text two left done [] rest shapes braces behind walked only =
     let none : done ++ [] ≡ done = append-nil done in (
       record { wanted = wanted_by two shapes (is_some (first_brace (reverse braces))); behind = behind; brace = first_brace (reverse braces) },
@@ -43,38 +43,38 @@ walk_all text two left done (t ∷ todo) rest shapes braces behind walked only =
 module _ (text : List ℕ) (f : SyntaxFault) where
   by_walk : (two : Bool) (body left : List ℕ) (before : List Token) → ReadsTokens two text [] body → Leads (scan_of two text) body before left →
       ((t : Token) × Begins true (before ++ t ∷ [])) → ((t : Token) → Begins two (before ++ t ∷ []) → Begins true (before ++ t ∷ [])) →
-      (stand : Stand) × StandsBehind text two before stand
+      (stand : GrammarStand) × StandsBehind text two before stand
   by_walk two body left before header reads goes_on only =
       walk_all text two left [] before body [] [] behind.Other (walked_none text two body left before header reads (runs_before before goes_on)) only
 
-  in_plain : (before : List Token) (left : List ℕ) → InOne text f before left → Only before → (stand : Stand) × StandsBehind text false before stand
+  in_plain : (before : List Token) (left : List ℕ) → InOne text f before left → Only before → (stand : GrammarStand) × StandsBehind text false before stand
   in_plain before left i only = by_walk false text left before refl i.reads (i.goes_on.0, only i.goes_on.0 i.goes_on.1) only
 
   -- behind `pl`, and behind `pl 2`
-  pl_stand : (stand : Stand) × StandsBehind text false (a_pl ∷ []) stand
+  pl_stand : (stand : GrammarStand) × StandsBehind text false (a_pl ∷ []) stand
   pl_stand = (record { wanted = w.EqualsOrTwo; behind = behind.Header; brace = None }, record { wanted = equals_or_two text f; behind = refl; brace = λ n. refl })
 
-  two_stand : (stand : Stand) × StandsBehind text false (a_pl ∷ number 2 ∷ []) stand
+  two_stand : (stand : GrammarStand) × StandsBehind text false (a_pl ∷ number 2 ∷ []) stand
   two_stand = (record { wanted = w.Sign Semicolon; behind = behind.Other; brace = None }, record { wanted = a_semicolon text f; behind = refl; brace = λ n. refl })
 
   cases_two : (x y : Token) (us : List Token) (left : List ℕ) (b : Bool) → is_two y ≡ b → is_pl x ≡ true → InOne text f (x ∷ y ∷ us) left →
-      (stand : Stand) × StandsBehind text false (x ∷ y ∷ us) stand
+      (stand : GrammarStand) × StandsBehind text false (x ∷ y ∷ us) stand
   cases_two x y us left false e p i = in_plain (x ∷ y ∷ us) left i (only_second x y us e)
   cases_two x y [] left true e p i =
-      subst (λ z. (stand : Stand) × StandsBehind text false (z ∷ y ∷ []) stand) (sym (pl_is x p))
-      (subst (λ z. (stand : Stand) × StandsBehind text false (a_pl ∷ z ∷ []) stand) (sym (two_is y e)) two_stand)
+      subst (λ z. (stand : GrammarStand) × StandsBehind text false (z ∷ y ∷ []) stand) (sym (pl_is x p))
+      (subst (λ z. (stand : GrammarStand) × StandsBehind text false (a_pl ∷ z ∷ []) stand) (sym (two_is y e)) two_stand)
   cases_two x y (z ∷ us) left true e p i = in_plain (x ∷ y ∷ z ∷ us) left i (only_long x y z us)
 
-  cases_pl : (x : Token) (us : List Token) (left : List ℕ) (b : Bool) → is_pl x ≡ b → InOne text f (x ∷ us) left → (stand : Stand) × StandsBehind text false (x ∷ us) stand
+  cases_pl : (x : Token) (us : List Token) (left : List ℕ) (b : Bool) → is_pl x ≡ b → InOne text f (x ∷ us) left → (stand : GrammarStand) × StandsBehind text false (x ∷ us) stand
   cases_pl x us left false e i = in_plain (x ∷ us) left i (only_first x us e)
-  cases_pl x [] left true e i = subst (λ z. (stand : Stand) × StandsBehind text false (z ∷ []) stand) (sym (pl_is x e)) pl_stand
+  cases_pl x [] left true e i = subst (λ z. (stand : GrammarStand) × StandsBehind text false (z ∷ []) stand) (sym (pl_is x e)) pl_stand
   cases_pl x (y ∷ us) left true e i = cases_two x y us left (is_two y) refl e i
 
-  in_one_stand : (before : List Token) (left : List ℕ) → InOne text f before left → (stand : Stand) × StandsBehind text false before stand
+  in_one_stand : (before : List Token) (left : List ℕ) → InOne text f before left → (stand : GrammarStand) × StandsBehind text false before stand
   in_one_stand [] left i = in_plain [] left i only_none
   in_one_stand (x ∷ us) left i = cases_pl x us left (is_pl x) refl i
 
-  pub some_stand : HasFault text f → (stand : Stand) × IsStand text f stand
+  pub some_stand : HasFault text f → (stand : GrammarStand) × IsStand text f stand
   some_stand b = elim (fault_cases text f b) [
     | inl x ↦ (let s = in_one_stand b.before b.left x.1 in (s.0, record { found = b; stands = subst (λ z. StandsBehind text z b.before s.0) (sym x.0) s.1 }))
     | inr x ↦

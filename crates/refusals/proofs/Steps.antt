@@ -14,7 +14,7 @@ use Rattle.pl_syntax.proofs.Machine.{State, at, over, a_sign, a_name, a_number, 
 use Rattle.pl_syntax.proofs.Begun.{firsts, word_firsts}
 use Rattle.refusals.specs.declared.shape.Shape.{Shape}
 use Rattle.refusals.specs.declared.shape.Shape.TheVariants as s
-use Rattle.refusals.specs.declared.wanted.Wanted.TheVariants as w
+use Rattle.refusals.specs.declared.wanted.WantedTokens.TheVariants as w
 use Rattle.refusals.specs.Wanted.{IsTokenOf, is_statement_keyword, is_first, is_sign, is_wanted}
 use Rattle.refusals.specs.Wanted as own
 use Rattle.refusals.specs.inside.Shapes.{then_semicolon, shapes_after, shapes_behind, shapes_on, wanted_by, wanted_next}

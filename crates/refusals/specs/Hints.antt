@@ -6,9 +6,9 @@ use Rattle.pl_syntax.specs.Tokens.{kind_no_token, kind_cannot_stand}
 use Rattle.pl_syntax.specs.declared.token.Sign.TheVariants.{Equals}
 use Rattle.refusals.specs.declared.stand.Behind.{Behind}
 use Rattle.refusals.specs.declared.stand.Behind.TheVariants.{ClockWord, Header}
-use Rattle.refusals.specs.declared.stand.Stand.{Stand}
-use Rattle.refusals.specs.declared.wanted.Wanted.{Wanted}
-use Rattle.refusals.specs.declared.wanted.Wanted.TheVariants as w
+use Rattle.refusals.specs.declared.stand.GrammarStand.{GrammarStand}
+use Rattle.refusals.specs.declared.wanted.WantedTokens.{WantedTokens}
+use Rattle.refusals.specs.declared.wanted.WantedTokens.TheVariants as w
 use Rattle.refusals.specs.QuotedWords.{spelled}
 
 -- `/` with `*` behind it
@@ -33,7 +33,7 @@ abbrev pub has_capital : List ℕ → Bool
 has_capital word = list_any is_capital word
 
 -- `=` alone is wanted
-abbrev pub wants_equals : Wanted → Bool
+abbrev pub wants_equals : WantedTokens → Bool
 wants_equals (w.Sign Equals) = true
 wants_equals wanted = false
 
@@ -58,7 +58,7 @@ token_hints at rest =
     ∷ []
 
 -- the hints where a token cannot stand
-abbrev pub stand_hints : List ℕ → Stand → List (Bool × List ℕ)
+abbrev pub stand_hints : List ℕ → GrammarStand → List (Bool × List ℕ)
 stand_hints rest stand =
     (begins_offset rest, codes "only await takes + or -, as in await(x + 1)")
     ∷ (wants_equals stand.wanted && is_clock_word stand.behind, codes "this may be a text of clocks: armus clock reads those")
@@ -67,7 +67,7 @@ stand_hints rest stand =
     ∷ []
 
 -- the hints for a fault of this kind, behind so many bytes, where this is left of the text and the grammar says this of the place
-abbrev pub hints : ℕ → ℕ → List ℕ → Stand → List (Bool × List ℕ)
+abbrev pub hints : ℕ → ℕ → List ℕ → GrammarStand → List (Bool × List ℕ)
 hints kind at rest stand =
     if kind == kind_no_token then token_hints at rest else (if kind == kind_cannot_stand then stand_hints rest stand else [])
 

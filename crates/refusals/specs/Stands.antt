@@ -8,7 +8,7 @@ use Rattle.pl_syntax.specs.Tokens.{Token, sign, name, place}
 use Rattle.pl_syntax.specs.Grammar.{HasFault, ReadsTokens, open_after, scan_of}
 use Rattle.refusals.specs.declared.stand.Behind.{Behind}
 use Rattle.refusals.specs.declared.stand.Behind.TheVariants.{ClockWord, Header, Other}
-use Rattle.refusals.specs.declared.stand.Stand.{Stand}
+use Rattle.refusals.specs.declared.stand.GrammarStand.{GrammarStand}
 use Rattle.refusals.specs.Wanted.{IsWanted}
 
 -- the words with which statements of the language of clocks begin
@@ -48,12 +48,12 @@ HasBrace text two before None = IsBalanced before
 HasBrace text two before (Some at) = IsInnermost text two before at
 
 -- what the grammar says of the place behind these tokens
-pub record StandsBehind (text : List ℕ) (two : Bool) (before : List Token) (stand : Stand) : Type 0 where
+pub record StandsBehind (text : List ℕ) (two : Bool) (before : List Token) (stand : GrammarStand) : Type 0 where
   pub wanted : IsWanted two before stand.wanted
   pub behind : stand.behind ≡ last_as_name before
   pub brace : HasBrace text two before stand.brace
 
 -- what the grammar says of the place of the first fault of a text
-pub record IsStand (text : List ℕ) (fault : SyntaxFault) (stand : Stand) : Type 0 where
+pub record IsStand (text : List ℕ) (fault : SyntaxFault) (stand : GrammarStand) : Type 0 where
   pub found : HasFault text fault
   pub stands : StandsBehind text found.two found.before stand

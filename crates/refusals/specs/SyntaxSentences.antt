@@ -2,7 +2,7 @@
 use Rattle.std.specs.Prelude.{ℕ, ◌==◌, ◌&&◌, if◌then◌else◌, List, [], ◌∷◌, ◌++◌, length, codes, decimal, nat_le}
 use Rattle.pl_syntax.specs.Words.{is_word_byte}
 use Rattle.pl_syntax.specs.Tokens.{kind_no_token, kind_cannot_stand, kind_no_number, kind_too_deep}
-use Rattle.refusals.specs.declared.wanted.Wanted.{Wanted}
+use Rattle.refusals.specs.declared.wanted.WantedTokens.{WantedTokens}
 use Rattle.refusals.specs.QuotedWords.{quoted, spelled}
 use Rattle.refusals.specs.Wanted.{wanted_words}
 
@@ -24,7 +24,7 @@ found_words [] = codes "the end of the text"
 found_words (b ∷ bs) = quoted (spelled (b ∷ bs))
 
 -- what is wrong, by the kind of the fault
-abbrev pub syntax_sentence : ℕ → List ℕ → Wanted → List ℕ
+abbrev pub syntax_sentence : ℕ → List ℕ → WantedTokens → List ℕ
 syntax_sentence kind rest wanted =
     if kind == kind_no_token then no_token_words rest
     else (if kind == kind_cannot_stand then wanted_words wanted ++ codes " is wanted here, not " ++ found_words rest

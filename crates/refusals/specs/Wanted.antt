@@ -6,8 +6,8 @@ use Rattle.pl_syntax.specs.declared.token.Sign.{Sign}
 use Rattle.pl_syntax.specs.declared.token.Sign.TheVariants as s
 use Rattle.pl_syntax.specs.Tokens.{Token, the_end, sign, word, name, number}
 use Rattle.pl_syntax.specs.Grammar.{Begins}
-use Rattle.refusals.specs.declared.wanted.Wanted.{Wanted}
-use Rattle.refusals.specs.declared.wanted.Wanted.TheVariants as w
+use Rattle.refusals.specs.declared.wanted.WantedTokens.{WantedTokens}
+use Rattle.refusals.specs.declared.wanted.WantedTokens.TheVariants as w
 
 -- a statement begins with this keyword
 abbrev pub is_statement_keyword : Keyword → Bool
@@ -44,7 +44,7 @@ is_sign s (sign found) = sign_key found == sign_key s
 is_sign s _ = false
 
 -- the token is one of those that are wanted
-abbrev pub is_wanted : Wanted → Token → Bool
+abbrev pub is_wanted : WantedTokens → Token → Bool
 is_wanted w.StatementOrBrace t = is_first t || is_sign s.CloseBrace t
 is_wanted w.StatementOrEnd the_end = true
 is_wanted w.StatementOrEnd t = is_first t
@@ -67,7 +67,7 @@ IsTokenOf false (sign s.Minus) = ⊥
 IsTokenOf two t = Unit {0}
 
 -- Behind these tokens of a text of PL 1 or PL 2 just this is wanted: some text of the grammar goes on with each token of it, and with no other one.
-abbrev pub IsWanted : Bool → List Token → Wanted → Type 0
+abbrev pub IsWanted : Bool → List Token → WantedTokens → Type 0
 IsWanted two before wanted = (t : Token) → (Begins two (before ++ t ∷ []) × IsTokenOf two t) ↔ IsTrue (is_wanted wanted t)
 
 -- ---- words
@@ -85,7 +85,7 @@ sign_words s.Plus = codes "'+'"
 sign_words s.Minus = codes "'-'"
 
 -- what is wanted, in a sentence
-abbrev pub wanted_words : Wanted → List ℕ
+abbrev pub wanted_words : WantedTokens → List ℕ
 wanted_words w.StatementOrBrace = codes "a statement or '}'"
 wanted_words w.StatementOrEnd = codes "a statement or the end of the text"
 wanted_words w.EqualsOrTwo = codes "'=' or '2'"

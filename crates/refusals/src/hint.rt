@@ -3,8 +3,8 @@ ghost use Rattle.std.specs.Prelude.{◌≡◌, option_map};
 ghost use Rattle.std.specs.Borrow.{Bor};
 ghost use Rattle.refusals.specs.Hints.{begins_beyond, begins_comment, begins_mark, begins_offset, first_fit, has_capital, hints, is_clock_word, is_header, stand_hints, token_hints, wants_equals};
 
-use crate::stand::{Behind, Stand};
-use crate::wanted::Wanted;
+use crate::stand::{Behind, GrammarStand};
+use crate::wanted::WantedTokens;
 use crate::word::spelled;
 use pl_syntax::token::Sign;
 use pl_syntax::{CANNOT_STAND, NO_TOKEN};
@@ -62,10 +62,10 @@ fn token_hint(at: u32, rest: &[u8]) -> Option<&'static [u8]>
 }
 
 // Whether `=` alone is wanted.
-fn wants_equals(wanted: Wanted) -> bool
+fn wants_equals(wanted: WantedTokens) -> bool
     ensures { result ≡ wants_equals wanted }
 {
-    matches!(wanted, Wanted::Sign(Sign::Equals))
+    matches!(wanted, WantedTokens::Sign(Sign::Equals))
 }
 
 fn is_clock_word(behind: Behind) -> bool
@@ -81,7 +81,7 @@ fn is_header(behind: Behind) -> bool
 }
 
 // What may help where a token cannot stand.
-fn stand_hint(rest: &[u8], stand: Stand) -> Option<&'static [u8]>
+fn stand_hint(rest: &[u8], stand: GrammarStand) -> Option<&'static [u8]>
     ensures { option_map (λ x. x.now) result ≡ first_fit (stand_hints rest.now stand) }
 {
     if begins_offset(rest) {
@@ -102,7 +102,7 @@ fn stand_hint(rest: &[u8], stand: Stand) -> Option<&'static [u8]>
 }
 
 /// What may help with a fault of this kind, from whose place on this is left of the text.
-pub(crate) fn hint_of(kind: u8, at: u32, rest: &[u8], stand: Stand) -> Option<&'static [u8]>
+pub(crate) fn hint_of(kind: u8, at: u32, rest: &[u8], stand: GrammarStand) -> Option<&'static [u8]>
     ensures { option_map (λ x. x.now) result ≡ first_fit (hints kind at rest.now stand) }
 {
     match kind {

@@ -6,7 +6,7 @@ ghost use Rattle.refusals.specs.Hints.{first_fit, hints};
 ghost use Rattle.refusals.specs.SyntaxRefusals.{brace_note, hint_line};
 
 use crate::hint::hint_of;
-use crate::stand::Stand;
+use crate::stand::GrammarStand;
 use armus_base::NoMemory;
 use std::alloc::Global;
 use text_places::{TextPlace, TextPlaces};
@@ -62,7 +62,7 @@ pub(crate) fn put_notes(
     kind: u8,
     at: u32,
     rest: &[u8],
-    stand: Stand,
+    stand: GrammarStand,
 ) -> Result<(), NoMemory>
     ensures { OnOk result (out.new.items ≡ out.old.items ++ (brace_note places.now rest.now stand.brace ++ hint_line (first_fit (hints kind at rest.now stand)))) }
 {

@@ -4,7 +4,7 @@ ghost use Rattle.refusals.specs.QuotedWords.{quoted, spelled};
 ghost use Rattle.refusals.specs.SyntaxSentences.{byte_words, found_words, no_token_words, syntax_sentence};
 ghost use Rattle.refusals.specs.Wanted.{wanted_words};
 
-use crate::wanted::{Wanted, put_wanted};
+use crate::wanted::{WantedTokens, put_wanted};
 use crate::word::{is_word_byte, put_quoted, spelled};
 use armus_base::NoMemory;
 use pl_syntax::{CANNOT_STAND, NO_NUMBER, NO_TOKEN, TOO_DEEP};
@@ -58,7 +58,7 @@ fn put_found(out: &mut Vec<u8>, rest: &[u8]) -> Result<(), NoMemory>
 }
 
 // A token that cannot stand here.
-fn put_cannot_stand(out: &mut Vec<u8>, rest: &[u8], wanted: Wanted) -> Result<(), NoMemory>
+fn put_cannot_stand(out: &mut Vec<u8>, rest: &[u8], wanted: WantedTokens) -> Result<(), NoMemory>
     ensures { OnOk result (out.new.items ≡ out.old.items ++ (wanted_words wanted ++ codes " is wanted here, not " ++ found_words rest.now)) }
 {
     put_wanted(out, wanted)?;
@@ -107,7 +107,7 @@ pub(crate) fn put_sentence(
     out: &mut Vec<u8>,
     kind: u8,
     rest: &[u8],
-    wanted: Wanted,
+    wanted: WantedTokens,
 ) -> Result<(), NoMemory>
     ensures { OnOk result (out.new.items ≡ out.old.items ++ syntax_sentence kind rest.now wanted) }
 {

@@ -1,5 +1,5 @@
 // What is known of the place of a fault.
-use crate::wanted::Wanted;
+use crate::wanted::WantedTokens;
 
 /// Which name stands before a place.
 #[derive(Clone, Copy, Debug, PartialEq, Eq)]
@@ -14,9 +14,9 @@ pub enum Behind {
 
 /// What the grammar says of a place of a text.
 #[derive(Clone, Copy, Debug, PartialEq, Eq)]
-pub struct Stand {
+pub struct GrammarStand {
     /// Which tokens may stand there.
-    pub wanted: Wanted,
+    pub wanted: WantedTokens,
     /// Which name stands before it.
     pub behind: Behind,
     /// Where the innermost brace stands that is open there, as the number of bytes before it.

@@ -8,7 +8,7 @@ use crate::caret::put_line_and_caret;
 use crate::notes::put_notes;
 use crate::sentence::put_sentence;
 use crate::walk::stand_at;
-use crate::wanted::Wanted;
+use crate::wanted::WantedTokens;
 use armus_base::{List, NoMemory};
 use pl_syntax::SyntaxFault;
 use std::alloc::Global;
@@ -42,7 +42,7 @@ fn put_first_line(
     place: TextPlace,
     fault: SyntaxFault,
     rest: &[u8],
-    wanted: Wanted,
+    wanted: WantedTokens,
 ) -> Result<(), NoMemory>
     ensures { OnOk result (out.new.items ≡ out.old.items ++ first_line places.now (option_map (λ f. f.now) file.entry) place fault rest.now wanted) }
 {

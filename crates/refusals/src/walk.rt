@@ -11,8 +11,8 @@ ghost use Rattle.refusals.specs.inside.Shapes.{wanted_by};
 ghost use Rattle.refusals.specs.inside.Walking.{WalkComesTo, IsOutside};
 
 use crate::shape::{Shape, shapes_after};
-use crate::stand::{Behind, Stand};
-use crate::wanted::Wanted;
+use crate::stand::{Behind, GrammarStand};
+use crate::wanted::WantedTokens;
 use armus_base::NoMemory;
 use pl_syntax::SyntaxFault;
 use pl_syntax::lexer::{next, place};
@@ -69,18 +69,18 @@ fn innermost(braces: &Vec<u32>) -> Option<u32>
 }
 
 // What is wanted where these are waited for, and a brace is open or not.
-fn wanted_by(offsets: bool, shapes: &[Shape], is_open: bool) -> Wanted
+fn wanted_by(offsets: bool, shapes: &[Shape], is_open: bool) -> WantedTokens
     ensures { result ≡ wanted_by offsets shapes.now is_open }
 {
     match shapes {
-        [] if is_open => Wanted::StatementOrBrace,
-        [] => Wanted::StatementOrEnd,
-        [Shape::Sign(sign), ..] => Wanted::Sign(*sign),
-        [Shape::Name, ..] => Wanted::Name,
-        [Shape::Number, ..] => Wanted::Number,
-        [Shape::Maker, ..] => Wanted::Maker,
-        [Shape::Offset, ..] if offsets => Wanted::ParenOrOffset,
-        [Shape::Offset, ..] => Wanted::Sign(Sign::CloseParen),
+        [] if is_open => WantedTokens::StatementOrBrace,
+        [] => WantedTokens::StatementOrEnd,
+        [Shape::Sign(sign), ..] => WantedTokens::Sign(*sign),
+        [Shape::Name, ..] => WantedTokens::Name,
+        [Shape::Number, ..] => WantedTokens::Number,
+        [Shape::Maker, ..] => WantedTokens::Maker,
+        [Shape::Offset, ..] if offsets => WantedTokens::ParenOrOffset,
+        [Shape::Offset, ..] => WantedTokens::Sign(Sign::CloseParen),
     }
 }
 
@@ -102,7 +102,7 @@ fn stand_behind(
     two: bool,
     body: &[u8],
     at: u32,
-) -> Result<Stand, NoMemory>
+) -> Result<GrammarStand, NoMemory>
     requires short { length text.now < 2 ^ 32 }
     requires within { length body.now ≤ length text.now }
     requires header { ReadsTokens two text.now [] body.now }
@@ -122,7 +122,7 @@ fn stand_behind(
         rest = after;
     }
     let brace = innermost(&braces);
-    Ok(Stand {
+    Ok(GrammarStand {
         wanted: wanted_by(two, shapes, brace.is_some()),
         behind,
         brace,
@@ -151,7 +151,7 @@ fn is_semicolon(token: &Token) -> bool
 }
 
 // What the grammar says of the place of a fault, where that stands within the header of PL 2.
-fn stand_in_header(text: &[u8], fault: SyntaxFault) -> Option<Stand>
+fn stand_in_header(text: &[u8], fault: SyntaxFault) -> Option<GrammarStand>
     requires short { length text.now < 2 ^ 32 }
     requires fault { HasFault text.now fault }
     ensures inside { IfSome result (IsStand text.now fault) }
@@ -166,8 +166,8 @@ fn stand_in_header(text: &[u8], fault: SyntaxFault) -> Option<Stand>
         return None;
     }
     if place(scan, rest) == fault.at {
-        return Some(Stand {
-            wanted: Wanted::EqualsOrTwo,
+        return Some(GrammarStand {
+            wanted: WantedTokens::EqualsOrTwo,
             behind: Behind::Header,
             brace: None,
         });
@@ -177,8 +177,8 @@ fn stand_in_header(text: &[u8], fault: SyntaxFault) -> Option<Stand>
         return None;
     }
     if place(scan, rest) == fault.at {
-        return Some(Stand {
-            wanted: Wanted::Sign(Sign::Semicolon),
+        return Some(GrammarStand {
+            wanted: WantedTokens::Sign(Sign::Semicolon),
             behind: Behind::Other,
             brace: None,
         });
@@ -209,7 +209,11 @@ fn behind_header(text: &[u8]) -> Option<&[u8]>
 }
 
 /// What the grammar says of the place of the first fault of a text.
-pub(crate) fn stand_at(alloc: Global, text: &[u8], fault: SyntaxFault) -> Result<Stand, NoMemory>
+pub(crate) fn stand_at(
+    alloc: Global,
+    text: &[u8],
+    fault: SyntaxFault,
+) -> Result<GrammarStand, NoMemory>
     requires short { length text.now < 2 ^ 32 }
     requires fault { HasFault text.now fault }
     ensures stand { IfOk result (IsStand text.now fault) }

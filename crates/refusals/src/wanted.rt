@@ -7,7 +7,7 @@ use pl_syntax::token::Sign;
 
 /// Which tokens may stand at a place.
 #[derive(Clone, Copy, Debug, PartialEq, Eq)]
-pub enum Wanted {
+pub enum WantedTokens {
     /// The first token of a statement, or `}`.
     StatementOrBrace,
     /// The first token of a statement, or the end of the text.
@@ -44,23 +44,23 @@ fn sign_words(sign: Sign) -> &'static [u8]
 }
 
 // What is wanted, in words.
-fn wanted_words(wanted: Wanted) -> &'static [u8]
+fn wanted_words(wanted: WantedTokens) -> &'static [u8]
     ensures { result.now ≡ wanted_words wanted }
 {
     match wanted {
-        Wanted::StatementOrBrace => b"a statement or '}'",
-        Wanted::StatementOrEnd => b"a statement or the end of the text",
-        Wanted::EqualsOrTwo => b"'=' or '2'",
-        Wanted::ParenOrOffset => b"')', '+' or '-'",
-        Wanted::Sign(sign) => sign_words(sign),
-        Wanted::Name => b"a name",
-        Wanted::Number => b"a number",
-        Wanted::Maker => b"'newTid' or 'newPhaser'",
+        WantedTokens::StatementOrBrace => b"a statement or '}'",
+        WantedTokens::StatementOrEnd => b"a statement or the end of the text",
+        WantedTokens::EqualsOrTwo => b"'=' or '2'",
+        WantedTokens::ParenOrOffset => b"')', '+' or '-'",
+        WantedTokens::Sign(sign) => sign_words(sign),
+        WantedTokens::Name => b"a name",
+        WantedTokens::Number => b"a number",
+        WantedTokens::Maker => b"'newTid' or 'newPhaser'",
     }
 }
 
 /// Appends what is wanted, in words.
-pub(crate) fn put_wanted(out: &mut Vec<u8>, wanted: Wanted) -> Result<(), NoMemory>
+pub(crate) fn put_wanted(out: &mut Vec<u8>, wanted: WantedTokens) -> Result<(), NoMemory>
     ensures { OnOk result (out.new.items ≡ out.old.items ++ wanted_words wanted) }
 {
     out.extend_from_slice(wanted_words(wanted))?;

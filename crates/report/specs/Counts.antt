@@ -1,6 +1,6 @@
 -- How many tasks stand in each way.
 use Rattle.std.specs.Prelude.{Bool, true, false, List, length, count_by}
-use Rattle.report.specs.declared.counts.Counts.{Counts}
+use Rattle.report.specs.declared.counts.StandingCounts.{StandingCounts}
 use Rattle.report.specs.declared.standing.Standing.{Standing}
 use Rattle.report.specs.declared.standing.Standing.TheVariants.{Done, Dead, Held, Refused, Unforked}
 
@@ -30,7 +30,7 @@ is_unforked Unforked = true
 is_unforked _ = false
 
 -- how many tasks there are, and how many of them stand in each way
-abbrev pub counts_of : List Standing → Counts
+abbrev pub counts_of : List Standing → StandingCounts
 counts_of all =
     record {
       tasks = length all;

@@ -4,14 +4,14 @@ use Rattle.std.specs.List.{enumerate_from}
 use Rattle.armus_base.specs.declared.ids.TaskId.{TaskId}
 use Rattle.pl_syntax.specs.Printed.{line}
 use Rattle.report.specs.Words.{task_word, event_word}
-use Rattle.report.specs.declared.counts.Counts.{Counts}
+use Rattle.report.specs.declared.counts.StandingCounts.{StandingCounts}
 use Rattle.adaptive.specs.declared.analysis.Used.{Used}
 use Rattle.adaptive.specs.declared.analysis.Used.TheVariants.{Wfg, Sg, Grg}
 use Rattle.report.specs.declared.standing.Standing.{Standing}
 use Rattle.report.specs.declared.standing.Standing.TheVariants.{Done, Dead, Held, Refused, Unforked}
 
 -- the line that counts how the tasks stand: tasks 4 done 0 dead 4 held 0 refused 0 unforked 0
-abbrev pub counts_line : Counts → List ℕ
+abbrev pub counts_line : StandingCounts → List ℕ
 counts_line c =
     line
     (codes "tasks " ++ decimal c.tasks ++ codes " done " ++ decimal c.done ++ codes " dead " ++ decimal c.dead ++ codes " held " ++ decimal c.held

@@ -6,7 +6,7 @@ use crate::standing::Standing;
 
 // How many tasks there are, and how many of them stand in each way.
 #[derive(Clone, Copy)]
-pub(crate) struct Counts {
+pub(crate) struct StandingCounts {
     pub(crate) tasks: usize,
     pub(crate) done: usize,
     pub(crate) dead: usize,
@@ -66,10 +66,10 @@ fn count_unforked(standings: &[Standing]) -> usize
 }
 
 // The counts of all tasks.
-pub(crate) fn counts_of(standings: &[Standing]) -> Counts
+pub(crate) fn counts_of(standings: &[Standing]) -> StandingCounts
     ensures { result ≡ counts_of standings.now }
 {
-    Counts {
+    StandingCounts {
         tasks: standings.len(),
         done: count_done(standings),
         dead: count_dead(standings),

@@ -4,7 +4,7 @@ ghost use Rattle.pl_syntax.specs.Printed.{line};
 ghost use Rattle.report.specs.Words.{task_word, event_word};
 ghost use Rattle.report.specs.Lines.{counts_line, task_line, task_lines, cycle_line, graph_name, graph_line};
 
-use crate::counts::Counts;
+use crate::counts::StandingCounts;
 use crate::standing::Standing;
 use adaptive::Used;
 use armus_base::{Event, TaskId};
@@ -22,7 +22,7 @@ fn put_count(alloc: Global, out: &mut Vec<u8>, word: &str, count: usize) -> Resu
 pub(crate) fn put_counts(
     alloc: Global,
     out: &mut Vec<u8>,
-    counts: &Counts,
+    counts: &StandingCounts,
 ) -> Result<(), AllocError>
     ensures { OnOk result (out.new.items ≡ out.old.items ++ counts_line counts.now) }
 {

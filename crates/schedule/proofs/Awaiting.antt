@@ -11,7 +11,7 @@ use Rattle.armus_base.specs.Plans.{Plan}
 use Rattle.armus_base.specs.Runs.{IsPlainRun, state_after}
 use Rattle.armus_base.specs.States.{Step}
 use Rattle.schedule.specs.declared.pass.OpenPass.{OpenPass}
-use Rattle.schedule.specs.declared.pass.Waiting.{Waiting}
+use Rattle.schedule.specs.declared.pass.FoundWaiting.{FoundWaiting}
 use Rattle.schedule.specs.Passes.{Loads, event_found, event_after}
 use Rattle.schedule.specs.inside.OpenPasses.{IsPassOf, HasPhases, KeepsEvent, phaser_of, waiting_found, awaited_phaser, status_with, row_found}
 use Rattle.std.proofs.Common.{eq-eqb, get_or}
@@ -35,7 +35,7 @@ pub record LoadsAwait (plan : Plan) (pass new : OpenPass) (found : Option Event)
   pub kept : KeepsEvent pass new found
   pub awaited : new.loaded ≡ length plan.parents → new.awaited.items ≡ given_below (phaser_of new.waiting.items) (length plan.makers)
 
-one_event : (p : ℕ) (o : Option Event) (t : ℕ) → list_any (λ (w : Waiting). w.event.p.0 == p)
+one_event : (p : ℕ) (o : Option Event) (t : ℕ) → list_any (λ (w : FoundWaiting). w.event.p.0 == p)
     (option_to_list (option_map (λ e. record { t = record { 0 = t }; event = e }) o)) ≡ is_event_of p o
 one_event p None t = refl
 one_event p (Some e) t = or_nothing (e.p.0 == p)
@@ -48,12 +48,12 @@ min_less : (a b : ℕ) → a < b → min a b ≡ a
 min_less a b l = omega arith
 
 -- where some task waits, some phaser is awaited
-some_awaited : (phasers : ℕ) (ws : List Waiting) → 0 < length ws → All (λ (w : Waiting). w.event.p.0 < phasers) ws → 0 < length (given_below (phaser_of ws) phasers)
+some_awaited : (phasers : ℕ) (ws : List FoundWaiting) → 0 < length ws → All (λ (w : FoundWaiting). w.event.p.0 < phasers) ws → 0 < length (given_below (phaser_of ws) phasers)
 some_awaited phasers [] l all = absurd (omega arith)
 some_awaited phasers (w ∷ ws) l all =
     let p = w.event.p.0 in
     let (k, within, is) = given_from (phaser_of (w ∷ ws)) phasers p (record { 0 = p }) (all 0 w (omega arith))
-    (ap (λ b. if (b || list_any (λ (v : Waiting). v.event.p.0 == p) ws) then Some (record { 0 = p }) else None) (eq-eqb p p refl)) in
+    (ap (λ b. if (b || list_any (λ (v : FoundWaiting). v.event.p.0 == p) ws) then Some (record { 0 = p }) else None) (eq-eqb p p refl)) in
     omega arith
 
 module _ (plan : Plan) (checked : IsCheckedPlan plan) (loads : Loads) (h : List Step) (run : IsPlainRun plan h) (pass new : OpenPass)
@@ -81,21 +81,21 @@ module _ (plan : Plan) (checked : IsCheckedPlan plan) (loads : Loads) (h : List 
         loads_one.awaited full
         ∙ given_same (phaser_of new.waiting.items) (awaited_phaser plan all) (length plan.makers) (λ p l.
         ap (λ b. if b then Some (record { 0 = p }) else None)
-        (ap (list_any (λ (w : Waiting). w.event.p.0 == p)) (waiting_more all ext ∙ ap (given_below (waiting_found all)) full)
-        ∙ any_given (λ (w : Waiting). w.event.p.0 == p) (waiting_found all) (λ t. is_event_of p (event_found all t)) (length plan.parents)
+        (ap (list_any (λ (w : FoundWaiting). w.event.p.0 == p)) (waiting_more all ext ∙ ap (given_below (waiting_found all)) full)
+        ∙ any_given (λ (w : FoundWaiting). w.event.p.0 == p) (waiting_found all) (λ t. is_event_of p (event_found all t)) (length plan.parents)
         (λ t m. one_event p (event_found all t) t)))
 
-    phasers_more : All (λ (w : Waiting). w.event.p.0 < length plan.makers) new.waiting.items
+    phasers_more : All (λ (w : FoundWaiting). w.event.p.0 < length plan.makers) new.waiting.items
     phasers_more =
-        subst (All (λ (w : Waiting). w.event.p.0 < length plan.makers)) (sym loads_one.kept.waiting)
-        (All-append (λ (w : Waiting). w.event.p.0 < length plan.makers) pass.waiting.items _ of.awaits.phasers (one ((state_after h).published pass.loaded) refl))
+        subst (All (λ (w : FoundWaiting). w.event.p.0 < length plan.makers)) (sym loads_one.kept.waiting)
+        (All-append (λ (w : FoundWaiting). w.event.p.0 < length plan.makers) pass.waiting.items _ of.awaits.phasers (one ((state_after h).published pass.loaded) refl))
       where
         one : (o : Option Event) → (state_after h).published pass.loaded ≡ o
-            → All (λ (w : Waiting). w.event.p.0 < length plan.makers) (option_to_list (option_map (λ e. record { t = record { 0 = pass.loaded }; event = e }) o))
+            → All (λ (w : FoundWaiting). w.event.p.0 < length plan.makers) (option_to_list (option_map (λ e. record { t = record { 0 = pass.loaded }; event = e }) o))
         one None is = λ k d l. absurd (omega arith)
         one (Some e) is = λ k d l. first k d l (published_phaser plan checked h run.0 pass.loaded e is)
           where
-            first : (k : ℕ) (d : Waiting) → k < 1 → e.p.0 < length plan.makers →
+            first : (k : ℕ) (d : FoundWaiting) → k < 1 → e.p.0 < length plan.makers →
                 (get_or (record { t = record { 0 = pass.loaded }; event = e } ∷ []) k d).event.p.0 < length plan.makers
             first zero d l within = within
             first (suc k) d l within = absurd (omega arith)
@@ -126,7 +126,7 @@ module _ (plan : Plan) (checked : IsCheckedPlan plan) (loads : Loads) (h : List 
               nothing_found all (slice_get new.waiting.items new.row));
         }
       where
-        nothing_found : (all : Loads) (o : Option Waiting) → row_found plan all o [] ≡ []
+        nothing_found : (all : Loads) (o : Option FoundWaiting) → row_found plan all o [] ≡ []
         nothing_found all None = refl
         nothing_found all (Some w) = refl
 

@@ -9,7 +9,7 @@ use Rattle.std.proofs.lemmas.Option.{slice_get-get_or}
 use Rattle.std.proofs.Math.ListN.{length-set}
 use Rattle.armus_base.specs.Finals.{given_below}
 use Rattle.armus_base.proofs.Lists.{slice_get-set_same, slice_get-set_other}
-use Rattle.schedule.specs.declared.pass.Waiting.{Waiting}
+use Rattle.schedule.specs.declared.pass.FoundWaiting.{FoundWaiting}
 use Rattle.schedule.specs.inside.OpenPasses.{marked_phaser, phaser_of}
 
 pub given_more : {A : Type 0} (f : ℕ → Option A) (n : ℕ) → given_below f (n + 1) ≡ given_below f n ++ option_to_list (f n)
@@ -35,11 +35,11 @@ given_same f g (suc n) same =
     ap (λ o. given_below f n ++ option_to_list o) (same n (omega arith)) ∙ ap (λ l. l ++ option_to_list (g n)) (given_same f g n (λ k l. same k (omega arith)))
 
 -- the marks of the tasks so far
-pub record AreMarks (marks : List Bool) (waiting : List Waiting) (phasers i : ℕ) : Type 0 where
+pub record AreMarks (marks : List Bool) (waiting : List FoundWaiting) (phasers i : ℕ) : Type 0 where
   pub all : length marks ≡ phasers
   pub each : (p : ℕ) → p < phasers → slice_get marks p ≡ Some (list_any (λ w. w.event.p.0 == p) (take i waiting))
 
-any_more : (waiting : List Waiting) (i p : ℕ) (d : Waiting) → i < length waiting
+any_more : (waiting : List FoundWaiting) (i p : ℕ) (d : FoundWaiting) → i < length waiting
     → list_any (λ w. w.event.p.0 == p) (take (i + 1) waiting) ≡ (list_any (λ w. w.event.p.0 == p) (take i waiting) || ((get_or waiting i d).event.p.0 == p))
 any_more waiting i p d l =
     ap (list_any (λ w. w.event.p.0 == p)) (take_more waiting i d l) ∙ list_any-append (λ w. w.event.p.0 == p) (take i waiting) (get_or waiting i d ∷ [])
@@ -57,7 +57,7 @@ or_false : (b : Bool) → (b || false) ≡ b
 or_false true = refl
 or_false false = refl
 
-pub mark_one : (marks : List Bool) (waiting : List Waiting) (phasers i : ℕ) (d : Waiting) → AreMarks marks waiting phasers i → i < length waiting
+pub mark_one : (marks : List Bool) (waiting : List FoundWaiting) (phasers i : ℕ) (d : FoundWaiting) → AreMarks marks waiting phasers i → i < length waiting
     → (get_or waiting i d).event.p.0 < phasers → AreMarks (set marks (get_or waiting i d).event.p.0 true) waiting phasers (i + 1)
 mark_one marks waiting phasers i d are l within =
     let q = (get_or waiting i d).event.p.0 in
@@ -74,7 +74,7 @@ mark_one marks waiting phasers i d are l within =
       ];
     }
 
-pub mark_none : (marks : List Bool) (waiting : List Waiting) (phasers i : ℕ) (d : Waiting) → AreMarks marks waiting phasers i → i < length waiting
+pub mark_none : (marks : List Bool) (waiting : List FoundWaiting) (phasers i : ℕ) (d : FoundWaiting) → AreMarks marks waiting phasers i → i < length waiting
     → phasers ≤ (get_or waiting i d).event.p.0 → AreMarks marks waiting phasers (i + 1)
 mark_none marks waiting phasers i d are l beyond =
     let q = (get_or waiting i d).event.p.0 in
@@ -85,7 +85,7 @@ mark_none marks waiting phasers i d are l beyond =
     }
 
 -- marked are the phasers of the tasks
-pub marks_are : (marks : List Bool) (waiting : List Waiting) (phasers : ℕ) → AreMarks marks waiting phasers (length waiting)
+pub marks_are : (marks : List Bool) (waiting : List FoundWaiting) (phasers : ℕ) → AreMarks marks waiting phasers (length waiting)
     → given_below (marked_phaser marks) (length marks) ≡ given_below (phaser_of waiting) phasers
 marks_are marks waiting phasers are =
     ap (given_below (marked_phaser marks)) are.all

@@ -14,7 +14,7 @@ use Rattle.armus_base.specs.Plans.{Plan}
 use Rattle.armus_base.specs.Runs.{state_after}
 use Rattle.armus_base.specs.States.{Step}
 use Rattle.schedule.specs.declared.pass.OpenPass.{OpenPass}
-use Rattle.schedule.specs.declared.pass.Waiting.{Waiting}
+use Rattle.schedule.specs.declared.pass.FoundWaiting.{FoundWaiting}
 use Rattle.schedule.specs.Passes.{Loads, event_found, is_found_awaited, waiting_below, awaited_below, phase_after, phase_load, phases_found}
 use Rattle.schedule.specs.inside.OpenPasses.{IsPassOf, IsMidPass, HasPlace, KeepsPhase, EndsRow, waiting_found, awaited_phaser, member_found, row_found, status_with}
 use Rattle.schedule.proofs.Awaiting.{extends_less, has_next}
@@ -34,11 +34,11 @@ further n m c = omega arith
 next_row : (n r q c : ℕ) → c + 1 ≡ q → (n + (r * q + c)) + 1 ≡ n + ((r + 1) * q + 0)
 next_row n r q c e = grind arith
 
-abbrev number_of : Option Waiting → ℕ
+abbrev number_of : Option FoundWaiting → ℕ
 number_of None = 0
 number_of (Some w) = w.t.0
 
-pub number_of_found : (t : ℕ) (o : Option Event) (w : Waiting) → option_map (λ e. record { t = record { 0 = t }; event = e }) o ≡ Some w → t ≡ w.t.0
+pub number_of_found : (t : ℕ) (o : Option Event) (w : FoundWaiting) → option_map (λ e. record { t = record { 0 = t }; event = e }) o ≡ Some w → t ≡ w.t.0
 number_of_found t None w e = absurd (cc)
 number_of_found t (Some x) w e = ap number_of e
 
@@ -67,13 +67,13 @@ module _ (plan : Plan) (pass : OpenPass) (mid : IsMidPass plan pass) where
   column_within = (mid.of.phases.place all_loaded).column row_within
 
   -- the task of the row, and the phaser of the column
-  at_row : (w : Waiting) → w ≡ get_or pass.waiting.items pass.row w → slice_get pass.waiting.items pass.row ≡ Some w
+  at_row : (w : FoundWaiting) → w ≡ get_or pass.waiting.items pass.row w → slice_get pass.waiting.items pass.row ≡ Some w
   at_row w is = slice_get-get_or pass.waiting.items pass.row w row_within ∙ ap Some (sym is)
 
   at_column : (p : PhaserId) → p ≡ get_or pass.awaited.items pass.column p → slice_get pass.awaited.items pass.column ≡ Some p
   at_column p is = slice_get-get_or pass.awaited.items pass.column p column_within ∙ ap Some (sym is)
 
-  pub task_within : (w : Waiting) → w ≡ get_or pass.waiting.items pass.row w → w.t.0 < length plan.parents
+  pub task_within : (w : FoundWaiting) → w ≡ get_or pass.waiting.items pass.row w → w.t.0 < length plan.parents
   task_within w is =
       let given = mid.of.awaits.waiting mid.loads (itself mid.loads) ∙ ap (given_below (waiting_found mid.loads)) all_loaded in
       let (t, l, gives, counted) = at_place (waiting_found mid.loads) (length plan.parents) pass.row w
@@ -88,7 +88,7 @@ module _ (plan : Plan) (pass : OpenPass) (mid : IsMidPass plan pass) where
       subst (λ k. k < length plan.makers) (number_of_marked q (is_found_awaited plan mid.loads q) p gives) l
 
 -- the next load finds the phase of the row's task on the column's phaser
-module _ (plan : Plan) (pass : OpenPass) (mid : IsMidPass plan pass) (loads : Loads) (h : List Step) (of : IsPassOf plan loads pass) (w : Waiting)
+module _ (plan : Plan) (pass : OpenPass) (mid : IsMidPass plan pass) (loads : Loads) (h : List Step) (of : IsPassOf plan loads pass) (w : FoundWaiting)
     (here : w ≡ get_or pass.waiting.items pass.row w) (p : PhaserId) (there : p ≡ get_or pass.awaited.items pass.column p) where
   in_row : slice_get pass.waiting.items pass.row ≡ Some w
   in_row = at_row plan pass mid w here
@@ -187,7 +187,7 @@ module _ (plan : Plan) (pass : OpenPass) (mid : IsMidPass plan pass) (loads : Lo
           loaded = kept.loaded ∙ full ∙ sym (min_above (length (loads ++ h ∷ [])) (length plan.parents) (omega (arith, length-append loads (h ∷ []), enough)));
           waiting = λ all ext. kept.waiting ∙ of.awaits.waiting all (extends_less all loads h ext) ∙ ap (given_below (waiting_found all)) (sym kept.loaded);
           awaited = λ all ext _. kept.awaited ∙ of.awaits.awaited all (extends_less all loads h ext) full;
-          phasers = subst (All (λ (v : Waiting). v.event.p.0 < length plan.makers)) (sym kept.waiting) of.awaits.phasers;
+          phasers = subst (All (λ (v : FoundWaiting). v.event.p.0 < length plan.makers)) (sym kept.waiting) of.awaits.phasers;
         };
         phases = record {
           place = λ _. record {
@@ -221,7 +221,7 @@ module _ (plan : Plan) (pass : OpenPass) (mid : IsMidPass plan pass) (loads : Lo
           loaded = ended.loaded ∙ kept.loaded ∙ full ∙ sym (min_above (length (loads ++ h ∷ [])) (length plan.parents) (omega (arith, length-append loads (h ∷ []), enough)));
           waiting = λ all ext. waiting ∙ of.awaits.waiting all (extends_less all loads h ext) ∙ ap (given_below (waiting_found all)) (sym (ended.loaded ∙ kept.loaded));
           awaited = λ all ext _. awaited ∙ of.awaits.awaited all (extends_less all loads h ext) full;
-          phasers = subst (All (λ (v : Waiting). v.event.p.0 < length plan.makers)) (sym waiting) of.awaits.phasers;
+          phasers = subst (All (λ (v : FoundWaiting). v.event.p.0 < length plan.makers)) (sym waiting) of.awaits.phasers;
         };
         phases = record {
           place = λ _. record {
@@ -253,6 +253,6 @@ module _ (plan : Plan) (pass : OpenPass) (mid : IsMidPass plan pass) (loads : Lo
       whole : pass.column + 1 ≡ length pass.awaited.items
       whole = sym kept.column ∙ last ∙ ap length kept.awaited
 
-      nothing_found : (all : Loads) (o : Option Waiting) → row_found plan all o [] ≡ []
+      nothing_found : (all : Loads) (o : Option FoundWaiting) → row_found plan all o [] ≡ []
       nothing_found all None = refl
       nothing_found all (Some v) = refl

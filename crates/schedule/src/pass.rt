@@ -16,7 +16,7 @@ use std::mem;
 
 /// A task that was found waiting, and its event.
 #[derive(Clone, Copy, Debug, PartialEq, Eq)]
-pub(crate) struct Waiting {
+pub(crate) struct FoundWaiting {
     pub(crate) t: TaskId,
     pub(crate) event: Event,
 }
@@ -27,7 +27,7 @@ pub(crate) struct Waiting {
 pub(crate) struct OpenPass {
     // how many await cells were loaded
     pub(crate) loaded: u32,
-    pub(crate) waiting: Vec<Waiting>,
+    pub(crate) waiting: Vec<FoundWaiting>,
     // in order of number, once all await cells are loaded
     pub(crate) awaited: Vec<PhaserId>,
     // the statuses of the rows before this one, and the phases found in this one
@@ -40,7 +40,7 @@ pub(crate) struct OpenPass {
 // The phasers of these tasks' events, in order of number. It takes the time of the tasks and of all phasers of the plan.
 fn awaited_phasers(
     alloc: Global,
-    waiting: &[Waiting],
+    waiting: &[FoundWaiting],
     phasers: u32,
 ) -> Result<Vec<PhaserId>, NoMemory>
     ensures { IfOk result (λ all. all.items ≡ given_below (phaser_of waiting.now) phasers) }
@@ -110,7 +110,7 @@ impl OpenPass {
     {
         if let Some(event) = found {
             let t = TaskId(self.loaded);
-            self.waiting.push(Waiting { t, event })?;
+            self.waiting.push(FoundWaiting { t, event })?;
         }
         self.loaded += 1;
         Ok(())
@@ -149,7 +149,7 @@ impl OpenPass {
     }
 
     // Ends the row of this task.
-    fn end_row(&mut self, alloc: Global, waiting: Waiting) -> Result<(), NoMemory>
+    fn end_row(&mut self, alloc: Global, waiting: FoundWaiting) -> Result<(), NoMemory>
         requires fits { self.old.row + 1 < 2 ^ 64 }
         ensures ended { OnOk result (EndsRow self.old self.new waiting) }
     {

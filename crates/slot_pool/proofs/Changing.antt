@@ -6,8 +6,8 @@ use mathlib.Core.Option.{Option as Maybe, some, none, some-injective}
 use lib.ListN.{get_elem?}
 use Rattle.atomic_table.specs.Table.{State}
 use Rattle.atomic_table.proofs.Lists.{at_set, set_else, set_here}
-use Rattle.slot_pool.specs.declared.setting.Setting.{Setting}
-use Rattle.slot_pool.specs.declared.view.View.{View}
+use Rattle.slot_pool.specs.declared.setting.PoolSetting.{PoolSetting}
+use Rattle.slot_pool.specs.declared.view.PoolView.{PoolView}
 use Rattle.slot_pool.specs.inside.Rule.{Fits, IsHad, IsPlacedIn, PoolHolds, StandsInPool, at_home, nowhere, out}
 
 -- an index at which something is lies inside
@@ -17,7 +17,7 @@ found_within (x ∷ xs) zero a e = omega arith
 found_within (x ∷ xs) (suc i) a e = let l = found_within xs i a e in omega arith
 
 -- the view of a seat becomes w, whose numbers are those of v
-pub record Renews (t : ℕ) (v w : View) : Type 0 where
+pub record Renews (t : ℕ) (v w : PoolView) : Type 0 where
   pub numbers : w.numbers ≡ v.numbers
   pub workers : w.workers ≡ v.workers
   pub blank : w.numbers ≡ [] → w.placed ≡ []
@@ -27,10 +27,10 @@ pub record Renews (t : ℕ) (v w : View) : Type 0 where
   pub has : (u : ℕ) → u ≢ t → Contains w.has u → Contains v.has u
   pub has_still : (u : ℕ) → u ≢ t → Contains v.has u → Contains w.has u
 
-module _ (views : List View) (id t : ℕ) (v w : View) (at : get_elem? views id ≡ some v) (re : Renews t v w) where
+module _ (views : List PoolView) (id t : ℕ) (v w : PoolView) (at : get_elem? views id ≡ some v) (re : Renews t v w) where
   pub renewed_placed : (u : ℕ) → u ≢ t → IsPlacedIn (set views id w) u → IsPlacedIn views u
   renewed_placed u n p = elim (at_set views id p.index w p.view p.found) [
-    | inl e ↦ record { index = id; view = v; found = at; placed = re.placed u n (subst (λ (x : View). Contains x.placed u) (sym e.1) p.placed) }
+    | inl e ↦ record { index = id; view = v; found = at; placed = re.placed u n (subst (λ (x : PoolView). Contains x.placed u) (sym e.1) p.placed) }
     | inr e ↦ record { index = p.index; view = p.view; found = e.1; placed = p.placed }
   ]
 
@@ -43,7 +43,7 @@ module _ (views : List View) (id t : ℕ) (v w : View) (at : get_elem? views id 
           view = w;
           found = set_here views id w (found_within views id v at);
           placed = re.placed_still u
-              (subst (λ (x : View). Contains x.placed u) same p.placed);
+              (subst (λ (x : PoolView). Contains x.placed u) same p.placed);
         }
     | inr n ↦ record { index = p.index; view = p.view; found = set_else views id p.index w n ∙ p.found; placed = p.placed }
   ]
@@ -56,32 +56,32 @@ module _ (views : List View) (id t : ℕ) (v w : View) (at : get_elem? views id 
           index = id;
           view = w;
           found = set_here views id w (found_within views id v at);
-          number = re.numbers ∙ ap (λ (x : View). x.numbers) (sym same) ∙ h.number;
-          has = re.has_still u n (subst (λ (x : View). Contains x.has u) same h.has);
+          number = re.numbers ∙ ap (λ (x : PoolView). x.numbers) (sym same) ∙ h.number;
+          has = re.has_still u n (subst (λ (x : PoolView). Contains x.has u) same h.has);
         }
     | inr n ↦ record { index = h.index; view = h.view; found = set_else views id h.index w n ∙ h.found; number = h.number; has = h.has }
   ]
 
   -- no number comes to be in two views
   pub renewed_apart :
-      ((i j k : ℕ) (x y : View) → get_elem? views i ≡ some x → get_elem? views j ≡ some y → Contains x.numbers k → Contains y.numbers k → i ≡ j) →
-      (i j k : ℕ) (x y : View) → get_elem? (set views id w) i ≡ some x → get_elem? (set views id w) j ≡ some y → Contains x.numbers k → Contains y.numbers k → i ≡ j
+      ((i j k : ℕ) (x y : PoolView) → get_elem? views i ≡ some x → get_elem? views j ≡ some y → Contains x.numbers k → Contains y.numbers k → i ≡ j) →
+      (i j k : ℕ) (x y : PoolView) → get_elem? (set views id w) i ≡ some x → get_elem? (set views id w) j ≡ some y → Contains x.numbers k → Contains y.numbers k → i ≡ j
   renewed_apart apart i j k x y ix jy kx ky =
       let one = was i k x ix kx in
       let two = was j k y jy ky in
       apart i j k one.0 two.0 one.1 two.1 one.2 two.2
     where
-      was : (i k : ℕ) (x : View) → get_elem? (set views id w) i ≡ some x → Contains x.numbers k → (u : View) × get_elem? views i ≡ some u × Contains u.numbers k
+      was : (i k : ℕ) (x : PoolView) → get_elem? (set views id w) i ≡ some x → Contains x.numbers k → (u : PoolView) × get_elem? views i ≡ some u × Contains u.numbers k
       was i k x ix kx = elim (at_set views id i w x ix) [
-        | inl e ↦ (v, ap (get_elem? views) e.0 ∙ at, subst (λ (ns : List ℕ). Contains ns k) (ap (λ (u : View). u.numbers) (sym e.1) ∙ re.numbers) kx)
+        | inl e ↦ (v, ap (get_elem? views) e.0 ∙ at, subst (λ (ns : List ℕ). Contains ns k) (ap (λ (u : PoolView). u.numbers) (sym e.1) ∙ re.numbers) kx)
         | inr e ↦ (x, e.1, kx)
       ]
 
-module _ {R : Type 0} (number_of : R → ℕ) (key : Setting) (s : State (Option R) View) (holds : PoolHolds number_of key s) (id t : ℕ) (v w : View)
+module _ {R : Type 0} (number_of : R → ℕ) (key : PoolSetting) (s : State (Option R) PoolView) (holds : PoolHolds number_of key s) (id t : ℕ) (v w : PoolView)
     (at : get_elem? s.views id ≡ some v) (re : Renews t v w) where
   -- the word of t becomes n and its slot h: the rule holds again if t stands somewhere, this view fits, and no other view has t
   module _ (n : ℕ) (h : Maybe (Option R)) (small : t < key.tasks) where
-    abbrev s' : State (Option R) View
+    abbrev s' : State (Option R) PoolView
     s' = record { words = set s.words t n; homes = set s.homes t h; views = set s.views id w }
 
     elsewhere : (u : ℕ) → u ≢ t → StandsInPool number_of s u → StandsInPool number_of s' u
@@ -96,7 +96,7 @@ module _ {R : Type 0} (number_of : R → ℕ) (key : Setting) (s : State (Option
     ]
 
     -- the word of t was 0 or is not 0 now, so that who knew it still does
-    other_fits : n ≢ 0 → (x : View) → (Contains x.has t → ⊥) → Fits key s.words x → Fits key (set s.words t n) x
+    other_fits : n ≢ 0 → (x : PoolView) → (Contains x.has t → ⊥) → Fits key s.words x → Fits key (set s.words t n) x
     other_fits some_word x free f =
         record {
           number = f.number;
@@ -129,7 +129,7 @@ module _ {R : Type 0} (number_of : R → ℕ) (key : Setting) (s : State (Option
         }
 
     pub changed :
-        (k : ℕ) → v.numbers ≡ k ∷ [] → n ≢ 0 → (Contains w.has t → n ≡ k + 2) → ((j : ℕ) (x : View) → j ≢ id → get_elem? s.views j ≡ some x → Contains x.has t → ⊥) →
+        (k : ℕ) → v.numbers ≡ k ∷ [] → n ≢ 0 → (Contains w.has t → n ≡ k + 2) → ((j : ℕ) (x : PoolView) → j ≢ id → get_elem? s.views j ≡ some x → Contains x.has t → ⊥) →
         StandsInPool number_of (record { words = set s.words t n; homes = set s.homes t h; views = set s.views id w }) t →
         PoolHolds number_of key (record { words = set s.words t n; homes = set s.homes t h; views = set s.views id w })
     changed k mine some_word with_me free stands =
@@ -182,7 +182,7 @@ module _ {R : Type 0} (number_of : R → ℕ) (key : Setting) (s : State (Option
 
       back : (u : ℕ) → IsPlacedIn (set s.views id w) u → IsPlacedIn s.views u
       back u p = elim (at_set s.views id p.index w p.view p.found) [
-        | inl e ↦ record { index = id; view = v; found = at; placed = subst (λ (ts : List ℕ). Contains ts u) (ap (λ (x : View). x.placed) (sym e.1) ∙ sym placed) p.placed }
+        | inl e ↦ record { index = id; view = v; found = at; placed = subst (λ (ts : List ℕ). Contains ts u) (ap (λ (x : PoolView). x.placed) (sym e.1) ∙ sym placed) p.placed }
         | inr e ↦ record { index = p.index; view = p.view; found = e.1; placed = p.placed }
       ]
 
@@ -194,8 +194,8 @@ module _ {R : Type 0} (number_of : R → ℕ) (key : Setting) (s : State (Option
               index = id;
               view = w;
               found = set_here s.views id w (found_within s.views id v at);
-              number = re.numbers ∙ ap (λ (x : View). x.numbers) (sym same) ∙ h.number;
-              has = subst (λ (ts : List ℕ). Contains ts u) (ap (λ (x : View). x.has) same ∙ has) h.has;
+              number = re.numbers ∙ ap (λ (x : PoolView). x.numbers) (sym same) ∙ h.number;
+              has = subst (λ (ts : List ℕ). Contains ts u) (ap (λ (x : PoolView). x.has) same ∙ has) h.has;
             }
         | inr n ↦ record { index = h.index; view = h.view; found = set_else s.views id h.index w n ∙ h.found; number = h.number; has = h.has }
       ]

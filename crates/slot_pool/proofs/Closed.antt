@@ -4,8 +4,8 @@ use Rattle.std.specs.Prelude.{Contains, slice_get}
 use mathlib.Core.Option.{some, none, some-injective}
 use lib.ListN.{get_elem?}
 use Rattle.atomic_table.specs.Table.{Final, Seen, State}
-use Rattle.slot_pool.specs.declared.setting.Setting.{Setting}
-use Rattle.slot_pool.specs.declared.view.View.{View}
+use Rattle.slot_pool.specs.declared.setting.PoolSetting.{PoolSetting}
+use Rattle.slot_pool.specs.declared.view.PoolView.{PoolView}
 use Rattle.slot_pool.specs.calls.Closing.{AreHome}
 use Rattle.slot_pool.specs.inside.Rule.{IsHad, IsPlacedIn, PoolHolds, StandsInPool, at_home, nowhere, out}
 use Rattle.slot_pool.proofs.Members.{contains_first, contains_none}
@@ -22,11 +22,11 @@ read_within (z ∷ zs) zero y f = omega arith
 read_within (z ∷ zs) (suc t) y f = let l = read_within zs t y f in omega arith
 
 module _
-    {R : Type 0} (number_of : R → ℕ) (key : Setting) (s : State (Option R) View) (holds : PoolHolds number_of key s) (id : ℕ) (v : View)
+    {R : Type 0} (number_of : R → ℕ) (key : PoolSetting) (s : State (Option R) PoolView) (holds : PoolHolds number_of key s) (id : ℕ) (v : PoolView)
     (at : get_elem? s.views id ≡ some v) (idle : v.has ≡ [])
     (all : (k : ℕ) → k < key.workers → Contains v.numbers k) where
   -- a view with a number is this one
-  numbered : (i k : ℕ) (x : View) → get_elem? s.views i ≡ some x → Contains x.numbers k → x ≡ v
+  numbered : (i k : ℕ) (x : PoolView) → get_elem? s.views i ≡ some x → Contains x.numbers k → x ≡ v
   numbered i k x e c =
       let here : i ≡ id = holds.one_view i id k x v e at c (all k ((holds.views i x e).number k c).0) in
       some-injective x v (sym e ∙ ap (get_elem? s.views) here ∙ at)
@@ -36,12 +36,12 @@ module _
     where
       by_numbers : (ns : List ℕ) → p.view.numbers ≡ ns → Contains v.placed t
       by_numbers [] e = absurd (contains_none t (subst (λ ts. Contains ts t) ((holds.views p.index p.view p.found).blank e) p.placed))
-      by_numbers (k ∷ ks) e = subst (λ (y : View). Contains y.placed t) (numbered p.index k p.view p.found (subst (λ ns. Contains ns k) (sym e) (contains_first k ks))) p.placed
+      by_numbers (k ∷ ks) e = subst (λ (y : PoolView). Contains y.placed t) (numbered p.index k p.view p.found (subst (λ ns. Contains ns k) (sym e) (contains_first k ks))) p.placed
 
   none_out : (k t : ℕ) → IsHad s.views k t → ⊥
   none_out k t h =
       let mine : h.view ≡ v = numbered h.index k h.view h.found (subst (λ ns. Contains ns k) (sym h.number) (contains_first k [])) in
-      contains_none t (subst (λ ts. Contains ts t) (ap (λ (y : View). y.has) mine ∙ idle) h.has)
+      contains_none t (subst (λ ts. Contains ts t) (ap (λ (y : PoolView). y.has) mine ∙ idle) h.has)
 
   module _ (slots : List (Option R)) (same : length s.homes ≡ length slots)
       (values : (k : ℕ) (y : Option R) → get_elem? s.homes k ≡ some (some y) → get_elem? slots k ≡ some y) where
@@ -66,7 +66,7 @@ module _
     }
 
 pub closes :
-    {R : Type 0} (number_of : R → ℕ) (key : Setting) (id : ℕ) (v : View) (words : List ℕ) (slots : List (Option R)) → v.has ≡ [] →
+    {R : Type 0} (number_of : R → ℕ) (key : PoolSetting) (id : ℕ) (v : PoolView) (words : List ℕ) (slots : List (Option R)) → v.has ≡ [] →
     ((k : ℕ) → k < key.workers → Contains v.numbers k) →
     Final (Seen (PoolHolds number_of key) id v) words slots → AreHome number_of key.tasks (Contains v.placed) slots
 closes number_of key id v words slots idle all end = are_home number_of key end.0 end.1.0 id v end.1.1 idle all slots end.3 end.4

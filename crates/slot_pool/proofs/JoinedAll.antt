@@ -3,7 +3,7 @@ use Rattle.std.proofs.Common.{◌≡◌, ℕ, zero, suc, ◌<◌, List, [], ◌�
 use Rattle.std.specs.Prelude.{All, Any, Contains}
 use Rattle.std.proofs.lemmas.List.{get_or_append_left}
 use Rattle.std.proofs.lemmas.List.Elements.{All-contains, Contains-append_left, Contains-append_right, Contains-append_cases, Contains-push}
-use Rattle.slot_pool.specs.declared.view.View.{View}
+use Rattle.slot_pool.specs.declared.view.PoolView.{PoolView}
 use Rattle.slot_pool.specs.inside.Gathering.{Gathers}
 use Rattle.slot_pool.specs.calls.PoolValues.{WorkerValue, IsNumberOf}
 use Rattle.slot_pool.specs.inside.Views.{joined}
@@ -48,7 +48,7 @@ zero_cases w ws k mine a = elim (any_cases (λ (x : WorkerValue). Contains x.vie
   | inr b ↦ inr b
 ]
 
-pub gathers_one : (w : WorkerValue) (v : View) → v ≡ w.view → w.view.has ≡ [] → Gathers (w ∷ []) v
+pub gathers_one : (w : WorkerValue) (v : PoolView) → v ≡ w.view → w.view.has ≡ [] → Gathers (w ∷ []) v
 gathers_one w v is idle = subst (Gathers (w ∷ [])) (sym is) (record {
   numbers = λ k a. only (λ (x : WorkerValue). Contains x.view.numbers k) a;
   placed = λ t a. only (λ (x : WorkerValue). Contains x.view.placed t) a;
@@ -62,7 +62,7 @@ gathers_one w v is idle = subst (Gathers (w ∷ [])) (sym is) (record {
       | inr n ↦ absurd (any_none P n)
     ]
 
-pub gathers_more : (w : WorkerValue) (ws : List WorkerValue) (v now : View) → now ≡ joined v w.view → Gathers ws v → Gathers (w ∷ ws) now
+pub gathers_more : (w : WorkerValue) (ws : List WorkerValue) (v now : PoolView) → now ≡ joined v w.view → Gathers ws v → Gathers (w ∷ ws) now
 gathers_more w ws v now is g = subst (Gathers (w ∷ ws)) (sym is) (record {
   numbers = λ k a. elim (any_cases (λ (x : WorkerValue). Contains x.view.numbers k) w ws a) [
     | inl c ↦ Contains-append_right v.numbers w.view.numbers k c

@@ -7,8 +7,8 @@ use mathlib.Core.Option.{some, none, some-injective}
 use lib.ListN.{get_elem?}
 use Rattle.atomic_table.specs.Table.{Joins, Splits, State}
 use Rattle.atomic_table.proofs.Lists.{at_set, at_longer, at_last, set_else, set_here}
-use Rattle.slot_pool.specs.declared.setting.Setting.{Setting}
-use Rattle.slot_pool.specs.declared.view.View.{View}
+use Rattle.slot_pool.specs.declared.setting.PoolSetting.{PoolSetting}
+use Rattle.slot_pool.specs.declared.view.PoolView.{PoolView}
 use Rattle.slot_pool.specs.inside.Views.{joined, left_over, split_off, blank_view}
 use Rattle.slot_pool.specs.inside.Rule.{Fits, IsHad, IsPlacedIn, PoolHolds, at_home, nowhere, out}
 use Rattle.slot_pool.proofs.Members.{contains_first, contains_none, contains_one, contains_rest}
@@ -24,19 +24,19 @@ at_more (x ∷ xs) a b (suc j) e = elim (at_more xs a b j e) [
   | inr f ↦ inr (omega arith, f.1)
 ]
 
-nothing_had : (v : View) (t : ℕ) → v.has ≡ [] → Contains v.has t → ⊥
+nothing_had : (v : PoolView) (t : ℕ) → v.has ≡ [] → Contains v.has t → ⊥
 nothing_had v t idle c = contains_none t (subst (λ ts. Contains ts t) idle c)
 
 -- the same words and slots under other views: what was placed still is and nothing else, and who has something is there as before
-pub record Rearranges (before now : List View) : Type 0 where
+pub record Rearranges (before now : List PoolView) : Type 0 where
   pub placed : (u : ℕ) → IsPlacedIn now u → IsPlacedIn before u
   pub placed_still : (u : ℕ) → IsPlacedIn before u → IsPlacedIn now u
   pub had_still : (k u : ℕ) → IsHad before k u → IsHad now k u
 
 rearranged :
-    {R : Type 0} (number_of : R → ℕ) (key : Setting) (s : State (Option R) View) → PoolHolds number_of key s → (now : List View) → Rearranges s.views now →
-    ((i : ℕ) (v : View) → get_elem? now i ≡ some v → Fits key s.words v) →
-    ((i j k : ℕ) (v w : View) → get_elem? now i ≡ some v → get_elem? now j ≡ some w → Contains v.numbers k → Contains w.numbers k → i ≡ j) →
+    {R : Type 0} (number_of : R → ℕ) (key : PoolSetting) (s : State (Option R) PoolView) → PoolHolds number_of key s → (now : List PoolView) → Rearranges s.views now →
+    ((i : ℕ) (v : PoolView) → get_elem? now i ≡ some v → Fits key s.words v) →
+    ((i j k : ℕ) (v w : PoolView) → get_elem? now i ≡ some v → get_elem? now j ≡ some w → Contains v.numbers k → Contains w.numbers k → i ≡ j) →
     PoolHolds number_of key (record { words = s.words; homes = s.homes; views = now })
 rearranged number_of key s holds now re fits apart =
     record {
@@ -53,19 +53,19 @@ rearranged number_of key s holds now re fits apart =
 
 -- a seat that has nothing gives its first number, and what was placed, to a new one
 module _
-    {R : Type 0} (number_of : R → ℕ) (key : Setting) (id : ℕ) (v : View) (k j : ℕ) (ks : List ℕ) (numbers : v.numbers ≡ k ∷ (j ∷ ks))
+    {R : Type 0} (number_of : R → ℕ) (key : PoolSetting) (id : ℕ) (v : PoolView) (k j : ℕ) (ks : List ℕ) (numbers : v.numbers ≡ k ∷ (j ∷ ks))
     (once : Contains (j ∷ ks) k → ⊥) (idle : v.has ≡ [])
-    (s : State (Option R) View) (holds : PoolHolds number_of key s) (at : get_elem? s.views id ≡ some v) where
-  abbrev left : View
+    (s : State (Option R) PoolView) (holds : PoolHolds number_of key s) (at : get_elem? s.views id ≡ some v) where
+  abbrev left : PoolView
   left = left_over v
 
-  abbrev right : View
+  abbrev right : PoolView
   right = split_off v
 
-  abbrev half : List View
+  abbrev half : List PoolView
   half = set s.views id left
 
-  abbrev now : List View
+  abbrev now : List PoolView
   now = half ++ right ∷ []
 
   left_is : drop 1 v.numbers ≡ j ∷ ks
@@ -75,12 +75,12 @@ module _
   right_is = ap (λ ns. take 1 ns) numbers
 
   -- where a view of these comes from
-  data From (i : ℕ) (x : View) : Type 0 where
+  data From (i : ℕ) (x : PoolView) : Type 0 where
     untouched : get_elem? s.views i ≡ some x → i ≢ id → From i x
     rest : i ≡ id → left ≡ x → From i x
     new : i ≡ length half → right ≡ x → From i x
 
-  from : (i : ℕ) (x : View) → get_elem? now i ≡ some x → From i x
+  from : (i : ℕ) (x : PoolView) → get_elem? now i ≡ some x → From i x
   from i x e = elim (at_more half right x i e) [
     | inl a ↦ elim (at_set s.views id i left x a) [
       | inl b ↦ rest b.0 b.1
@@ -89,13 +89,13 @@ module _
     | inr a ↦ new a.0 a.1
   ]
 
-  still : (i : ℕ) (x : View) → get_elem? s.views i ≡ some x → i ≢ id → get_elem? now i ≡ some x
+  still : (i : ℕ) (x : PoolView) → get_elem? s.views i ≡ some x → i ≢ id → get_elem? now i ≡ some x
   still i x e n = at_longer half (right ∷ []) i x (set_else s.views id i left n ∙ e)
 
   new_there : get_elem? now (length half) ≡ some right
   new_there = at_last half right (length half) refl
 
-  mine : (i : ℕ) (x : View) → get_elem? s.views i ≡ some x → i ≡ id → x ≡ v
+  mine : (i : ℕ) (x : PoolView) → get_elem? s.views i ≡ some x → i ≡ id → x ≡ v
   mine i x e same = some-injective x v (sym e ∙ ap (get_elem? s.views) same ∙ at)
 
   f : Fits key s.words v
@@ -111,20 +111,20 @@ module _
   re = record {
     placed = λ u p. elim (from p.index p.view p.found) [
       | untouched e n ↦ record { index = p.index; view = p.view; found = e; placed = p.placed }
-      | rest e x ↦ absurd (contains_none u (subst (λ (y : View). Contains y.placed u) (sym x) p.placed))
-      | new e x ↦ record { index = id; view = v; found = at; placed = subst (λ (y : View). Contains y.placed u) (sym x) p.placed }
+      | rest e x ↦ absurd (contains_none u (subst (λ (y : PoolView). Contains y.placed u) (sym x) p.placed))
+      | new e x ↦ record { index = id; view = v; found = at; placed = subst (λ (y : PoolView). Contains y.placed u) (sym x) p.placed }
     ];
     placed_still = λ u p. elim (cases_eq p.index id) [
-      | inl e ↦ record { index = length half; view = right; found = new_there; placed = subst (λ (y : View). Contains y.placed u) (mine p.index p.view p.found e) p.placed }
+      | inl e ↦ record { index = length half; view = right; found = new_there; placed = subst (λ (y : PoolView). Contains y.placed u) (mine p.index p.view p.found e) p.placed }
       | inr n ↦ record { index = p.index; view = p.view; found = still p.index p.view p.found n; placed = p.placed }
     ];
     had_still = λ i u h. elim (cases_eq h.index id) [
-      | inl e ↦ absurd (nothing_had v u idle (subst (λ (y : View). Contains y.has u) (mine h.index h.view h.found e) h.has))
+      | inl e ↦ absurd (nothing_had v u idle (subst (λ (y : PoolView). Contains y.has u) (mine h.index h.view h.found e) h.has))
       | inr n ↦ record { index = h.index; view = h.view; found = still h.index h.view h.found n; number = h.number; has = h.has }
     ];
   }
 
-  fits : (i : ℕ) (x : View) → get_elem? now i ≡ some x → Fits key s.words x
+  fits : (i : ℕ) (x : PoolView) → get_elem? now i ≡ some x → Fits key s.words x
   fits i x e = elim (from i x e) [
     | untouched a n ↦ holds.views i x a
     | rest a b ↦ subst (Fits key s.words) b (record { number = λ m c. f.number m (in_left m c); blank = λ z. refl; knows = f.knows; has = λ u c. absurd (nothing_had v u idle c) })
@@ -141,15 +141,15 @@ module _
   not_both m l r = once (subst (Contains (j ∷ ks)) (in_right m r) (subst (λ ns. Contains ns m) left_is l))
 
   data Origin (i m : ℕ) : Type 0 where
-    elsewhere : (x : View) → get_elem? s.views i ≡ some x → i ≢ id → Contains x.numbers m → Origin i m
+    elsewhere : (x : PoolView) → get_elem? s.views i ≡ some x → i ≢ id → Contains x.numbers m → Origin i m
     in_rest : i ≡ id → Contains left.numbers m → Origin i m
     in_new : i ≡ length half → Contains right.numbers m → Origin i m
 
-  origin : (i m : ℕ) (x : View) → get_elem? now i ≡ some x → Contains x.numbers m → Origin i m
+  origin : (i m : ℕ) (x : PoolView) → get_elem? now i ≡ some x → Contains x.numbers m → Origin i m
   origin i m x e c = elim (from i x e) [
     | untouched a n ↦ elsewhere x a n c
-    | rest a b ↦ in_rest a (subst (λ (y : View). Contains y.numbers m) (sym b) c)
-    | new a b ↦ in_new a (subst (λ (y : View). Contains y.numbers m) (sym b) c)
+    | rest a b ↦ in_rest a (subst (λ (y : PoolView). Contains y.numbers m) (sym b) c)
+    | new a b ↦ in_new a (subst (λ (y : PoolView). Contains y.numbers m) (sym b) c)
   ]
 
   right_mine : (m : ℕ) → Contains right.numbers m → Contains v.numbers m
@@ -166,11 +166,11 @@ module _
   one a b m (in_new e c) (in_rest f d) = absurd (not_both m d c)
   one a b m (in_new e c) (in_new f d) = e ∙ sym f
 
-  apart : (a b m : ℕ) (x y : View) → get_elem? now a ≡ some x → get_elem? now b ≡ some y → Contains x.numbers m → Contains y.numbers m → a ≡ b
+  apart : (a b m : ℕ) (x y : PoolView) → get_elem? now a ≡ some x → get_elem? now b ≡ some y → Contains x.numbers m → Contains y.numbers m → a ≡ b
   apart a b m x y e f c d = one a b m (origin a m x e c) (origin b m y f d)
 
 pub splits_off :
-    {R : Type 0} (number_of : R → ℕ) (key : Setting) (id : ℕ) (v : View) (k j : ℕ) (ks : List ℕ) → v.numbers ≡ k ∷ (j ∷ ks) → (Contains (j ∷ ks) k → ⊥) → v.has ≡ [] →
+    {R : Type 0} (number_of : R → ℕ) (key : PoolSetting) (id : ℕ) (v : PoolView) (k j : ℕ) (ks : List ℕ) → v.numbers ≡ k ∷ (j ∷ ks) → (Contains (j ∷ ks) k → ⊥) → v.has ≡ [] →
     Splits (PoolHolds number_of key) id v (left_over v) (split_off v)
 splits_off number_of key id v k j ks numbers once idle s holds at =
     rearranged number_of key s holds (set s.views id (left_over v) ++ split_off v ∷ []) (re number_of key id v k j ks numbers once idle s holds at)
@@ -178,24 +178,24 @@ splits_off number_of key id v k j ks numbers once idle s holds at =
 
 -- a seat that has nothing takes in another one that has nothing
 module _
-    {R : Type 0} (number_of : R → ℕ) (key : Setting) (id other : ℕ) (v w : View) (k : ℕ) (mine : Contains v.numbers k) (idle : v.has ≡ []) (idle' : w.has ≡ [])
-    (s : State (Option R) View) (holds : PoolHolds number_of key s) (at : get_elem? s.views id ≡ some v) (apart' : (other ≡ id) → ⊥)
+    {R : Type 0} (number_of : R → ℕ) (key : PoolSetting) (id other : ℕ) (v w : PoolView) (k : ℕ) (mine : Contains v.numbers k) (idle : v.has ≡ []) (idle' : w.has ≡ [])
+    (s : State (Option R) PoolView) (holds : PoolHolds number_of key s) (at : get_elem? s.views id ≡ some v) (apart' : (other ≡ id) → ⊥)
     (there : get_elem? s.views other ≡ some w) where
-  abbrev both : View
+  abbrev both : PoolView
   both = joined v w
 
-  abbrev first_set : List View
+  abbrev first_set : List PoolView
   first_set = set s.views id both
 
-  abbrev joined_views : List View
+  abbrev joined_views : List PoolView
   joined_views = set first_set other blank_view
 
-  data Comes (i : ℕ) (x : View) : Type 0 where
+  data Comes (i : ℕ) (x : PoolView) : Type 0 where
     as_before : get_elem? s.views i ≡ some x → i ≢ id → i ≢ other → Comes i x
     as_both : i ≡ id → both ≡ x → Comes i x
     as_spent : blank_view ≡ x → Comes i x
 
-  comes : (i : ℕ) (x : View) → get_elem? joined_views i ≡ some x → Comes i x
+  comes : (i : ℕ) (x : PoolView) → get_elem? joined_views i ≡ some x → Comes i x
   comes i x e = elim (at_set first_set other i blank_view x e) [
     | inl a ↦ as_spent a.1
     | inr a ↦ elim (at_set s.views id i both x a.1) [
@@ -207,24 +207,24 @@ module _
   both_there : get_elem? joined_views id ≡ some both
   both_there = set_else first_set other id blank_view (λ e. apart' (sym e)) ∙ set_here s.views id both (found_within s.views id v at)
 
-  stays : (i : ℕ) (x : View) → get_elem? s.views i ≡ some x → i ≢ id → i ≢ other → get_elem? joined_views i ≡ some x
+  stays : (i : ℕ) (x : PoolView) → get_elem? s.views i ≡ some x → i ≢ id → i ≢ other → get_elem? joined_views i ≡ some x
   stays i x e n o = set_else first_set other i blank_view o ∙ set_else s.views id i both n ∙ e
 
-  is_first : (i : ℕ) (x : View) → get_elem? s.views i ≡ some x → i ≡ id → x ≡ v
+  is_first : (i : ℕ) (x : PoolView) → get_elem? s.views i ≡ some x → i ≡ id → x ≡ v
   is_first i x e same = some-injective x v (sym e ∙ ap (get_elem? s.views) same ∙ at)
 
-  is_second : (i : ℕ) (x : View) → get_elem? s.views i ≡ some x → i ≡ other → x ≡ w
+  is_second : (i : ℕ) (x : PoolView) → get_elem? s.views i ≡ some x → i ≡ other → x ≡ w
   is_second i x e same = some-injective x w (sym e ∙ ap (get_elem? s.views) same ∙ there)
 
   rearranges : Rearranges s.views joined_views
   rearranges = record {
     placed = λ u p. elim (comes p.index p.view p.found) [
       | as_before e n o ↦ record { index = p.index; view = p.view; found = e; placed = p.placed }
-      | as_both e x ↦ elim (Contains-append_cases v.placed w.placed u (subst (λ (y : View). Contains y.placed u) (sym x) p.placed)) [
+      | as_both e x ↦ elim (Contains-append_cases v.placed w.placed u (subst (λ (y : PoolView). Contains y.placed u) (sym x) p.placed)) [
         | inl c ↦ record { index = id; view = v; found = at; placed = c }
         | inr c ↦ record { index = other; view = w; found = there; placed = c }
       ]
-      | as_spent x ↦ absurd (contains_none u (subst (λ (y : View). Contains y.placed u) (sym x) p.placed))
+      | as_spent x ↦ absurd (contains_none u (subst (λ (y : PoolView). Contains y.placed u) (sym x) p.placed))
     ];
     placed_still = λ u p. elim (cases_eq p.index id) [
       | inl e ↦ record {
@@ -232,7 +232,7 @@ module _
         view = both;
         found = both_there;
         placed = Contains-append_left v.placed w.placed u
-            (subst (λ (y : View). Contains y.placed u) (is_first p.index p.view p.found e) p.placed);
+            (subst (λ (y : PoolView). Contains y.placed u) (is_first p.index p.view p.found e) p.placed);
       }
       | inr n ↦ elim (cases_eq p.index other) [
         | inl e ↦ record {
@@ -240,15 +240,15 @@ module _
           view = both;
           found = both_there;
           placed = Contains-append_right v.placed w.placed u
-              (subst (λ (y : View). Contains y.placed u) (is_second p.index p.view p.found e) p.placed);
+              (subst (λ (y : PoolView). Contains y.placed u) (is_second p.index p.view p.found e) p.placed);
         }
         | inr o ↦ record { index = p.index; view = p.view; found = stays p.index p.view p.found n o; placed = p.placed }
       ]
     ];
     had_still = λ i u h. elim (cases_eq h.index id) [
-      | inl e ↦ absurd (nothing_had v u idle (subst (λ (y : View). Contains y.has u) (is_first h.index h.view h.found e) h.has))
+      | inl e ↦ absurd (nothing_had v u idle (subst (λ (y : PoolView). Contains y.has u) (is_first h.index h.view h.found e) h.has))
       | inr n ↦ elim (cases_eq h.index other) [
-        | inl e ↦ absurd (nothing_had w u idle' (subst (λ (y : View). Contains y.has u) (is_second h.index h.view h.found e) h.has))
+        | inl e ↦ absurd (nothing_had w u idle' (subst (λ (y : PoolView). Contains y.has u) (is_second h.index h.view h.found e) h.has))
         | inr o ↦ record { index = h.index; view = h.view; found = stays h.index h.view h.found n o; number = h.number; has = h.has }
       ]
     ];
@@ -274,7 +274,7 @@ module _
   spent_fits : Fits key s.words blank_view
   spent_fits = record { number = λ m c. absurd (contains_none m c); blank = λ e. refl; knows = λ u c. absurd (contains_none u c); has = λ u c. absurd (contains_none u c) }
 
-  all_fit : (i : ℕ) (x : View) → get_elem? joined_views i ≡ some x → Fits key s.words x
+  all_fit : (i : ℕ) (x : PoolView) → get_elem? joined_views i ≡ some x → Fits key s.words x
   all_fit i x e = elim (comes i x e) [
     | as_before a n o ↦ holds.views i x a
     | as_both a b ↦ subst (Fits key s.words) b both_fits
@@ -282,18 +282,18 @@ module _
   ]
 
   data Stems (i m : ℕ) : Type 0 where
-    from_before : (x : View) → get_elem? s.views i ≡ some x → i ≢ id → i ≢ other → Contains x.numbers m → Stems i m
+    from_before : (x : PoolView) → get_elem? s.views i ≡ some x → i ≢ id → i ≢ other → Contains x.numbers m → Stems i m
     from_first : i ≡ id → Contains v.numbers m → Stems i m
     from_second : i ≡ id → Contains w.numbers m → Stems i m
 
-  stems : (i m : ℕ) (x : View) → get_elem? joined_views i ≡ some x → Contains x.numbers m → Stems i m
+  stems : (i m : ℕ) (x : PoolView) → get_elem? joined_views i ≡ some x → Contains x.numbers m → Stems i m
   stems i m x e c = elim (comes i x e) [
     | as_before a n o ↦ from_before x a n o c
-    | as_both a b ↦ elim (Contains-append_cases v.numbers w.numbers m (subst (λ (y : View). Contains y.numbers m) (sym b) c)) [
+    | as_both a b ↦ elim (Contains-append_cases v.numbers w.numbers m (subst (λ (y : PoolView). Contains y.numbers m) (sym b) c)) [
       | inl d ↦ from_first a d
       | inr d ↦ from_second a d
     ]
-    | as_spent b ↦ absurd (contains_none m (subst (λ (y : View). Contains y.numbers m) (sym b) c))
+    | as_spent b ↦ absurd (contains_none m (subst (λ (y : PoolView). Contains y.numbers m) (sym b) c))
   ]
 
   meets : (a b m : ℕ) → Stems a m → Stems b m → a ≡ b
@@ -311,7 +311,7 @@ module _
   all_joined = rearranged number_of key s holds joined_views rearranges all_fit (λ a b m x y e f c d. meets a b m (stems a m x e c) (stems b m y f d))
 
 pub joins_in :
-    {R : Type 0} (number_of : R → ℕ) (key : Setting) (id other : ℕ) (v w : View) (k : ℕ) → Contains v.numbers k → v.has ≡ [] → w.has ≡ [] →
+    {R : Type 0} (number_of : R → ℕ) (key : PoolSetting) (id other : ℕ) (v w : PoolView) (k : ℕ) → Contains v.numbers k → v.has ≡ [] → w.has ≡ [] →
     Joins (PoolHolds number_of key) id v other w (joined v w) blank_view
 joins_in number_of key id other v w k mine idle idle' s holds at apart' found =
     all_joined number_of key id other v w k mine idle idle' s holds at apart' (sym (set_else s.views id other (joined v w) apart') ∙ found)

@@ -4,15 +4,15 @@ use Rattle.std.specs.Prelude.{Contains, drop, slice_index}
 use mathlib.Core.Option.{some, none}
 use Rattle.atomic_table.specs.Table.{Allows, State, gives, step}
 use Rattle.atomic_table.proofs.Lists.{set_here}
-use Rattle.slot_pool.specs.declared.setting.Setting.{Setting}
-use Rattle.slot_pool.specs.declared.view.View.{View}
+use Rattle.slot_pool.specs.declared.setting.PoolSetting.{PoolSetting}
+use Rattle.slot_pool.specs.declared.view.PoolView.{PoolView}
 use Rattle.slot_pool.specs.calls.Views.{giving}
 use Rattle.slot_pool.specs.inside.Rule.{IsPlacedIn, PoolHolds, at_home, nowhere, out}
 use Rattle.slot_pool.specs.calls.Steps.{GivenBack}
 use Rattle.slot_pool.proofs.Members.{contains_else, contains_first, contains_rest}
 use Rattle.slot_pool.proofs.Changing.{Renews, changed, placed_renewed}
 
-gives_renews : (t k : ℕ) (v : View) (us : List ℕ) → v.numbers ≡ k ∷ [] → v.has ≡ t ∷ us → Renews t v (giving t v)
+gives_renews : (t k : ℕ) (v : PoolView) (us : List ℕ) → v.numbers ≡ k ∷ [] → v.has ≡ t ∷ us → Renews t v (giving t v)
 gives_renews t k v us mine had =
     record {
       numbers = refl;
@@ -25,9 +25,9 @@ gives_renews t k v us mine had =
       has_still = λ u o c. subst (λ ts. Contains (drop 1 ts) u) (sym had) (contains_else t us u o (subst (λ ts. Contains ts u) had c));
     }
 
-module _ {R : Type 0} (number_of : R → ℕ) (key : Setting) where
+module _ {R : Type 0} (number_of : R → ℕ) (key : PoolSetting) where
   -- a task that a view has was placed
-  had_placed : (s : State (Option R) View) → PoolHolds number_of key s → (t i k : ℕ) (v : View) → slice_index s.words t ≡ k + 2 → t < key.tasks → IsPlacedIn s.views t
+  had_placed : (s : State (Option R) PoolView) → PoolHolds number_of key s → (t i k : ℕ) (v : PoolView) → slice_index s.words t ≡ k + 2 → t < key.tasks → IsPlacedIn s.views t
   had_placed s holds t i k v word small = elim (holds.tasks t small) [
     | nowhere w home not ↦ absurd (omega arith)
     | at_home r w home name p ↦ absurd (omega arith)
@@ -35,7 +35,7 @@ module _ {R : Type 0} (number_of : R → ℕ) (key : Setting) where
   ]
 
   pub gives_home :
-      (slots id k t : ℕ) (v : View) (r : R) (more : List (ℕ × Option R)) (us : List ℕ) → v.numbers ≡ k ∷ [] → v.has ≡ t ∷ us → (Contains us t → ⊥) → number_of r ≡ t →
+      (slots id k t : ℕ) (v : PoolView) (r : R) (more : List (ℕ × Option R)) (us : List ℕ) → v.numbers ≡ k ∷ [] → v.has ≡ t ∷ us → (Contains us t → ⊥) → number_of r ≡ t →
       Allows (PoolHolds number_of key) slots id (v, (t, Some r) ∷ more) t (λ n. 1) (λ n. GivenBack (step slots t 1 0 none) (v, (t, Some r) ∷ more) 1)
   gives_home slots id k t v r more us mine had once name s holds long at fits =
       let f = holds.views id v at in

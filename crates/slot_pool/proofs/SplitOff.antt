@@ -5,8 +5,8 @@ use Rattle.std.specs.List.{range_with_len}
 use Rattle.std.proofs.lemmas.List.FromFn.{length-range_with_len, get_or-range_with_len}
 use Rattle.atomic_table.specs.Table.{Me, Splits}
 use Rattle.armus_base.specs.calls.Limits.{max_workers}
-use Rattle.slot_pool.specs.declared.setting.Setting.{Setting}
-use Rattle.slot_pool.specs.declared.view.View.{View}
+use Rattle.slot_pool.specs.declared.setting.PoolSetting.{PoolSetting}
+use Rattle.slot_pool.specs.declared.view.PoolView.{PoolView}
 use Rattle.slot_pool.specs.inside.Parting.{left_for}
 use Rattle.slot_pool.specs.inside.Rule.{PoolHolds}
 use Rattle.slot_pool.specs.calls.Views.{starting_view}
@@ -38,7 +38,7 @@ pub left_last : (workers k : ℕ) → workers ≡ k + 1 → left_for workers k �
 left_last workers k e = ap (λ ns. record (left_for workers k) { numbers = ns }) (range_first k (workers - k) 0 (omega arith))
 
 pub splits_left :
-    {R : Type 0} (number_of : R → ℕ) (key : Setting) (id workers k : ℕ) → k + 1 < workers →
+    {R : Type 0} (number_of : R → ℕ) (key : PoolSetting) (id workers k : ℕ) → k + 1 < workers →
     Splits (PoolHolds number_of key) id (left_for workers k) (left_over (left_for workers k)) (split_off (left_for workers k))
 splits_left number_of key id workers k l =
     splits_off number_of key id (left_for workers k) k (k + 1) (range_with_len (k + 1 + 1) (workers - k - 2))
@@ -46,6 +46,6 @@ splits_left number_of key id workers k l =
     (λ c. let a = above (k + 1) (workers - k - 1) k (subst (λ ns. Contains ns k) (sym (range_first (k + 1) (workers - k - 1) (workers - k - 2) (omega arith)))
     c) in omega arith) refl
 
-pub first_at_work : {R : Type 0} (tasks workers k : ℕ) (me : Me (Option R) View) → workers ≤ max_workers → me ≡ (starting_view workers k, []) → IsAtWork tasks k me
+pub first_at_work : {R : Type 0} (tasks workers k : ℕ) (me : Me (Option R) PoolView) → workers ≤ max_workers → me ≡ (starting_view workers k, []) → IsAtWork tasks k me
 first_at_work {R} tasks workers k me few is = subst (IsAtWork {R = R} tasks k) (sym is)
     (record { alone = refl; few = few; slots = refl; known = λ t c. absurd (contains_none t c); inside = λ t c. absurd (contains_none t c) })

@@ -3,8 +3,8 @@ use Rattle.std.proofs.Common.{◌≡◌, ℕ, ◌<◌, List, ◌∷◌, Option, 
 use Rattle.std.specs.Prelude.{Contains, drop}
 use Rattle.atomic_table.specs.Seated.{TableId}
 use Rattle.atomic_table.specs.Table.{Me, rest}
-use Rattle.slot_pool.specs.declared.view.View.{View}
-use Rattle.slot_pool.specs.declared.setting.Setting.{Setting}
+use Rattle.slot_pool.specs.declared.view.PoolView.{PoolView}
+use Rattle.slot_pool.specs.declared.setting.PoolSetting.{PoolSetting}
 use Rattle.slot_pool.specs.calls.PoolValues.{IsOfPool, PoolValue, WorkerValue}
 use Rattle.slot_pool.specs.calls.Views.{finding, giving, placing}
 use Rattle.slot_pool.specs.inside.Pools.{IsPool, pool_of}
@@ -16,12 +16,12 @@ abbrev vacant : {R : Type 0} → ℕ → ℕ × Option R
 vacant t = (t, None)
 
 -- what a worker of this table keeps
-abbrev pub Keeps : {R : Type 0} → TableId → ℕ → Me (Option R) View → List (Option R) → ℕ → Type 0
+abbrev pub Keeps : {R : Type 0} → TableId → ℕ → Me (Option R) PoolView → List (Option R) → ℕ → Type 0
 Keeps table number me entries room = IsAtWork table.words number me × HasRoom table.words number entries room
 
 -- a worker and its pool are at the same table, where a task of the pool has a word
 pub at_table :
-    {own table : TableId} {key setting : Setting} {hand : WorkerValue} {pool : PoolValue} (t : ℕ) → own ≡ hand.table → pool_of table setting ≡ pool →
+    {own table : TableId} {key setting : PoolSetting} {hand : WorkerValue} {pool : PoolValue} (t : ℕ) → own ≡ hand.table → pool_of table setting ≡ pool →
     IsPool table key setting → IsOfPool hand pool → t < pool.tasks → (own ≡ table) × (t < table.words) × (t < key.tasks)
 at_table t hand pool is made l =
     let tasks = ap (λ f. f.tasks) pool in
@@ -29,10 +29,10 @@ at_table t hand pool is made l =
     let words = is.words in
     (hand ∙ made.table ∙ sym (ap (λ f. f.table) pool), omega arith, omega arith)
 
-module _ {R : Type 0} (table after : TableId) (same : after ≡ table) (number : ℕ) (me now : Me (Option R) View) (entries : List (Option R)) (room : ℕ)
+module _ {R : Type 0} (table after : TableId) (same : after ≡ table) (number : ℕ) (me now : Me (Option R) PoolView) (entries : List (Option R)) (room : ℕ)
     (w : Keeps table number me entries room) where
   -- it is at the same table, and has the same room
-  stays : (next : Me (Option R) View) → now ≡ next → IsAtWork table.words number next → Keeps after number now entries room
+  stays : (next : Me (Option R) PoolView) → now ≡ next → IsAtWork table.words number next → Keeps after number now entries room
   stays next is at_work = subst (λ i. Keeps i number now entries room) (sym same) (subst (IsAtWork table.words number) (sym is) at_work, w.1)
 
   -- it found another word

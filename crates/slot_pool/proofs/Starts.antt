@@ -7,8 +7,8 @@ use Rattle.std.proofs.lemmas.List.FromFn.{length-range_with_len, get_or-range_wi
 use mathlib.Core.Option.{some, none, some-injective}
 use lib.ListN.{get_elem?}
 use Rattle.atomic_table.specs.Table.{State, opening}
-use Rattle.slot_pool.specs.declared.setting.Setting.{Setting}
-use Rattle.slot_pool.specs.declared.view.View.{View}
+use Rattle.slot_pool.specs.declared.setting.PoolSetting.{PoolSetting}
+use Rattle.slot_pool.specs.declared.view.PoolView.{PoolView}
 use Rattle.slot_pool.specs.inside.Views.{opening_view}
 use Rattle.slot_pool.specs.inside.Rule.{Fits, IsPlacedIn, PoolHolds, StandsInPool, at_home, nowhere}
 use Rattle.slot_pool.proofs.Members.{contains_first, contains_none, contains_one}
@@ -37,16 +37,16 @@ length-somes : {A : Type 0} (xs : List A) → length (map (λ (x : A). some x) x
 length-somes [] = refl
 length-somes (x ∷ xs) = ap suc (length-somes xs)
 
-module _ {R : Type 0} (number_of : R → ℕ) (key : Setting) (n : ℕ) (first : R) (count : key.tasks ≡ n + 1) (some_worker : 1 ≤ key.workers) (name : number_of first ≡ 0) where
-  abbrev start : State (Option R) View
+module _ {R : Type 0} (number_of : R → ℕ) (key : PoolSetting) (n : ℕ) (first : R) (count : key.tasks ≡ n + 1) (some_worker : 1 ≤ key.workers) (name : number_of first ≡ 0) where
+  abbrev start : State (Option R) PoolView
   start = opening (1 ∷ replicate n 0) (Some first ∷ replicate n None) (opening_view key.workers)
 
-  alone : (i : ℕ) (v : View) → get_elem? start.views i ≡ some v → (i ≡ 0) × opening_view key.workers ≡ v
+  alone : (i : ℕ) (v : PoolView) → get_elem? start.views i ≡ some v → (i ≡ 0) × opening_view key.workers ≡ v
   alone zero v e = (refl, some-injective (opening_view key.workers) v e)
   alone (suc i) v e = absurd (let f : none ≡ some v = e in cc)
 
   only_first : (t : ℕ) → IsPlacedIn start.views t → t ≡ 0
-  only_first t p = let a = alone p.index p.view p.found in contains_one 0 t (subst (λ (y : View). Contains y.placed t) (sym a.1) p.placed)
+  only_first t p = let a = alone p.index p.view p.found in contains_one 0 t (subst (λ (y : PoolView). Contains y.placed t) (sym a.1) p.placed)
 
   stands : (t : ℕ) → t < key.tasks → StandsInPool number_of start t
   stands zero l = at_home first refl refl name (record { index = 0; view = opening_view key.workers; found = refl; placed = contains_first 0 [] })

@@ -9,7 +9,7 @@ ghost use Rattle.slot_pool.specs.calls.PoolValues.{IsNumberOf, IsOfPool};
 use crate::named::Named;
 use crate::plays::Joins;
 use crate::pool::Pool;
-use crate::rule::Place;
+use crate::rule::PoolSeat;
 use crate::worker::Worker;
 use atomic_table::Closed;
 use std::alloc::Global;
@@ -33,7 +33,7 @@ fn wider<R>(one: Vec<R>, other: Vec<R>) -> Vec<R>
 pub(crate) fn gather<R: Named>(
     pool: &Pool<R>,
     mut workers: Vec<Worker<R>>,
-) -> (Place<R>, Vec<Option<R>>)
+) -> (PoolSeat<R>, Vec<Option<R>>)
     requires made { All (λ w. IsOfPool w pool.now) workers.items }
     requires idle { All (λ w. w.view.has ≡ []) workers.items }
     requires first { IsNumberOf workers.items 0 }

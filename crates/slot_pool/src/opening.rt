@@ -4,8 +4,8 @@ ghost use Rattle.slot_pool.specs.inside.Views.{opening_view};
 
 use crate::named::Named;
 use crate::room::NoRoom;
-use crate::rule::{Place, Slots};
-use crate::setting::Setting;
+use crate::rule::{PoolSeat, Slots};
+use crate::setting::PoolSetting;
 use armus_base::NoMemory;
 use atomic_table::Refused;
 use std::alloc::Global;
@@ -56,9 +56,9 @@ fn first_of<R>(mut slots: Vec<Option<R>>) -> R
 // The table, and a seat that is all workers' until they part.
 pub(crate) fn open<R: Named>(
     alloc: Global,
-    setting: &Setting,
+    setting: &PoolSetting,
     first: R,
-) -> Result<(Slots<R>, Place<R>), NoRoom<R>>
+) -> Result<(Slots<R>, PoolSeat<R>), NoRoom<R>>
     requires counts { (1 ≤ setting.now.tasks) × (1 ≤ setting.now.workers) }
     requires first { R.number first ≡ 0 }
     ensures told { IfOk result (λ r. r.0.shared.key ≡ setting.now) }

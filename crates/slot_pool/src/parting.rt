@@ -7,9 +7,9 @@ ghost use Rattle.slot_pool.specs.inside.Views.{opening_view};
 ghost use Rattle.slot_pool.specs.inside.Workers.{HasRoom};
 
 use crate::named::Named;
-use crate::plays::Parts;
+use crate::plays::SplitsWorker;
 use crate::pool::Pool;
-use crate::rule::Place;
+use crate::rule::PoolSeat;
 use crate::worker::Worker;
 use std::alloc::Global;
 use std::mem;
@@ -19,7 +19,7 @@ pub(crate) fn part<R: Named>(
     alloc: Global,
     pool: &Pool<R>,
     workers: u32,
-    mut place: Place<R>,
+    mut place: PoolSeat<R>,
     mut entries: Vec<Option<R>>,
     mut hands: Vec<Worker<R>>,
 ) -> Vec<Worker<R>>
@@ -31,7 +31,7 @@ pub(crate) fn part<R: Named>(
 {
     let last = workers - 1;
     for number in 0..last {
-        let other = pool.slots.shared.split_seat::<Parts>(&mut place);
+        let other = pool.slots.shared.split_seat::<SplitsWorker>(&mut place);
         let own = mem::replace(&mut entries, Vec::new(alloc));
         hands.push_reserved(Worker::of(other, number, own));
     }

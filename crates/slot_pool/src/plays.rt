@@ -1,6 +1,6 @@
 // What each step on the table tells.
 use crate::named::Named;
-use crate::view::View;
+use crate::view::PoolView;
 use atomic_table::{Join, Play, Split};
 use std::marker::PhantomData;
 
@@ -9,7 +9,7 @@ pub(crate) struct Claims<R> {
     marker: PhantomData<R>,
 }
 
-impl<R: Named> Play<Option<R>, View> for Claims<R> {
+impl<R: Named> Play<Option<R>, PoolView> for Claims<R> {
     ghost use Rattle.slot_pool.specs.calls.Steps.{Claimed};
 
     ghost then = { Claimed R.number };
@@ -18,7 +18,7 @@ impl<R: Named> Play<Option<R>, View> for Claims<R> {
 /// The beginning of a place.
 pub(crate) struct Begins;
 
-impl<R> Play<Option<R>, View> for Begins {
+impl<R> Play<Option<R>, PoolView> for Begins {
     ghost use Rattle.slot_pool.specs.calls.Steps.{Begun};
 
     ghost then = { Begun };
@@ -27,16 +27,16 @@ impl<R> Play<Option<R>, View> for Begins {
 /// A record is home.
 pub(crate) struct Gives;
 
-impl<R> Play<Option<R>, View> for Gives {
+impl<R> Play<Option<R>, PoolView> for Gives {
     ghost use Rattle.slot_pool.specs.calls.Steps.{GivenBack};
 
     ghost then = { GivenBack };
 }
 
 /// A worker is split off.
-pub(crate) struct Parts;
+pub(crate) struct SplitsWorker;
 
-impl Split<View> for Parts {
+impl Split<PoolView> for SplitsWorker {
     ghost use Rattle.slot_pool.specs.inside.Views.{split_off, left_over};
 
     ghost left = { left_over };
@@ -47,7 +47,7 @@ impl Split<View> for Parts {
 /// A worker's seat is joined to another.
 pub(crate) struct Joins;
 
-impl Join<View> for Joins {
+impl Join<PoolView> for Joins {
     ghost use Rattle.slot_pool.specs.inside.Views.{joined, blank_view};
 
     ghost both = { joined };

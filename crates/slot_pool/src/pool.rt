@@ -11,7 +11,7 @@ use crate::opening::open;
 use crate::parting::part;
 use crate::room::NoRoom;
 use crate::rule::Slots;
-use crate::setting::Setting;
+use crate::setting::PoolSetting;
 use crate::worker::Worker;
 use armus_base::List;
 use std::alloc::Global;
@@ -21,7 +21,7 @@ use std::marker::Model;
 #[derive(Drop)]
 pub struct Pool<R: Named> {
     pub(crate) slots: Slots<R>,
-    setting: Setting,
+    setting: PoolSetting,
 }
 
 impl<R: Named> Model for Pool<R> {
@@ -59,7 +59,7 @@ impl<R: Named> Pool<R> {
             hands.destroy_empty();
             return Err(NoRoom { item: first });
         };
-        let setting = Setting { tasks, workers };
+        let setting = PoolSetting { tasks, workers };
         match open(alloc, &setting, first) {
             Ok((slots, place)) => {
                 let pool = Pool { slots, setting };

@@ -2,7 +2,7 @@
 
 /// How many tasks and workers a pool has.
 #[derive(Clone, Copy)]
-pub struct Setting {
+pub struct PoolSetting {
     pub tasks: u32,
     pub workers: u32,
 }

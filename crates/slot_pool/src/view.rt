@@ -2,7 +2,7 @@
 use std::collections::LinkedList;
 
 /// What a worker's seat knows of its pool.
-pub struct View {
+pub struct PoolView {
     /// The worker's number; several before the workers part and after they are joined, and none of a seat that was joined to another.
     pub numbers: LinkedList<u32>,
     /// How many workers the pool has.

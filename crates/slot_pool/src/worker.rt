@@ -9,14 +9,14 @@ use crate::claim::Claim;
 use crate::named::Named;
 use crate::plays::{Begins, Claims, Gives};
 use crate::pool::Pool;
-use crate::rule::Place;
+use crate::rule::PoolSeat;
 use armus_base::TaskId;
 use std::marker::Model;
 
 /// Who claims records, and puts and places them. Contracts see of which pool it is, and what it knows.
 #[derive(Drop)]
 pub struct Worker<R: Named> {
-    place: Place<R>,
+    place: PoolSeat<R>,
     number: u32,
     // What `close` answers is written here: worker 0 has room for all of it. The pool, which threads share, has none, so that R need not be Sync.
     entries: Vec<Option<R>>,
@@ -36,7 +36,7 @@ impl<R: Named> Model for Worker<R> {
 }
 
 impl<R: Named> Worker<R> {
-    pub(crate) fn of(place: Place<R>, number: u32, entries: Vec<Option<R>>) -> Worker<R>
+    pub(crate) fn of(place: PoolSeat<R>, number: u32, entries: Vec<Option<R>>) -> Worker<R>
         requires work { IsAtWork place.table_id.words number place.me }
         requires room { HasRoom place.table_id.words number entries.items (vec_capacity entries) }
         ensures { result ≡ hand_of place.table_id place.me }
@@ -48,7 +48,7 @@ impl<R: Named> Worker<R> {
         }
     }
 
-    pub(crate) fn into_parts(self) -> (Place<R>, Vec<Option<R>>)
+    pub(crate) fn into_parts(self) -> (PoolSeat<R>, Vec<Option<R>>)
         ensures place { hand_of result.0.table_id result.0.me ≡ self }
         ensures slots { self.view.has ≡ [] → result.0.me.1 ≡ [] }
         ensures number { (k : ℕ) × (self.view.numbers ≡ k ∷ []) × HasRoom self.table.words k result.1.items (vec_capacity result.1) }

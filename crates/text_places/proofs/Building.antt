@@ -5,14 +5,14 @@ use Rattle.std.proofs.lemmas.List.{take_all}
 use Rattle.std.proofs.lemmas.List.Sums.{sum_by-take-le}
 use Rattle.armus_base.specs.Finals.{list_below}
 use Rattle.text_places.specs.declared.named.Span.{Span}
-use Rattle.text_places.specs.declared.places.Line.{Line}
+use Rattle.text_places.specs.declared.places.TextLine.{TextLine}
 use Rattle.text_places.specs.NamedPlaces.{moved_span, named_in}
 use Rattle.text_places.specs.TextPlaces.{is_line_feed, line_from}
 use Rattle.text_places.specs.inside.Rows.{begin_of, line_count, line_row, line_rows}
 use Rattle.text_places.proofs.Lines.{IsBegin, begins, further, next_begins}
 
 -- the first lines of a text are kept, and the next one begins at this byte
-pub record AreKept (text : List ℕ) (rows : List Line) (begin : ℕ) : Type 0 where
+pub record AreKept (text : List ℕ) (rows : List TextLine) (begin : ℕ) : Type 0 where
   pub rows_are : rows ≡ list_below (line_row text) (length rows)
   pub begin_is : begin ≡ begin_of text (length rows)
   pub few : length rows ≤ count_by is_line_feed text
@@ -20,7 +20,7 @@ pub record AreKept (text : List ℕ) (rows : List Line) (begin : ℕ) : Type 0 w
 
 -- one line more
 pub with_line :
-    (text : List ℕ) (rows : List Line) (begin : ℕ) (named : Option Span) (line : List ℕ) (more : List Line) → AreKept text rows begin →
+    (text : List ℕ) (rows : List TextLine) (begin : ℕ) (named : Option Span) (line : List ℕ) (more : List TextLine) → AreKept text rows begin →
     line ≡ line_from text begin → named ≡ moved_span begin (named_in line) → more ≡ rows ++ record { begin = begin; named = named } ∷ [] →
     more ≡ list_below (line_row text) (suc (length rows))
 with_line text rows begin named line more kept line_is named_is more_is =
@@ -32,12 +32,12 @@ with_line text rows begin named line more kept line_is named_is more_is =
     ∙ (ap (λ v. rows ++ record { begin = b; named = v } ∷ []) named_here ∙ ap (λ v. v ++ line_row text (length rows) ∷ []) kept.rows_are))
 
 -- how many there are then
-one_more : (rows more : List Line) (row : Line) → more ≡ rows ++ row ∷ [] → length more ≡ suc (length rows)
+one_more : (rows more : List TextLine) (row : TextLine) → more ≡ rows ++ row ∷ [] → length more ≡ suc (length rows)
 one_more rows more row is = let e = ap length is in let a = length-append rows (row ∷ []) in omega arith
 
 -- at the end of the text all lines are kept
 pub is_whole :
-    (text : List ℕ) (rows : List Line) (begin : ℕ) (named : Option Span) (line : List ℕ) (more : List Line) → AreKept text rows begin →
+    (text : List ℕ) (rows : List TextLine) (begin : ℕ) (named : Option Span) (line : List ℕ) (more : List TextLine) → AreKept text rows begin →
     line ≡ line_from text begin → named ≡ moved_span begin (named_in line) → more ≡ rows ++ record { begin = begin; named = named } ∷ [] →
     begin + length line ≡ length text → more ≡ line_rows text
 is_whole text rows begin named line more kept line_is named_is more_is end =
@@ -57,7 +57,7 @@ is_whole text rows begin named line more kept line_is named_is more_is end =
 
 -- before it, the next line begins behind a line feed
 pub goes_on :
-    (text : List ℕ) (rows : List Line) (begin : ℕ) (named : Option Span) (line : List ℕ) (more : List Line) → AreKept text rows begin →
+    (text : List ℕ) (rows : List TextLine) (begin : ℕ) (named : Option Span) (line : List ℕ) (more : List TextLine) → AreKept text rows begin →
     line ≡ line_from text begin → named ≡ moved_span begin (named_in line) → more ≡ rows ++ record { begin = begin; named = named } ∷ [] →
     begin + length line < length text → AreKept text more (begin + length line + 1)
 goes_on text rows begin named line more kept line_is named_is more_is lt = record {

@@ -9,22 +9,22 @@ use Rattle.std.proofs.lemmas.List.Sums.{count_by-le-length, sum_by-take-le}
 use Rattle.std.proofs.lemmas.Option.{get_or_from_slice_get}
 use Rattle.armus_base.proofs.Below.{length-list_below, list_below-at}
 use Rattle.text_places.specs.declared.place.TextPlace.{TextPlace}
-use Rattle.text_places.specs.declared.places.Line.{Line}
+use Rattle.text_places.specs.declared.places.TextLine.{TextLine}
 use Rattle.text_places.specs.NamedPlaces.{moved_span, named_in}
 use Rattle.text_places.specs.TextPlaces.{is_line_feed, line_at, line_before, line_begin, line_from, place_by, text_place}
 use Rattle.text_places.specs.inside.Rows.{begin_of, line_count, line_row, line_rows}
 use Rattle.text_places.proofs.Lines.{begins, begins_ascend, further, line_ends, line_within, next_begins}
 
 -- a row of the table
-pub row_is : (text : List ℕ) (i : ℕ) (d : Line) → i < line_count text → get_or (line_rows text) i d ≡ line_row text i
+pub row_is : (text : List ℕ) (i : ℕ) (d : TextLine) → i < line_count text → get_or (line_rows text) i d ≡ line_row text i
 row_is text i d lt = get_or_from_slice_get (line_rows text) i (line_row text i) d (list_below-at (line_row text) (line_count text) i lt)
 
 -- the rows do not fall
-pub rows_ascend : (text : List ℕ) → IsNonDecreasingBy (λ (l : Line). l.begin) (line_rows text)
+pub rows_ascend : (text : List ℕ) → IsNonDecreasingBy (λ (l : TextLine). l.begin) (line_rows text)
 rows_ascend text = λ i j d le lt.
     let all = length-list_below (line_row text) (line_count text) in
-    let at_i = ap (λ (l : Line). l.begin) (row_is text i d (omega arith)) in
-    let at_j = ap (λ (l : Line). l.begin) (row_is text j d (omega arith)) in
+    let at_i = ap (λ (l : TextLine). l.begin) (row_is text i d (omega arith)) in
+    let at_j = ap (λ (l : TextLine). l.begin) (row_is text j d (omega arith)) in
     let up = begins_ascend text i j (omega arith) in
     omega arith
 
@@ -51,10 +51,10 @@ within_last text i o le is =
 -- where the table is parted by a byte, the line before is that of the byte
 pub stands_in :
     (text : List ℕ) (o k : ℕ) → o ≤ length text → k ≤ length (line_rows text) →
-    IsPartitionPoint (λ (l : Line). leb l.begin o ≡ true) (λ (l : Line). leb l.begin o ≡ false) (line_rows text) k → StandsIn text o k
+    IsPartitionPoint (λ (l : TextLine). leb l.begin o ≡ true) (λ (l : TextLine). leb l.begin o ≡ false) (line_rows text) k → StandsIn text o k
 stands_in text o zero le few point = absurd never
   where
-    d : Line
+    d : TextLine
     d = line_row text 0
 
     never : ⊥
@@ -62,11 +62,11 @@ stands_in text o zero le few point = absurd never
         let all = length-list_below (line_row text) (line_count text) in
         let at = row_is text 0 d (omega arith) in
         let behind = leb-false (get_or (line_rows text) 0 d).begin o (point.1 0 d (omega arith) (omega arith)) in
-        let first = ap (λ (l : Line). l.begin) at in
+        let first = ap (λ (l : TextLine). l.begin) at in
         omega arith
 stands_in text o (suc i) le few point = record { some = omega arith; few = omega (arith, few, all); behind = behind; inside = inside }
   where
-    d : Line
+    d : TextLine
     d = line_row text 0
 
     all : length (line_rows text) ≡ line_count text
@@ -78,14 +78,14 @@ stands_in text o (suc i) le few point = record { some = omega arith; few = omega
     behind : begin_of text (suc i - 1) ≤ o
     behind =
         let yes = leb-true (get_or (line_rows text) i d).begin o (point.0 i d (omega arith) (omega arith)) in
-        let at = ap (λ (l : Line). l.begin) (row_is text i d (omega (arith, few, all))) in
+        let at = ap (λ (l : TextLine). l.begin) (row_is text i d (omega (arith, few, all))) in
         let e = ap (begin_of text) same in
         omega arith
 
     next : i + 1 < line_count text → o < begin_of text (i + 1)
     next lt =
         let no = leb-false (get_or (line_rows text) (i + 1) d).begin o (point.1 (i + 1) d (omega arith) (omega (arith, lt, all))) in
-        let at = ap (λ (l : Line). l.begin) (row_is text (i + 1) d lt) in
+        let at = ap (λ (l : TextLine). l.begin) (row_is text (i + 1) d lt) in
         omega arith
 
     in_line : (k : ℕ) → k ≡ i → o ≤ begin_of text k + length (line_from text (begin_of text k))
@@ -147,15 +147,15 @@ place_at_end text offset = elim (cases_lt offset (length text)) [
 
 -- the same by the table as it is kept
 pub parted :
-    (text : List ℕ) (rows : List Line) (o offset k : ℕ) → rows ≡ line_rows text → o ≡ min offset (length text) → k ≤ length rows →
-    IsPartitionPoint (λ (l : Line). leb l.begin o ≡ true) (λ (l : Line). leb l.begin o ≡ false) rows k → StandsIn text o k
+    (text : List ℕ) (rows : List TextLine) (o offset k : ℕ) → rows ≡ line_rows text → o ≡ min offset (length text) → k ≤ length rows →
+    IsPartitionPoint (λ (l : TextLine). leb l.begin o ≡ true) (λ (l : TextLine). leb l.begin o ≡ false) rows k → StandsIn text o k
 parted text rows o offset k is least few point =
     stands_in text o k (omega (arith, least)) (let e = ap length is in omega (arith, few, e))
-    (subst (λ xs. IsPartitionPoint (λ (l : Line). leb l.begin o ≡ true) (λ (l : Line). leb l.begin o ≡ false) xs k) is point)
+    (subst (λ xs. IsPartitionPoint (λ (l : TextLine). leb l.begin o ≡ true) (λ (l : TextLine). leb l.begin o ≡ false) xs k) is point)
 
 -- the row before, by the table as it is kept
 pub row_before :
-    (text : List ℕ) (rows : List Line) (o k : ℕ) (d : Line) → rows ≡ line_rows text → StandsIn text o k → get_or rows (k - 1) d ≡ line_row text (k - 1)
+    (text : List ℕ) (rows : List TextLine) (o k : ℕ) (d : TextLine) → rows ≡ line_rows text → StandsIn text o k → get_or rows (k - 1) d ≡ line_row text (k - 1)
 row_before text rows o k d is stands =
     ap (λ xs. get_or xs (k - 1) d) is ∙ row_is text (k - 1) d (let f = stands.few in let s = stands.some in omega arith)
 

@@ -16,7 +16,7 @@ use std::marker::Model;
 
 // A line of a text.
 #[derive(Clone, Copy)]
-pub(crate) struct Line {
+pub(crate) struct TextLine {
     // How many bytes stand before it.
     pub(crate) begin: u32,
     // The place of another program that it names.
@@ -27,7 +27,7 @@ pub(crate) struct Line {
 #[derive(Drop)]
 pub struct TextPlaces<'t> {
     text: &'t [u8],
-    lines: Vec<Line>,
+    lines: Vec<TextLine>,
 }
 
 impl<'t> Model for TextPlaces<'t> {
@@ -69,7 +69,7 @@ fn line_from(text: &[u8], begin: usize) -> &[u8]
 }
 
 // The lines of a text.
-fn lines_of(alloc: Global, text: &[u8]) -> Result<Vec<Line>, NoMemory>
+fn lines_of(alloc: Global, text: &[u8]) -> Result<Vec<TextLine>, NoMemory>
     requires { length text.now < 2 ^ 32 - 1 }
     ensures { IfOk result (λ lines. lines.items ≡ line_rows text.now) }
 {
@@ -78,7 +78,7 @@ fn lines_of(alloc: Global, text: &[u8]) -> Result<Vec<Line>, NoMemory>
     loop {
         let line = line_from(text, begin);
         let named = named_in(line, begin as u32);
-        lines.push(Line {
+        lines.push(TextLine {
             begin: begin as u32,
             named,
         })?;
@@ -90,7 +90,7 @@ fn lines_of(alloc: Global, text: &[u8]) -> Result<Vec<Line>, NoMemory>
     }
 }
 
-impl Line {
+impl TextLine {
     // The place of a byte that stands in it, where it has this number, from 0.
     fn place(self, index: u32, offset: u32) -> TextPlace
         requires number { index < 2 ^ 32 - 1 }

@@ -3,7 +3,7 @@ use Rattle.std.specs.Prelude.{◌≡◌, ℕ, ◌+◌, ◌<◌, Bool, true, List
 use Rattle.armus_base.specs.declared.status.Status.{Status}
 use Rattle.adaptive.specs.declared.columns.Column.{Column}
 use Rattle.adaptive.specs.declared.remaining.Remaining.{Remaining}
-use Rattle.adaptive.specs.declared.standings.Standing.{Standing}
+use Rattle.adaptive.specs.declared.standings.PhaseStanding.{PhaseStanding}
 use Rattle.adaptive.specs.inside.Standings.{AreStandingsOf, IsFront, IsRemaining, IsRemainingImpeder, StandingsNeverFall, remains_at}
 
 -- column c is there, and is that of phaser p
@@ -11,7 +11,7 @@ abbrev pub IsColumnOf : List Column → ℕ → ℕ → Type 0
 IsColumnOf columns p c = (c < length columns) × ((d : Column) → (slice_index_or columns c d).p.0 ≡ p)
 
 -- the front of each column is one
-abbrev pub AreFronts : List Standing → List Bool → List Column → Type 0
+abbrev pub AreFronts : List PhaseStanding → List Bool → List Column → Type 0
 AreFronts standings remains columns =
     (c : ℕ) (d : Column) → c < length columns → IsFront standings remains (slice_index_or columns c d).p.0 (slice_index_or columns c d).front
 

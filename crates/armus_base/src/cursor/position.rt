@@ -4,7 +4,7 @@ ghost use Rattle.armus_base.specs.declared.piece.Piece.{Piece as PieceValue};
 ghost use Rattle.armus_base.specs.calls.Pieces.{max_open_repeats};
 ghost use Rattle.armus_base.specs.inside.Positions.{IsFirst, IsInside, KeepsOps, StandsAt, entered, repeat_of};
 
-use super::frame::Frame;
+use super::frame::OpenRepeat;
 use crate::Piece;
 use crate::piece::MAX_OPEN_REPEATS;
 
@@ -13,7 +13,7 @@ use crate::piece::MAX_OPEN_REPEATS;
 pub(super) struct Position {
     pub(super) at: u32,
     depth: u32,
-    frames: [Frame; MAX_OPEN_REPEATS],
+    frames: [OpenRepeat; MAX_OPEN_REPEATS],
 }
 
 // The turns and the length of the Repeat that stands at this place, if one does.
@@ -31,7 +31,7 @@ impl Position {
     pub(super) fn first() -> Position
         ensures { IsFirst result }
     {
-        let closed = Frame {
+        let closed = OpenRepeat {
             from: 0,
             to: 0,
             turns: 0,
@@ -51,7 +51,7 @@ impl Position {
         ensures { self.new ≡ entered k len self.old }
     {
         let from = self.at + 1;
-        self.frames[self.depth as usize] = Frame {
+        self.frames[self.depth as usize] = OpenRepeat {
             from,
             to: from + len,
             turns: k - 1,
@@ -73,7 +73,7 @@ impl Position {
             }
             if frame.turns > 0 {
                 self.at = frame.from;
-                self.frames[innermost] = Frame {
+                self.frames[innermost] = OpenRepeat {
                     from: frame.from,
                     to: frame.to,
                     turns: frame.turns - 1,

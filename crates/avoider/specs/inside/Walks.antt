@@ -8,7 +8,7 @@ use Rattle.armus_base.specs.declared.ids.TaskId.{TaskId}
 use Rattle.armus_base.specs.declared.status.Status.{Status}
 use Rattle.armus_base.proofs.WalkCycles.{IsWalkTo}
 use Rattle.pl_core.specs.calls.HighestPhases.{IsPublishedImpeder}
-use Rattle.avoider.specs.declared.walking.Walk.{Walk}
+use Rattle.avoider.specs.declared.walking.ImpederWalk.{ImpederWalk}
 
 -- no task below the number is dead by the statuses
 abbrev pub IsUnder : List Status → ℕ → Type 0
@@ -33,7 +33,7 @@ abbrev pub IsAwaiting : List Status → TaskId → Type 0
 IsAwaiting ss u = (s : Status) × Contains ss s × (s.t ≡ u)
 
 -- the walk began at a task below which nobody is dead
-pub record IsOnItsWay (ss : List Status) (tasks : ℕ) (w : Walk) : Type 0 where
+pub record IsOnItsWay (ss : List Status) (tasks : ℕ) (w : ImpederWalk) : Type 0 where
   pub alive : AreAlive ss tasks w.alive.items
   pub start : TaskId
   pub least : IsUnder ss start.0

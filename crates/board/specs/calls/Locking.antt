@@ -1,6 +1,6 @@
 -- The lock of a board that avoids deadlock: what it makes of a seat that it is taken, found taken or freed, and that a task is refused.
 use Rattle.std.specs.Prelude.{◌≡◌, ◌≢◌, ℕ, ◌+◌, ◌<◌, Bool, true, false, [], Option, Some, length}
-use Rattle.atomic_table.specs.Table.{Me, Step}
+use Rattle.atomic_table.specs.Table.{Step}
 use Rattle.armus_base.specs.Plans.{Aim, Plan, Blocks, Refuses}
 use Rattle.armus_base.specs.Runs.{Place}
 use Rattle.armus_base.specs.calls.Boards.{IsLawful}
@@ -8,7 +8,7 @@ use Rattle.armus_base.specs.calls.Seats.{SeenBy, IsAsFarOn, HasLockWith, IsSeenA
 use Rattle.board.specs.declared.mode.Mode.{Mode}
 use Rattle.board.specs.declared.view.View.{View}
 use Rattle.board.specs.calls.Views.{avoids, next_action, seen, task_of}
-use Rattle.board.specs.calls.Steps.{IsSameSeat, WasSo, after_action}
+use Rattle.board.specs.calls.Steps.{IsSameSeat, TableSeat, WasSo, after_action}
 use Rattle.board.specs.calls.Seats.{Known, IsSeat}
 
 -- the view of a seat that has taken the lock, or freed it: nothing is found yet
@@ -38,30 +38,26 @@ pub record MeetsHolder (plan : Plan) (mode : Mode) (h : ℕ) (before now : View)
   pub same : IsSameSeat before now
   pub loads : now.loads ≡ before.loads + 1
 
--- a seat of the table: its view, and no slots
-abbrev Seat : Type 0
-Seat = Me (Unit {0}) View
-
 -- a try for the lock: it was taken, or found taken
-abbrev pub Tried : Step (Unit {0}) → Seat → ℕ → Seat → Type 0
+abbrev pub Tried : Step (Unit {0}) → TableSeat → ℕ → TableSeat → Type 0
 Tried step before n now =
     now.1 ≡ before.1
     × (n ≡ 0 → now.0 ≡ with_lock true before.0 × IsWithLock before.0.plan (task_of before.0) (seen now.0))
     × (n ≢ 0 → (h : ℕ) × n ≡ h + 1 × MeetsHolder before.0.plan before.0.mode h before.0 now.0)
 
 -- the lock was freed
-abbrev pub Freed : Step (Unit {0}) → Seat → ℕ → Seat → Type 0
+abbrev pub Freed : Step (Unit {0}) → TableSeat → ℕ → TableSeat → Type 0
 Freed step before n now = now.0 ≡ with_lock false before.0 × now.1 ≡ before.1
 
 -- the await that comes next was published, by a holder of the lock on a board that avoids deadlock
-abbrev pub Published : Step (Unit {0}) → Seat → ℕ → Seat → Type 0
+abbrev pub Published : Step (Unit {0}) → TableSeat → ℕ → TableSeat → Type 0
 Published step before n now =
     now.1 ≡ before.1
     × ((aim : Aim) → next_action before.0 ≡ Some (Blocks aim) → now.0 ≡ after_action (Blocks aim) before.0)
     × (avoids before.0.mode ≡ true → IsWithLock before.0.plan (task_of before.0) (seen before.0))
 
 -- the await that comes next was refused
-abbrev pub Refused : Step (Unit {0}) → Seat → ℕ → Seat → Type 0
+abbrev pub Refused : Step (Unit {0}) → TableSeat → ℕ → TableSeat → Type 0
 Refused step before n now =
     now.1 ≡ before.1
     × ((aim : Aim) → next_action before.0 ≡ Some (Blocks aim) → now.0 ≡ after_action (Refuses aim) before.0)

@@ -162,29 +162,29 @@ spent_view =
     }
 
 -- a seat of the table: its view, and no slots
-abbrev Seat : Type 0
-Seat = Me (Unit {0}) View
+abbrev pub TableSeat : Type 0
+TableSeat = Me (Unit {0}) View
 
 -- an own action was made
-abbrev pub Acted : Step (Unit {0}) → Seat → ℕ → Seat → Type 0
+abbrev pub Acted : Step (Unit {0}) → TableSeat → ℕ → TableSeat → Type 0
 Acted step before n now = now.0 ≡ next_view before.0 × now.1 ≡ before.1
 
 -- the published event was withdrawn
-abbrev pub Withdrawn : Step (Unit {0}) → Seat → ℕ → Seat → Type 0
+abbrev pub Withdrawn : Step (Unit {0}) → TableSeat → ℕ → TableSeat → Type 0
 Withdrawn step before n now =
     now.1 ≡ before.1
     × ((e : Event) → own_event before.0.plan before.0.own (seen before.0) ≡ Some e →
     now.0 ≡ next_view before.0 × next_action before.0 ≡ Some (Passes e.p.0))
 
 -- an await word was loaded
-abbrev pub Watched : Step (Unit {0}) → Seat → ℕ → Seat → Type 0
+abbrev pub Watched : Step (Unit {0}) → TableSeat → ℕ → TableSeat → Type 0
 Watched step before n now =
     now.1 ≡ before.1
     × ((t : ℕ) → t < length before.0.plan.parents → step.word ≡ await_index t →
     (answer : Found) × n ≡ await_number answer × IsInRange answer × LoadsAwait before.0.plan before.0.mode t answer before.0 now.0)
 
 -- a phase word was loaded
-abbrev pub Looked : Step (Unit {0}) → Seat → ℕ → Seat → Type 0
+abbrev pub Looked : Step (Unit {0}) → TableSeat → ℕ → TableSeat → Type 0
 Looked step before n now =
     now.1 ≡ before.1
     × ((t p : ℕ) → t < length before.0.plan.parents → p < length before.0.plan.makers → step.word ≡ phase_index before.0.plan t p →
@@ -195,19 +195,19 @@ abbrev pub own_phase : View → ℕ → Option ℕ
 own_phase v p = phases_at_place v.plan (task_of v) (own_place v) p
 
 -- an own phase word was loaded
-abbrev pub Recalled : Step (Unit {0}) → Seat → ℕ → Seat → Type 0
+abbrev pub Recalled : Step (Unit {0}) → TableSeat → ℕ → TableSeat → Type 0
 Recalled step before n now =
     now.0 ≡ before.0 × now.1 ≡ before.1
     × ((p : ℕ) → p < length before.0.plan.makers → step.word ≡ phase_index before.0.plan (task_of before.0) p →
     n ≡ phase_number (own_phase before.0 p) × n < 2 ^ 32)
 
 -- no step is seen of the child that comes to be forked next
-abbrev pub Unforked : Step (Unit {0}) → Seat → ℕ → Seat → Type 0
+abbrev pub Unforked : Step (Unit {0}) → TableSeat → ℕ → TableSeat → Type 0
 Unforked step before n now =
     now.0 ≡ before.0 × now.1 ≡ before.1
     × ((c : ℕ) → next_action before.0 ≡ Some (Forks c) → place_in before.0.sight.places c ≡ first_place)
 
 -- the view has a place for each task
-abbrev pub Counted : Step (Unit {0}) → Seat → ℕ → Seat → Type 0
+abbrev pub Counted : Step (Unit {0}) → TableSeat → ℕ → TableSeat → Type 0
 Counted step before n now =
     now.0 ≡ before.0 × now.1 ≡ before.1 × length before.0.sight.places ≡ length before.0.plan.parents

@@ -13,7 +13,7 @@ use Rattle.check_scenes.specs.Turns.{turn_in, visits_among}
 use Rattle.check_scenes.specs.declared.notes.Deed.{Deed}
 use Rattle.check_scenes.specs.declared.notes.LastTurn.{LastTurn}
 use Rattle.check_scenes.specs.declared.notes.Note.{Note}
-use Rattle.check_scenes.specs.declared.sight.Sight.{Sight}
+use Rattle.check_scenes.specs.declared.sight.StepSight.{StepSight}
 
 -- ---- notes
 
@@ -43,7 +43,7 @@ phaser_in (a_thing.Task c) = 0
 phaser_in (a_thing.Phaser p) = p.0
 
 -- the notes of a visit that passes, which are one or none, by its step
-abbrev pub notes_at : Sight → Step → List Note
+abbrev pub notes_at : StepSight → Step → List Note
 notes_at v (a_step.NewTask x) = record { deed = a_deed 0 v.tasks 0; statement = v.item.at + 1; name = Some x } ∷ []
 notes_at v (a_step.NewPhaser x) = record { deed = a_deed 1 v.phasers 0; statement = v.item.at + 1; name = Some x } ∷ []
 notes_at v (a_step.Fork x after) = record { deed = a_deed 2 (task_in v.x) 0; statement = v.item.at + 1; name = None } ∷ []
@@ -55,7 +55,7 @@ notes_at v a_step.Skip = []
 notes_at v (a_step.Loop k after steady) = []
 
 -- the notes with those of this visit
-abbrev pub with_notes : Sight → List Note → List Note
+abbrev pub with_notes : StepSight → List Note → List Note
 with_notes v notes = notes ++ notes_at v v.item.step
 
 -- ---- last turns
@@ -73,7 +73,7 @@ abbrev pub turn_at : List LastTurn → ℕ → ℕ → ℕ
 turn_at last_turns t at = turn_by t (slice_index_or last_turns at no_turn)
 
 -- the last turns with this visit, by its step
-abbrev pub last_turns_at : Sight → Step → List LastTurn → List LastTurn
+abbrev pub last_turns_at : StepSight → Step → List LastTurn → List LastTurn
 last_turns_at v (a_step.Loop k after steady) last_turns = slice_set last_turns v.item.at (record { task = v.t; turn = 0 })
 last_turns_at v (a_step.NewTask x) last_turns = last_turns
 last_turns_at v (a_step.NewPhaser x) last_turns = last_turns
@@ -85,7 +85,7 @@ last_turns_at v (a_step.Await x off) last_turns = last_turns
 last_turns_at v a_step.Skip last_turns = last_turns
 
 -- the last turns with this visit
-abbrev pub with_last_turn : Sight → List LastTurn → List LastTurn
+abbrev pub with_last_turn : StepSight → List LastTurn → List LastTurn
 with_last_turn v last_turns =
     if v.item.turn then slice_set last_turns v.item.at (record { task = v.t; turn = turn_at last_turns v.t.0 v.item.at + 1 }) else last_turns_at v v.item.step last_turns
 

@@ -10,14 +10,14 @@ use Rattle.pl_plan.specs.inside.Steps.{IsSpelled}
 use Rattle.pl_plan.specs.Unfolding.{Start, UnfoldingState, Visit, opening_state}
 use Rattle.pl_plan.specs.Stages.{FailsAt, IsNextStage, all_stages, Stage, StagesLead, comes, ends_of, leaves, leaves_below, stages_below}
 use Rattle.pl_plan.proofs.Unfolds.{IsKept}
-use Rattle.check_scenes.specs.declared.frames.Frame.{Frame}
+use Rattle.check_scenes.specs.declared.frames.OpenBody.{OpenBody}
 use Rattle.check_scenes.specs.declared.frames.Item.{Item}
 use Rattle.check_scenes.specs.declared.notes.LastTurn.{LastTurn}
 use Rattle.check_scenes.specs.declared.notes.Note.{Note}
-use Rattle.check_scenes.specs.declared.seek.Place.{Place}
-use Rattle.check_scenes.specs.declared.seek.Place.TheVariants as p
-use Rattle.check_scenes.specs.declared.seek.Stop.{Stop}
-use Rattle.check_scenes.specs.declared.sight.Sight.{Sight}
+use Rattle.check_scenes.specs.declared.seek.FaultPlace.{FaultPlace}
+use Rattle.check_scenes.specs.declared.seek.FaultPlace.TheVariants as p
+use Rattle.check_scenes.specs.declared.seek.FoundFault.{FoundFault}
+use Rattle.check_scenes.specs.declared.sight.StepSight.{StepSight}
 use Rattle.check_scenes.specs.inside.Framed.{Comes, FramesAre}
 use Rattle.check_scenes.specs.inside.Noted.{LastTurnsTell, NotesTell, TurnsTold, with_last_turn, with_notes}
 use Rattle.check_scenes.specs.inside.Seen.{visit_checked, sight_of}
@@ -65,7 +65,7 @@ module _ (g : Source) where
     pub own : stands.stages ≡ stages_below g.program.two t stands.state
 
   -- task t has the visits of these frames left
-  pub record Midst (t first after : ℕ) (frames : List Frame) (k : Checker) (notes : List Note) (last_turns : List LastTurn) : Type 0 where
+  pub record Midst (t first after : ℕ) (frames : List OpenBody) (k : Checker) (notes : List Note) (last_turns : List LastTurn) : Type 0 where
     pub stands : Stands t k notes last_turns
     pub here : t < length stands.state.plan.parents
     pub started : HasStart t first after (length k.bindings.slots) stands.state
@@ -83,13 +83,13 @@ module _ (g : Source) where
     pub own : earlier ++ leaves_below t 1024 ≡ stages_below g.program.two (suc t) stands.state
 
   -- this was looked at before this visit
-  pub record IsSeen (sight : Sight) (kept : Checker) (visit : Visit) : Type 0 where
+  pub record IsSeen (sight : StepSight) (kept : Checker) (visit : Visit) : Type 0 where
     pub sight_is : sight ≡ sight_of kept sight.t sight.item
     pub comes_to : Comes (length kept.bindings.slots) g.names g.steps sight.item visit
     pub here : sight.item.at < length g.steps
 
   -- the fault is at a visit, before which this was looked at; the last turns count that visit
-  pub record AtVisit (sight : Sight) (first after : ℕ) (stages : List Stage) (stage : Stage) (there : UnfoldingState) (last_turns : List LastTurn) : Type 0 where
+  pub record AtVisit (sight : StepSight) (first after : ℕ) (stages : List Stage) (stage : Stage) (there : UnfoldingState) (last_turns : List LastTurn) : Type 0 where
     pub visit : Visit
     pub stage_is : stage ≡ comes sight.t.0 visit
     pub kept : Checker
@@ -100,12 +100,12 @@ module _ (g : Source) where
     pub turns : TurnsTold sight.t.0 (stages ++ stage ∷ []) last_turns
 
   -- where the fault stands
-  abbrev pub IsAt : Place → ℕ → ℕ → List Stage → Stage → UnfoldingState → List LastTurn → Type 0
+  abbrev pub IsAt : FaultPlace → ℕ → ℕ → List Stage → Stage → UnfoldingState → List LastTurn → Type 0
   IsAt (p.Visit sight) first after stages stage there last_turns = AtVisit sight first after stages stage there last_turns
   IsAt (p.End t q) first after stages stage there last_turns = stage ≡ leaves t.0 q.0
 
   -- behind some stages, of which the notes tell, the next one is at fault
-  pub record Stopped (stop : Stop) (notes : List Note) (last_turns : List LastTurn) : Type 0 where
+  pub record Stopped (stop : FoundFault) (notes : List Note) (last_turns : List LastTurn) : Type 0 where
     pub stages : List Stage
     pub there : UnfoldingState
     pub past : IsPast stages there
@@ -116,19 +116,19 @@ module _ (g : Source) where
     pub place : IsAt stop.place stop.first stop.after stages stage there last_turns
 
   -- the visits of a task passed, or one of them is at fault
-  abbrev pub SoughtVisits : ℕ → ℕ → ℕ → Result (Option Stop) NoMemory → Checker → List Note → List LastTurn → Type 0
+  abbrev pub SoughtVisits : ℕ → ℕ → ℕ → Result (Option FoundFault) NoMemory → Checker → List Note → List LastTurn → Type 0
   SoughtVisits t first after (Ok None) k notes last_turns = Midst t first after [] k notes last_turns
   SoughtVisits t first after (Ok (Some stop)) k notes last_turns = Stopped stop notes last_turns
   SoughtVisits t first after (Err e) k notes last_turns = Unit {0}
 
   -- the end of a task passed, or is at fault
-  abbrev pub SoughtEnd : ℕ → ℕ → ℕ → Result (Option Stop) NoMemory → Checker → List Note → List LastTurn → Type 0
+  abbrev pub SoughtEnd : ℕ → ℕ → ℕ → Result (Option FoundFault) NoMemory → Checker → List Note → List LastTurn → Type 0
   SoughtEnd t first after (Ok None) k notes last_turns = Leaving t first after 1024 k notes last_turns
   SoughtEnd t first after (Ok (Some stop)) k notes last_turns = Stopped stop notes last_turns
   SoughtEnd t first after (Err e) k notes last_turns = Unit {0}
 
   -- the next task is this one, or there is a fault before
-  abbrev pub SoughtTask : ℕ → Result (Option Stop) NoMemory → Checker → List Note → List LastTurn → Type 0
+  abbrev pub SoughtTask : ℕ → Result (Option FoundFault) NoMemory → Checker → List Note → List LastTurn → Type 0
   SoughtTask t (Ok None) k notes last_turns = Before t k notes last_turns
   SoughtTask t (Ok (Some stop)) k notes last_turns = Stopped stop notes last_turns
   SoughtTask t (Err e) k notes last_turns = Unit {0}
@@ -141,17 +141,17 @@ module _ (g : Source) where
     pub all : all_stages g.program.two state ≡ stages
 
   -- all tasks passed, or there is a fault
-  abbrev pub SoughtAll : Result (Option Stop) NoMemory → List Note → List LastTurn → Type 0
+  abbrev pub SoughtAll : Result (Option FoundFault) NoMemory → List Note → List LastTurn → Type 0
   SoughtAll (Ok None) notes last_turns = Passed
   SoughtAll (Ok (Some stop)) notes last_turns = Stopped stop notes last_turns
   SoughtAll (Err e) notes last_turns = Unit {0}
 
 -- the frame of all statements of a task
-abbrev pub whole : ℕ → ℕ → Frame
+abbrev pub whole : ℕ → ℕ → OpenBody
 whole first after = record { at = first; to = after; of_loop = 0; left = 0 }
 
 -- something is unfolded so that task t has the visits of these frames left
-abbrev pub HasMidst : ℕ → ℕ → ℕ → List Frame → Checker → List Note → List LastTurn → Type 0
+abbrev pub HasMidst : ℕ → ℕ → ℕ → List OpenBody → Checker → List Note → List LastTurn → Type 0
 HasMidst t first after frames k notes last_turns = (g : Source) × Midst g t first after frames k notes last_turns
 
 -- or so that it leaves the phasers from number p on
@@ -171,7 +171,7 @@ abbrev pub HasSource : Bool → (ℕ → List ℕ) → List Step → Checker →
 HasSource two names steps k notes last_turns = (program : Program) × (program.two ≡ two) × Before (a_source program names steps) 0 k notes last_turns
 
 -- a coming to a step passed, or is at fault: what is then kept, noted and counted
-abbrev pub CameTo : TaskId → Item → ℕ → ℕ → Result (Option Stop) NoMemory → Checker → List Note → List LastTurn → Checker → List Note → List LastTurn → Type 0
+abbrev pub CameTo : TaskId → Item → ℕ → ℕ → Result (Option FoundFault) NoMemory → Checker → List Note → List LastTurn → Checker → List Note → List LastTurn → Type 0
 CameTo t item first after (Ok None) k notes last_turns new new_notes new_last_turns =
     (visit_checked t.0 item.at item.step k ≡ Ok new) × (new_notes ≡ with_notes (sight_of k t item) notes) × (new_last_turns ≡ with_last_turn (sight_of k t item) last_turns)
 CameTo t item first after (Ok (Some stop)) k notes last_turns new new_notes new_last_turns =

@@ -14,7 +14,7 @@ use Rattle.pl_plan.specs.inside.Checker.{Checker, thing_at}
 use Rattle.pl_plan.specs.inside.CheckerSteps.{checker_act, checker_count, checker_fork}
 use Rattle.pl_plan.specs.Unfolding.{Outcome, ◌>>=◌}
 use Rattle.check_scenes.specs.declared.frames.Item.{Item}
-use Rattle.check_scenes.specs.declared.sight.Sight.{Sight}
+use Rattle.check_scenes.specs.declared.sight.StepSight.{StepSight}
 use Rattle.check_scenes.specs.inside.Noted.{task_in}
 
 -- the first name of a step
@@ -51,7 +51,7 @@ abbrev pub parent_seen : Checker → code.Thing → Option TaskId
 parent_seen k thing = slice_index_or k.parents (task_in thing) None
 
 -- what is looked at before task t comes to a step
-abbrev pub sight_of : Checker → TaskId → Item → Sight
+abbrev pub sight_of : Checker → TaskId → Item → StepSight
 sight_of k t item = record {
   t = t;
   item = item;

@@ -18,12 +18,12 @@ use Rattle.check_scenes.specs.declared.scene.Matter.TheVariants as m
 use Rattle.check_scenes.specs.declared.scene.NamedPhaser.{NamedPhaser}
 use Rattle.check_scenes.specs.declared.scene.NamedTask.{NamedTask}
 use Rattle.check_scenes.specs.declared.scene.Scene.{Scene}
-use Rattle.check_scenes.specs.declared.seek.Place.{Place}
-use Rattle.check_scenes.specs.declared.seek.Place.TheVariants as p
-use Rattle.check_scenes.specs.declared.seek.Stop.{Stop}
+use Rattle.check_scenes.specs.declared.seek.FaultPlace.{FaultPlace}
+use Rattle.check_scenes.specs.declared.seek.FaultPlace.TheVariants as p
+use Rattle.check_scenes.specs.declared.seek.FoundFault.{FoundFault}
 use Rattle.check_scenes.specs.declared.scene.Verb.{Verb}
 use Rattle.check_scenes.specs.declared.scene.Verb.TheVariants as v
-use Rattle.check_scenes.specs.declared.sight.Sight.{Sight}
+use Rattle.check_scenes.specs.declared.sight.StepSight.{StepSight}
 use Rattle.check_scenes.specs.inside.Noted.{a_deed, last_noted, name_by, phaser_in, task_in, turn_at}
 
 -- the statement of a note, and 0 where there is none
@@ -43,7 +43,7 @@ parent_told None = 0
 parent_told (Some u) = u.0
 
 -- the phaser of which the task has to be a member
-abbrev pub wanted_told : Sight → Step → ℕ
+abbrev pub wanted_told : StepSight → Step → ℕ
 wanted_told s (a_step.Reg x y) = phaser_in s.y
 wanted_told s (a_step.Fork x after) = phaser_in s.x
 wanted_told s (a_step.Dereg x) = phaser_in s.x
@@ -55,7 +55,7 @@ wanted_told s a_step.Skip = phaser_in s.x
 wanted_told s (a_step.Loop k after steady) = phaser_in s.x
 
 -- so many tasks and phasers, with the one that is drawn or made
-abbrev pub cells_told : Sight → Step → Matter
+abbrev pub cells_told : StepSight → Step → Matter
 cells_told s (a_step.NewTask x) = m.TooManyCells (s.tasks + 1) s.phasers
 cells_told s (a_step.NewPhaser x) = m.TooManyCells s.tasks (s.phasers + 1)
 cells_told s (a_step.Fork x after) = m.TooManyCells s.tasks (s.phasers + 1)
@@ -67,7 +67,7 @@ cells_told s a_step.Skip = m.TooManyCells s.tasks (s.phasers + 1)
 cells_told s (a_step.Loop k after steady) = m.TooManyCells s.tasks (s.phasers + 1)
 
 -- of a limit, by the kind of the fault
-abbrev pub limit_told : ℕ → Sight → Matter
+abbrev pub limit_told : ℕ → StepSight → Matter
 limit_told kind s =
     if kind == too_many_tasks then m.TooManyTasks
     else (if kind == too_many_phasers then m.TooManyPhasers
@@ -96,7 +96,7 @@ module _ (names : ℕ → List ℕ) (notes : List Note) where
   reg_told x y a_thing.Nothing other = thing_told v.Reg x a_thing.Nothing
 
   -- with the names of a step
-  abbrev pub names_told : Sight → Step → Matter
+  abbrev pub names_told : StepSight → Step → Matter
   names_told s (a_step.Fork x after) = thing_told v.Fork (names x.0) s.x
   names_told s (a_step.Reg x y) = reg_told (names x.0) (names y.0) s.x s.y
   names_told s (a_step.Dereg x) = thing_told v.Dereg (names x.0) s.x
@@ -125,7 +125,7 @@ module _ (names : ℕ → List ℕ) (notes : List Note) where
   forked_told c = m.AlreadyForked (task_told c) (statement_noted (last_noted (a_deed 2 c 0) notes))
 
   -- at a visit, by the kind of the fault
-  abbrev pub visit_told : ℕ → Sight → Matter
+  abbrev pub visit_told : ℕ → StepSight → Matter
   visit_told kind s =
       if (kind == unknown_name) || (kind == other_kind) then names_told s s.item.step
       else (if kind == not_member then member_told (wanted_told s s.item.step) (last_noted (a_deed 4 s.t.0 (wanted_told s s.item.step)) notes)
@@ -171,7 +171,7 @@ AreTurns steps first after last_turns t n turns =
 -- ---- scenes
 
 -- what is told of a fault at a visit
-pub record VisitScene (names : ℕ → List ℕ) (notes : List Note) (last_turns : List LastTurn) (steps : List Step) (stop : Stop) (sight : Sight) (scene : Scene) : Type 0 where
+pub record VisitScene (names : ℕ → List ℕ) (notes : List Note) (last_turns : List LastTurn) (steps : List Step) (stop : FoundFault) (sight : StepSight) (scene : Scene) : Type 0 where
   pub fault_is : scene.fault ≡ stop.fault
   pub task_is : scene.task ≡ task_told names notes sight.t.0
   pub forked_is : scene.forked ≡ statement_noted (last_noted (a_deed 2 sight.t.0 0) notes)
@@ -179,7 +179,7 @@ pub record VisitScene (names : ℕ → List ℕ) (notes : List Note) (last_turns
   pub matter_is : scene.matter ≡ visit_told names notes stop.fault.kind sight
 
 -- what is told of a fault at the end of a task
-pub record EndScene (names : ℕ → List ℕ) (notes : List Note) (stop : Stop) (t p : ℕ) (scene : Scene) : Type 0 where
+pub record EndScene (names : ℕ → List ℕ) (notes : List Note) (stop : FoundFault) (t p : ℕ) (scene : Scene) : Type 0 where
   pub fault_is : scene.fault ≡ stop.fault
   pub task_is : scene.task ≡ task_told names notes t
   pub forked_is : scene.forked ≡ statement_noted (last_noted (a_deed 2 t 0) notes)
@@ -187,12 +187,12 @@ pub record EndScene (names : ℕ → List ℕ) (notes : List Note) (stop : Stop)
   pub matter_is : scene.matter ≡ m.TooManyOpsAtEnd (phaser_told names notes p)
 
 -- what is told of a fault
-abbrev pub PlaceScene : (ℕ → List ℕ) → List Note → List LastTurn → List Step → Stop → Place → Scene → Type 0
+abbrev pub PlaceScene : (ℕ → List ℕ) → List Note → List LastTurn → List Step → FoundFault → FaultPlace → Scene → Type 0
 PlaceScene names notes last_turns steps stop (p.Visit sight) scene = VisitScene names notes last_turns steps stop sight scene
 PlaceScene names notes last_turns steps stop (p.End t q) scene = EndScene names notes stop t.0 q.0 scene
 
 -- what has to be so that it can be told
-pub record CanBeTold (last_turns : List LastTurn) (steps : List Step) (first after : ℕ) (sight : Sight) : Type 0 where
+pub record CanBeTold (last_turns : List LastTurn) (steps : List Step) (first after : ℕ) (sight : StepSight) : Type 0 where
   pub few : length steps < 2 ^ 32
   pub many : length last_turns ≡ length steps
   pub within : after ≤ length steps
@@ -202,6 +202,6 @@ pub record CanBeTold (last_turns : List LastTurn) (steps : List Step) (first aft
   pub small : sight.item.at + 1 < 2 ^ 32
 
 -- the same of a fault
-abbrev pub PlaceCanBeTold : List LastTurn → List Step → ℕ → ℕ → Place → Type 0
+abbrev pub PlaceCanBeTold : List LastTurn → List Step → ℕ → ℕ → FaultPlace → Type 0
 PlaceCanBeTold last_turns steps first after (p.Visit sight) = CanBeTold last_turns steps first after sight
 PlaceCanBeTold last_turns steps first after (p.End t q) = Unit {0}

@@ -4,8 +4,8 @@ use Rattle.std.specs.Borrow.{Bor}
 use Rattle.std.specs.Str.{bytes_eq}
 use Rattle.armus_words.specs.Words.{Text}
 use Rattle.explain.specs.Requests.{Asked, avoided, clocks, explanation, help, nothing, steps, version}
-use Rattle.explain.specs.declared.answer.Wanted.{Wanted}
-use Rattle.explain.specs.declared.answer.Wanted.TheVariants.{Avoided, Clocks, Explanation, Steps}
+use Rattle.explain.specs.declared.answer.WantedOutput.{WantedOutput}
+use Rattle.explain.specs.declared.answer.WantedOutput.TheVariants.{Avoided, Clocks, Explanation, Steps}
 use Rattle.explain.specs.declared.request.Request as request
 use Rattle.explain.specs.declared.request.Request.TheVariants as r
 
@@ -14,7 +14,7 @@ abbrev pub file_bytes : Option (Bor Text) → Option Text
 file_bytes file = option_map (λ f. f.now) file
 
 -- what a word asks for of a text, if it does
-abbrev pub wanted_by_word : Text → Option Wanted
+abbrev pub wanted_by_word : Text → Option WantedOutput
 wanted_by_word word =
     if bytes_eq word (codes "run") then Some Explanation
     else (if bytes_eq word (codes "steps") then Some Steps
@@ -22,7 +22,7 @@ wanted_by_word word =
     else (if bytes_eq word (codes "clock") then Some Clocks else None)))
 
 -- what is asked for where this is wanted of a text
-abbrev pub asked_for : Wanted → Option Text → Asked
+abbrev pub asked_for : WantedOutput → Option Text → Asked
 asked_for Explanation file = explanation file
 asked_for Steps file = steps file
 asked_for Avoided file = avoided file

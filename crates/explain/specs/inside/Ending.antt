@@ -7,8 +7,8 @@ use Rattle.armus_top.specs.inside.Status.{number_of_status}
 use Rattle.explain.specs.declared.answer.Answer.{Answer}
 use Rattle.explain.specs.declared.answer.AnswerEnd.{AnswerEnd}
 use Rattle.explain.specs.declared.answer.AnswerEnd.TheVariants.{Fault, NoMemory}
-use Rattle.explain.specs.declared.answer.Wanted.{Wanted}
-use Rattle.explain.specs.declared.answer.Wanted.TheVariants.{Avoided, Clocks, Explanation, Steps}
+use Rattle.explain.specs.declared.answer.WantedOutput.{WantedOutput}
+use Rattle.explain.specs.declared.answer.WantedOutput.TheVariants.{Avoided, Clocks, Explanation, Steps}
 use Rattle.explain.specs.declared.answer.ClockWanted as clocks_wanted
 use Rattle.explain.specs.declared.answer.ClockWanted.TheVariants as c
 use Rattle.explain.specs.declared.answer.PlWanted as pl
@@ -38,14 +38,14 @@ IsClockAnswerTo c.Explanation file text answer = AnswersClock file text (number_
 IsClockAnswerTo c.Steps file text answer = AnswersStepsIn true file text (number_of_status answer.status) answer.lines
 
 -- it is a whole output for this text, of which this is wanted
-abbrev pub IsAnswerTo : Wanted → Option Text → Text → Answer → Type 0
+abbrev pub IsAnswerTo : WantedOutput → Option Text → Text → Answer → Type 0
 IsAnswerTo Explanation file text answer = AnswersText file text (number_of_status answer.status) answer.lines
 IsAnswerTo Steps file text answer = AnswersStepsOf file text (number_of_status answer.status) answer.lines
 IsAnswerTo Avoided file text answer = AnswersAvoided file text (number_of_status answer.status) answer.lines
 IsAnswerTo Clocks file text answer = AnswersClock file text (number_of_status answer.status) answer.lines
 
 -- it is a whole output for what the source gave, which did not fail
-abbrev pub AnswersSource : Wanted → Option Text → Passage → Answer → Type 0
+abbrev pub AnswersSource : WantedOutput → Option Text → Passage → Answer → Type 0
 AnswersSource wanted file src answer = MayWrite (asked_for wanted file) src (number_of_status answer.status) answer.lines × IsSound src
 
 -- there is no output: the source failed, or memory was wanting

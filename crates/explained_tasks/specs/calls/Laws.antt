@@ -15,8 +15,8 @@ use Rattle.pl_syntax.specs.Grammar.{IsText}
 use Rattle.pl_syntax.specs.declared.tree.Program.{Program}
 use Rattle.report.specs.Reports.{IsSomeDead}
 use Rattle.task_sayings.specs.declared.impeders.Impeder.{Impeder}
-use Rattle.explained_tasks.specs.declared.outcome.Verdict.{Verdict}
-use Rattle.explained_tasks.specs.declared.outcome.Verdict.TheVariants.{Chain, Circle}
+use Rattle.explained_tasks.specs.declared.outcome.WaitVerdict.{WaitVerdict}
+use Rattle.explained_tasks.specs.declared.outcome.WaitVerdict.TheVariants.{Chain, Circle}
 use Rattle.task_sayings.specs.declared.situation.Situation.{Situation}
 use Rattle.task_sayings.specs.declared.situation.Situation.TheVariants.{Deadlocked, HasEnded, Held, NeverForked, NotForkedYet}
 use Rattle.explained_tasks.specs.Explanations.{IsExplanationAt}
@@ -59,7 +59,7 @@ DeadlockStandsFirst =
 -- somebody waits for ever just where a task waits
 abbrev pub WaitingIsTold : Type 0
 WaitingIsTold =
-    (f : FactsValue) (phases : ℕ → Phases) (v : Verdict) → IsVerdict f phases v → (somebody_waits v ≡ true) ↔ ((t : TaskId) × Contains (tasks_that is_waiting f) t)
+    (f : FactsValue) (phases : ℕ → Phases) (v : WaitVerdict) → IsVerdict f phases v → (somebody_waits v ≡ true) ↔ ((t : TaskId) × Contains (tasks_that is_waiting f) t)
 
 -- task t is dead in this state, and task u impedes the event that it awaits
 abbrev pub IsDeadAndWaitsFor : State → TaskId → TaskId → Type 0

@@ -6,7 +6,7 @@ use Rattle.armus_base.specs.declared.op.Op.TheVariants.{Make, Reg, Fork, Adv, Dr
 use Rattle.armus_base.specs.declared.piece.Piece.{Piece}
 use Rattle.armus_base.specs.declared.piece.Piece.TheVariants.{Op as Single}
 use Rattle.armus_base.specs.Plans.{Plan, code_of}
-use Rattle.pl_core.specs.declared.phase_table.PhaseTable.{PhaseTable}
+use Rattle.pl_core.specs.declared.phase_table.MemberTable.{MemberTable}
 use Rattle.pl_core.specs.inside.PhaseTables.{HasCell}
 
 -- by this op of task t, task c becomes a member of phaser p
@@ -27,7 +27,7 @@ abbrev pub IsEnrolledBy : List Piece → ℕ → ℕ → ℕ → Type 0
 IsEnrolledBy pieces t c p = (k : ℕ) × (op : Op) × (slice_get pieces k ≡ Some (Single op)) × Enrols t op c p
 
 -- each task that an op of the plan makes a member of a phaser has a cell for it
-abbrev pub HasCells : Plan → PhaseTable → Type 0
+abbrev pub HasCells : Plan → MemberTable → Type 0
 HasCells plan table =
     (t c p : ℕ) → t < length plan.parents → c < length plan.parents → p < length plan.makers → IsEnrolled plan t c p → HasCell table c p
 

@@ -10,8 +10,8 @@ use Rattle.armus_base.specs.Runs.{Place, first_place}
 use Rattle.armus_base.specs.Places.{done_by, forked_at, state_at}
 use Rattle.armus_base.specs.CheckedPlans.{IsCheckedPlan}
 use Rattle.pl_core.specs.declared.place.Place.{Place as KeptPlace}
-use Rattle.pl_core.specs.declared.task.Task.{Task}
-use Rattle.pl_core.specs.declared.phase_table.PhaseTable.{PhaseTable}
+use Rattle.pl_core.specs.declared.task.TaskRecord.{TaskRecord}
+use Rattle.pl_core.specs.declared.phase_table.MemberTable.{MemberTable}
 use Rattle.pl_core.specs.inside.Changes.{after_fork}
 use Rattle.pl_core.specs.inside.Ops.{action_of}
 use Rattle.pl_core.specs.inside.Enrolling.{HasCells}
@@ -29,29 +29,29 @@ abbrev pub walking : (ℕ → Place) → ℕ → ℕ → ℕ → Place
 walking a t k = updated (walked a t) t (record { done = k; dropped = None })
 
 -- what is kept of task u is its given place, and where it stands there
-pub record IsPlaced (plan : Plan) (places : List KeptPlace) (u : ℕ) (task : Task) : Type 0 where
+pub record IsPlaced (plan : Plan) (places : List KeptPlace) (u : ℕ) (task : TaskRecord) : Type 0 where
   pub place : slice_get places u ≡ Some task.place
   pub event : task.event ≡ event_in (state_at plan (places_at plan places)) u task.place.refused
   pub within : task.op ≤ length (code_of plan u)
   pub events : task.place.events ≡ actions_before (code_of plan u) task.op + begun task
 
 -- the phases, and who is forked, are those at the places b, and the tasks below t are settled
-pub record HasWalked (plan : Plan) (places : List KeptPlace) (b : ℕ → Place) (t : ℕ) (tasks : List Task) (table : PhaseTable) : Type 0 where
+pub record HasWalked (plan : Plan) (places : List KeptPlace) (b : ℕ → Place) (t : ℕ) (tasks : List TaskRecord) (table : MemberTable) : Type 0 where
   pub checked : IsCheckedPlan plan
   pub one_each : length tasks ≡ length plan.parents
   pub cells : HasCells plan table
   pub columns : table.phasers ≡ length plan.makers
   pub phases : phases_in table ≡ (state_at plan b).phases
-  pub forked : (u : ℕ) (task : Task) → slice_get tasks u ≡ Some task → task.forked ≡ forked_at plan (done_by b) u
-  pub settled : (u : ℕ) (task : Task) → u < t → slice_get tasks u ≡ Some task → IsPlaced plan places u task
+  pub forked : (u : ℕ) (task : TaskRecord) → slice_get tasks u ≡ Some task → task.forked ≡ forked_at plan (done_by b) u
+  pub settled : (u : ℕ) (task : TaskRecord) → u < t → slice_get tasks u ≡ Some task → IsPlaced plan places u task
 
 -- what is kept when task c, if there is one, is forked
-abbrev pub with_forked : List Task → ℕ → Option Task → List Task
+abbrev pub with_forked : List TaskRecord → ℕ → Option TaskRecord → List TaskRecord
 with_forked tasks c None = tasks
 with_forked tasks c (Some child) = slice_set tasks c (after_fork child)
 
 -- what is kept of the tasks after the op
-abbrev pub marked_by : List Task → Op → List Task
+abbrev pub marked_by : List TaskRecord → Op → List TaskRecord
 marked_by tasks (Fork c) = with_forked tasks c.0 (slice_get tasks c.0)
 marked_by tasks op = tasks
 

@@ -2,13 +2,13 @@
 use Rattle.std.specs.Prelude.{◌≡◌, ℕ, List, Option}
 use Rattle.pl_syntax.specs.declared.fault.SyntaxFault.{SyntaxFault}
 use Rattle.pl_syntax.specs.Grammar.{HasFault}
-use Rattle.refusals.specs.declared.stand.Stand.{Stand}
+use Rattle.refusals.specs.declared.stand.GrammarStand.{GrammarStand}
 use Rattle.refusals.specs.Stands.{IsStand}
 use Rattle.refusals.specs.SyntaxRefusals.{IsSyntaxRefusal}
 
 -- the place of a first fault has one stand
 abbrev pub HasOneStand : Type 0
-HasOneStand = (text : List ℕ) (fault : SyntaxFault) (a b : Stand) → IsStand text fault a → IsStand text fault b → a ≡ b
+HasOneStand = (text : List ℕ) (fault : SyntaxFault) (a b : GrammarStand) → IsStand text fault a → IsStand text fault b → a ≡ b
 
 -- a text with a fault, of a file or not, is refused in one way
 abbrev pub HasOneSyntaxRefusal : Type 0

@@ -5,8 +5,8 @@ use Rattle.pl_syntax.specs.declared.token.Sign.TheVariants.{Equals, OpenParen, C
 use Rattle.pl_syntax.specs.Tokens.{Token, sign, word, name}
 use Rattle.refusals.specs.declared.shape.Shape.{Shape}
 use Rattle.refusals.specs.declared.shape.Shape.TheVariants as s
-use Rattle.refusals.specs.declared.wanted.Wanted.{Wanted}
-use Rattle.refusals.specs.declared.wanted.Wanted.TheVariants as w
+use Rattle.refusals.specs.declared.wanted.WantedTokens.{WantedTokens}
+use Rattle.refusals.specs.declared.wanted.WantedTokens.TheVariants as w
 
 -- `;`
 abbrev pub then_semicolon : List Shape
@@ -45,7 +45,7 @@ shapes_after [] t = shapes_behind t
 shapes_after (shape ∷ rest) t = shapes_on shape rest t
 
 -- what is wanted where this is waited for next, in PL 2 or not
-abbrev pub wanted_next : Bool → Shape → Wanted
+abbrev pub wanted_next : Bool → Shape → WantedTokens
 wanted_next two (s.Sign one) = w.Sign one
 wanted_next two s.Name = w.Name
 wanted_next two s.Number = w.Number
@@ -53,6 +53,6 @@ wanted_next two s.Maker = w.Maker
 wanted_next two s.Offset = if two then w.ParenOrOffset else w.Sign CloseParen
 
 -- what is wanted where these are waited for, and a brace is open or not
-abbrev pub wanted_by : Bool → List Shape → Bool → Wanted
+abbrev pub wanted_by : Bool → List Shape → Bool → WantedTokens
 wanted_by two [] is_open = if is_open then w.StatementOrBrace else w.StatementOrEnd
 wanted_by two (shape ∷ rest) is_open = wanted_next two shape

@@ -10,11 +10,11 @@ use Rattle.armus_base.specs.calls.CheckedPlans.{Extends}
 use Rattle.armus_base.specs.Finals.{given_below, listed_phase}
 use Rattle.armus_base.specs.Plans.{Plan}
 use Rattle.schedule.specs.declared.pass.OpenPass.{OpenPass}
-use Rattle.schedule.specs.declared.pass.Waiting.{Waiting}
+use Rattle.schedule.specs.declared.pass.FoundWaiting.{FoundWaiting}
 use Rattle.schedule.specs.Passes.{Loads, event_found, is_found_awaited, loads_of, phases_found}
 
 -- the task with its event, if it was found waiting
-abbrev pub waiting_found : Loads → ℕ → Option Waiting
+abbrev pub waiting_found : Loads → ℕ → Option FoundWaiting
 waiting_found loads t = option_map (λ e. record { t = record { 0 = t }; event = e }) (event_found loads t)
 
 -- the phaser, if it was found awaited
@@ -26,12 +26,12 @@ abbrev pub member_found : Plan → Loads → ℕ → PhaserId → List Member
 member_found plan loads t p = option_to_list (option_map (λ n. record { p = p; n = n }) (phases_found plan loads t p.0))
 
 -- the status of a task found waiting
-abbrev pub status_with : Plan → Loads → Waiting → Status
+abbrev pub status_with : Plan → Loads → FoundWaiting → Status
 status_with plan loads w =
     record { t = w.t; event = w.event; phases = given_below (listed_phase (is_found_awaited plan loads) (phases_found plan loads w.t.0)) (length plan.makers) }
 
 -- the phases found in the row of a task, in the first columns
-abbrev pub row_found : Plan → Loads → Option Waiting → List PhaserId → List Member
+abbrev pub row_found : Plan → Loads → Option FoundWaiting → List PhaserId → List Member
 row_found plan loads None columns = []
 row_found plan loads (Some w) columns = flat_map (member_found plan loads w.t.0) columns
 
@@ -83,7 +83,7 @@ pub record KeepsPhase (old new : OpenPass) (p : PhaserId) (found : Option ℕ) :
   pub members : new.members ≡ old.members ++ option_to_list (option_map (λ n. record { p = p; n = n }) found)
 
 -- the row of this task has ended
-pub record EndsRow (old new : OpenPass) (w : Waiting) : Type 0 where
+pub record EndsRow (old new : OpenPass) (w : FoundWaiting) : Type 0 where
   pub loaded : new.loaded ≡ old.loaded
   pub waiting : new.waiting.items ≡ old.waiting.items
   pub awaited : new.awaited.items ≡ old.awaited.items
@@ -100,7 +100,7 @@ pub record IsMidPass (plan : Plan) (pass : OpenPass) : Type 0 where
   pub not_full : length loads < loads_of plan loads
 
 -- the phaser, if one of these tasks waits on an event of it
-abbrev pub phaser_of : List Waiting → ℕ → Option PhaserId
+abbrev pub phaser_of : List FoundWaiting → ℕ → Option PhaserId
 phaser_of waiting p = if list_any (λ w. w.event.p.0 == p) waiting then Some (record { 0 = p }) else None
 
 -- the phaser, if it is marked

@@ -4,7 +4,7 @@ use Rattle.std.specs.List.{range_with_len}
 use Rattle.atomic_table.specs.Seated.{TableId}
 use Rattle.slot_pool.specs.declared.claim.Claim.{Claim}
 use Rattle.slot_pool.specs.declared.claim.Claim.TheVariants.{Got, Held, Empty}
-use Rattle.slot_pool.specs.declared.view.View.{View}
+use Rattle.slot_pool.specs.declared.view.PoolView.{PoolView}
 use Rattle.slot_pool.specs.calls.Views.{claiming, finding, starting_view, giving, placing, trying}
 
 -- which pool it is, and how many tasks and workers it has
@@ -16,7 +16,7 @@ pub record PoolValue : Type 0 where
 -- of which pool a worker is, and what it knows
 pub record WorkerValue : Type 0 where
   pub table : TableId
-  pub view : View
+  pub view : PoolView
 
 -- the worker was made by this pool
 pub record IsOfPool (worker : WorkerValue) (pool : PoolValue) : Type 0 where
@@ -30,7 +30,7 @@ pub record IsSameWorker (before now : WorkerValue) : Type 0 where
   pub workers : now.view.workers ≡ before.view.workers
 
 -- the worker with another view
-abbrev pub seeing : WorkerValue → View → WorkerValue
+abbrev pub seeing : WorkerValue → PoolView → WorkerValue
 seeing worker v = record { table = worker.table; view = v }
 
 -- the workers of a pool at its start, in order of number

@@ -3,31 +3,31 @@ use Rattle.std.specs.Prelude.{◌≡◌, ◌≢◌, ℕ, ◌+◌, ◌<◌, List,
 use mathlib.Core.Option.{some, none}
 use lib.ListN.{get_elem?}
 use Rattle.atomic_table.specs.Table.{State}
-use Rattle.slot_pool.specs.declared.setting.Setting.{Setting}
-use Rattle.slot_pool.specs.declared.view.View.{View}
+use Rattle.slot_pool.specs.declared.setting.PoolSetting.{PoolSetting}
+use Rattle.slot_pool.specs.declared.view.PoolView.{PoolView}
 
 -- a pool as data: its list of words, the records that are at home, and what each worker knows
 abbrev pub PoolContent : Type 0 → Type 0
-PoolContent R = State (Option R) View
+PoolContent R = State (Option R) PoolView
 
 -- some view lists task t as placed
-pub record IsPlacedIn (views : List View) (t : ℕ) : Type 0 where
+pub record IsPlacedIn (views : List PoolView) (t : ℕ) : Type 0 where
   pub index : ℕ
-  pub view : View
+  pub view : PoolView
   pub found : get_elem? views index ≡ some view
   pub placed : Contains view.placed t
 
 -- the view of worker k has task t
-pub record IsHad (views : List View) (k t : ℕ) : Type 0 where
+pub record IsHad (views : List PoolView) (k t : ℕ) : Type 0 where
   pub index : ℕ
-  pub view : View
+  pub view : PoolView
   pub found : get_elem? views index ≡ some view
   pub number : view.numbers ≡ k ∷ []
   pub has : Contains view.has t
 
 -- what a view says is true of the words. A view with a number has the count of the workers, a view without one has placed nothing, and only a view with
 -- one number has a task, in whose word it stands
-pub record Fits (key : Setting) (words : List ℕ) (v : View) : Type 0 where
+pub record Fits (key : PoolSetting) (words : List ℕ) (v : PoolView) : Type 0 where
   pub number : (k : ℕ) → Contains v.numbers k → (k < key.workers) × (v.workers ≡ key.workers)
   pub blank : v.numbers ≡ [] → v.placed ≡ []
   pub knows : (t : ℕ) → Contains v.knows t → slice_index words t ≢ 0
@@ -41,9 +41,9 @@ module _ {R : Type 0} (number_of : R → ℕ) where
     out : (k : ℕ) → slice_index s.words t ≡ k + 2 → get_elem? s.homes t ≡ some none → IsHad s.views k t → IsPlacedIn s.views t → StandsInPool s t
 
   -- there is a word and a slot for each task, each task stands somewhere, each view fits, and no number is in two views
-  pub record PoolHolds (key : Setting) (s : PoolContent R) : Type 0 where
+  pub record PoolHolds (key : PoolSetting) (s : PoolContent R) : Type 0 where
     pub words : length s.words ≡ key.tasks
     pub slots : length s.homes ≡ key.tasks
     pub tasks : (t : ℕ) → t < key.tasks → StandsInPool s t
-    pub views : (i : ℕ) (v : View) → get_elem? s.views i ≡ some v → Fits key s.words v
-    pub one_view : (i j k : ℕ) (v w : View) → get_elem? s.views i ≡ some v → get_elem? s.views j ≡ some w → Contains v.numbers k → Contains w.numbers k → i ≡ j
+    pub views : (i : ℕ) (v : PoolView) → get_elem? s.views i ≡ some v → Fits key s.words v
+    pub one_view : (i j k : ℕ) (v w : PoolView) → get_elem? s.views i ≡ some v → get_elem? s.views j ≡ some w → Contains v.numbers k → Contains w.numbers k → i ≡ j

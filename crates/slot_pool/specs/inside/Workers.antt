@@ -3,15 +3,15 @@ use Rattle.std.specs.Prelude.{◌≡◌, ℕ, ◌<◌, ◌≤◌, List, [], ◌�
 use Rattle.atomic_table.specs.Seated.{TableId}
 use Rattle.atomic_table.specs.Table.{Me}
 use Rattle.armus_base.specs.calls.Limits.{max_workers}
-use Rattle.slot_pool.specs.declared.view.View.{View}
+use Rattle.slot_pool.specs.declared.view.PoolView.{PoolView}
 use Rattle.slot_pool.specs.calls.PoolValues.{WorkerValue}
 
 -- what a contract sees of a worker
-abbrev pub hand_of : {R : Type 0} → TableId → Me R View → WorkerValue
+abbrev pub hand_of : {R : Type 0} → TableId → Me R PoolView → WorkerValue
 hand_of table me = record { table = table; view = me.0 }
 
 -- the worker with this number, of a pool with so many tasks, has the slots of the tasks that its view has, nothing is in them, and it knows these tasks
-pub record IsAtWork {R : Type 0} (tasks number : ℕ) (me : Me (Option R) View) : Type 0 where
+pub record IsAtWork {R : Type 0} (tasks number : ℕ) (me : Me (Option R) PoolView) : Type 0 where
   pub alone : me.0.numbers ≡ number ∷ []
   pub few : me.0.workers ≤ max_workers
   pub slots : me.1 ≡ map (λ t. (t, None)) me.0.has

@@ -3,7 +3,7 @@ use Rattle.std.specs.Prelude.{ℕ, zero, suc, ◌+◌, List, length, count_by}
 use Rattle.armus_base.specs.Finals.{list_below}
 use Rattle.text_places.specs.NamedPlaces.{moved_span, named_in}
 use Rattle.text_places.specs.TextPlaces.{is_line_feed, line_from}
-use Rattle.text_places.specs.declared.places.Line.{Line}
+use Rattle.text_places.specs.declared.places.TextLine.{TextLine}
 
 -- how many bytes stand before line i, counted from 0
 abbrev pub begin_of : List ℕ → ℕ → ℕ
@@ -15,9 +15,9 @@ abbrev pub line_count : List ℕ → ℕ
 line_count text = count_by is_line_feed text + 1
 
 -- line i: where it begins, and the place that it names
-abbrev pub line_row : List ℕ → ℕ → Line
+abbrev pub line_row : List ℕ → ℕ → TextLine
 line_row text i = record { begin = begin_of text i; named = moved_span (begin_of text i) (named_in (line_from text (begin_of text i))) }
 
 -- all lines
-abbrev pub line_rows : List ℕ → List Line
+abbrev pub line_rows : List ℕ → List TextLine
 line_rows text = list_below (line_row text) (line_count text)

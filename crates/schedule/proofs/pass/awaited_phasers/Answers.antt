@@ -1,5 +1,5 @@
 use Rattle.std.proofs.Common.{◌≡◌, ◌+◌, ◌≤◌, ◌∙◌, subst, sym, ap, arith, length, get_or, IfOk}
-use Rattle.schedule.specs.declared.pass.Waiting.{Waiting}
+use Rattle.schedule.specs.declared.pass.FoundWaiting.{FoundWaiting}
 use Rattle.armus_base.specs.Finals.{given_below}
 use Rattle.schedule.specs.inside.OpenPasses.{marked_phaser}
 use Rattle.schedule.proofs.Marks.{AreMarks, mark_one, mark_none, marks_are}
@@ -13,7 +13,7 @@ loop-w-preserved c =
           (mark_one c.loop-w.is_awaited.items c.args.waiting.now c.args.phasers c.loop-w.w-index _ c.loop-w.invariant c.loop-w-test.true
           (let a = c.loop-w.invariant.all in omega arith))
       | else-p-len w ↦
-          let d : Waiting = record { t = record { 0 = 0 }; event = record { p = record { 0 = 0 }; n = 0 } } in
+          let d : FoundWaiting = record { t = record { 0 = 0 }; event = record { p = record { 0 = 0 }; n = 0 } } in
           let beyond : c.args.phasers ≤ (get_or c.args.waiting.now c.loop-w.w-index d).event.p.0 = (let a = c.loop-w.invariant.all in omega arith) in
           subst (λ v. AreMarks v.items c.args.waiting.now c.args.phasers (c.loop-w.w-index + 1)) (sym w.is_awaited-is)
           (mark_none c.loop-w.is_awaited.items c.args.waiting.now c.args.phasers c.loop-w.w-index d c.loop-w.invariant c.loop-w-test.true beyond)

@@ -4,7 +4,7 @@ use Rattle.std.proofs.lemmas.List.FromFn.{map-range_with_len_more}
 use Rattle.std.specs.Vec.{vec_capacity}
 use Rattle.atomic_table.specs.Seated.{TableId}
 use Rattle.atomic_table.specs.Table.{Splits}
-use Rattle.slot_pool.specs.declared.view.View.{View}
+use Rattle.slot_pool.specs.declared.view.PoolView.{PoolView}
 use Rattle.slot_pool.specs.calls.PoolValues.{WorkerValue}
 use Rattle.slot_pool.specs.inside.Rule.{PoolHolds}
 use Rattle.slot_pool.specs.calls.Views.{starting_view}
@@ -12,7 +12,7 @@ use Rattle.slot_pool.specs.inside.Views.{left_over, split_off}
 use Rattle.slot_pool.proofs.SplitOff.{first_at_work, left_last, left_next, split_first, splits_left}
 use Rattle.slot_pool.proofs.parting.part.Goals as goal
 
-abbrev worker_value : TableId → View → WorkerValue
+abbrev worker_value : TableId → PoolView → WorkerValue
 worker_value t v = record { table = t; view = v }
 
 pub split_seat-other-requires : goal.split_seat-other-requires

@@ -1,10 +1,10 @@
 use Rattle.std.proofs.Common.{arith}
-use Rattle.armus_base.specs.declared.cursor.frame.Frame.{Frame}
+use Rattle.armus_base.specs.declared.cursor.frame.OpenRepeat.{OpenRepeat}
 use Rattle.armus_base.proofs.Positions.{closes, inside_by, keeps_more, keeps_none, none_open, turns_again}
 use Rattle.armus_base.proofs.cursor.position.Position.close.Goals as goal
 
 -- what is read where no Repeat is
-abbrev none : Frame
+abbrev none : OpenRepeat
 none = record { from = 0; to = 0; turns = 0 }
 
 pub loop-self-init : goal.loop-self-init

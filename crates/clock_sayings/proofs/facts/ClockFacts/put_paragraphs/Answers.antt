@@ -1,6 +1,6 @@
 use Rattle.clock_sayings.specs.ClockExplanations.{paragraph_at}
 use Rattle.clock_sayings.proofs.Lines.{lines_next}
-use Rattle.clock_sayings.proofs.facts.Facts.put_paragraphs.Goals as goal
+use Rattle.clock_sayings.proofs.facts.ClockFacts.put_paragraphs.Goals as goal
 
 pub loop-t-preserved : goal.loop-t-preserved
 loop-t-preserved c =

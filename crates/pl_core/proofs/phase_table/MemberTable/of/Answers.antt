@@ -2,7 +2,7 @@ use Rattle.std.proofs.Common.{arith, sym}
 use Rattle.pl_core.specs.inside.Enrolling.{IsNoted}
 use Rattle.pl_core.proofs.Tables.{nobody_in}
 use Rattle.std.proofs.Common.{subst}
-use Rattle.pl_core.proofs.phase_table.PhaseTable.of.Goals as goal
+use Rattle.pl_core.proofs.phase_table.MemberTable.of.Goals as goal
 
 pub returns-clause-empty : goal.returns-clause-empty
 returns-clause-empty c = nobody_in _ c.in_ok-rows.ensures.made.empty

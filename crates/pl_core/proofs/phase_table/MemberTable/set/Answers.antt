@@ -2,7 +2,7 @@ use Rattle.std.proofs.Common.{◌≡◌, ◌<◌, Some, arith, length, refl, set
 use Rattle.std.specs.Prelude.{slice_get}
 use Rattle.std.proofs.lemmas.Option.{slice_get_read}
 use Rattle.pl_core.proofs.Tables.{row_changed, row_keeps}
-use Rattle.pl_core.proofs.phase_table.PhaseTable.set.Goals as goal
+use Rattle.pl_core.proofs.phase_table.MemberTable.set.Goals as goal
 
 pub returns-clause-set : goal.returns-clause-set
 returns-clause-set c =

@@ -2,7 +2,7 @@ use Rattle.std.proofs.Common.{◌≡◌, ◌++◌, take}
 use Rattle.std.specs.List.{flat_map}
 use Rattle.std.specs.Prelude.{option_map}
 use Rattle.clock_sayings.specs.ClockExplanations.{line_if_missing}
-use Rattle.clock_sayings.proofs.facts.Facts.put_missing_lines.Given as goal
+use Rattle.clock_sayings.proofs.facts.ClockFacts.put_missing_lines.Given as goal
 
 abbrev pub invariant-loop-status : goal.invariant-loop-status
 invariant-loop-status l =

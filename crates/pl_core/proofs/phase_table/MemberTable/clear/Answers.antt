@@ -5,7 +5,7 @@ use Rattle.armus_base.specs.States.{updated}
 use Rattle.armus_base.proofs.Steps.{updated_other, updated_same}
 use Rattle.pl_core.specs.inside.PhaseTables.{phases_in}
 use Rattle.pl_core.proofs.Tables.{past_rows}
-use Rattle.pl_core.proofs.phase_table.PhaseTable.clear.Goals as goal
+use Rattle.pl_core.proofs.phase_table.MemberTable.clear.Goals as goal
 
 pub returns-clause-cleared : goal.returns-clause-cleared
 returns-clause-cleared c =

@@ -5,7 +5,7 @@ use Rattle.pl_core.specs.inside.Cells.{phase_among}
 use Rattle.pl_core.specs.inside.PhaseTables.{phases_in}
 use Rattle.pl_core.proofs.NextBehind.{next_same}
 use Rattle.pl_core.proofs.Tables.{row_says}
-use Rattle.pl_core.proofs.phase_table.PhaseTable.next_behind.Goals as goal
+use Rattle.pl_core.proofs.phase_table.MemberTable.next_behind.Goals as goal
 
 pub returns : goal.returns
 returns c =

@@ -1,7 +1,7 @@
 use Rattle.std.specs.Prelude.{slice_get}
 use Rattle.clock_sayings.specs.ClockExplanations.{line_if_pending, pending_in}
 use Rattle.clock_sayings.proofs.Lines.{lines_next}
-use Rattle.clock_sayings.proofs.facts.Facts.put_pending_lines.Goals as goal
+use Rattle.clock_sayings.proofs.facts.ClockFacts.put_pending_lines.Goals as goal
 
 pub loop-p-preserved : goal.loop-p-preserved
 loop-p-preserved c =

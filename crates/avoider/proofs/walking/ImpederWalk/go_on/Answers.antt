@@ -1,7 +1,7 @@
 use Rattle.armus_base.proofs.WalkCycles.{walk_more}
 use Rattle.avoider.specs.calls.Decisions.{supposed_statuses}
 use Rattle.avoider.specs.inside.Walks.{GoesTo}
-use Rattle.avoider.proofs.walking.Walk.go_on.Goals as goal
+use Rattle.avoider.proofs.walking.ImpederWalk.go_on.Goals as goal
 
 pub returns-in_ok-push-in-Some : goal.returns-in_ok-push-in-Some
 returns-in_ok-push-in-Some c =

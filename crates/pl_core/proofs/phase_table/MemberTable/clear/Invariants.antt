@@ -1,6 +1,6 @@
 use Rattle.std.proofs.Common.{◌≡◌, ◌<◌, ℕ, None}
 use Rattle.pl_core.specs.inside.PhaseTables.{KeepsCells, phases_in}
-use Rattle.pl_core.proofs.phase_table.PhaseTable.clear.Given as goal
+use Rattle.pl_core.proofs.phase_table.MemberTable.clear.Given as goal
 
 abbrev pub invariant-loop-p : goal.invariant-loop-p
 invariant-loop-p l =
