@@ -61,7 +61,7 @@ fn answer_pl(
     let places = TextPlaces::new(alloc, text)?;
     match parse(alloc, text) {
         Ok(program) => answer_program(alloc, wanted, places, file, &program),
-        Err(ParseEnd::Syntax(fault)) => refuse_syntax(alloc, &places, file, fault),
+        Err(ParseEnd::Syntax(fault)) => refuse_syntax(alloc, text, &places, file, fault),
         Err(ParseEnd::NoMemory) => Err(NoMemory),
     }
 }

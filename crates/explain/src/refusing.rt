@@ -40,18 +40,20 @@ pub(crate) fn refuse_length(alloc: Global, file: Option<&[u8]>) -> Result<Answer
     Ok(refused(length_refusal(alloc, file)?))
 }
 
-/// The refusal of the text with these places for its first syntax fault.
+/// The refusal of a text for its first syntax fault.
 pub(crate) fn refuse_syntax(
     alloc: Global,
+    text: &[u8],
     places: &TextPlaces,
     file: Option<&[u8]>,
     fault: SyntaxFault,
 ) -> Result<Answer, NoMemory>
-    requires fault { HasFault places.now fault }
-    ensures refusal { IfOk result (IsRefusalOf (file_bytes file.entry) places.now) }
+    requires short { length text.now ≤ MAX_TEXT_BYTES }
+    requires places { places.now ≡ text.now }
+    requires fault { HasFault text.now fault }
+    ensures refusal { IfOk result (IsRefusalOf (file_bytes file.entry) text.now) }
 {
-    let lines = syntax_refusal(alloc, places.text(), places, file, fault)?;
-    Ok(refused(lines))
+    Ok(refused(syntax_refusal(alloc, text, places, file, fault)?))
 }
 
 // The refusal of the text with these places, which is this program, of whose first check fault this is known.
