@@ -5,10 +5,10 @@ use Rattle.clock_pl.specs.calls.ClockPlanning.{as_fault}
 use Rattle.report.specs.Refusals.{refusal_text}
 use Rattle.report.specs.declared.refusal.Refusal.{Refusal}
 use Rattle.report.specs.declared.refusal.Refusal.TheVariants as refusal
-use Rattle.armus_words.specs.declared.command.Command.{Command}
-use Rattle.armus_words.specs.declared.command.Command.TheVariants as command
-use Rattle.armus_words.specs.declared.command.Graph.{Graph}
-use Rattle.armus_words.specs.Words.{Text}
+use Rattle.command_line.specs.declared.command.Command.{Command}
+use Rattle.command_line.specs.declared.command.Command.TheVariants as command
+use Rattle.command_line.specs.declared.command.Graph.{Graph}
+use Rattle.command_line.specs.Words.{Text}
 use Rattle.armus_top.specs.declared.output.InputEnd.{InputEnd}
 use Rattle.armus_top.specs.declared.output.InputEnd.TheVariants.{Clock, NoMemory, Refused}
 use Rattle.armus_top.specs.declared.output.Output.{Output}

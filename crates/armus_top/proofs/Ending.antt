@@ -9,11 +9,11 @@ use Rattle.armus_base.specs.Causes.{Rose, counted}
 use Rattle.armus_top.specs.Commands.{limit_of, IsRefusedInput}
 use Rattle.armus_top.proofs.Inputs.{answered_small, never_both}
 use Rattle.armus_top.proofs.WaysToEnd.{ends_finished}
-use Rattle.armus_words.specs.Words.{Text}
+use Rattle.command_line.specs.Words.{Text}
 use Rattle.armus_top.specs.inside.Writing.{Finished}
 use Rattle.armus_top.specs.Headline.{Passage, Completes, Ends, GaveTooMuch, IsAccepted, HasInput, IsCall, IsCalm}
 use Rattle.armus_top.specs.Headline.{IsServed, IsSound, Offers, OffersTooMuch, Permits, limit_for, writes_lines, whole, read_fault, write_fault, no_memory}
-use Rattle.armus_words.specs.declared.command.Command.{Command}
+use Rattle.command_line.specs.declared.command.Command.{Command}
 
 only : {d e : Command} → Some d ≡ Some e → d ≡ e
 only h = cc

@@ -2,15 +2,15 @@
 use Rattle.std.proofs.Common.{ℕ, ◌≡◌, ◌≤◌, ◌<◌, [], ◌∷◌, ◌++◌, zero, suc, List, length, inl, refl, sym, subst, ap, arith}
 use Rattle.armus_base.specs.declared.ending.Final.{Final}
 use Rattle.armus_base.specs.Finals.{final_of}
-use Rattle.armus_words.specs.declared.command.Command.TheVariants.{Gen}
+use Rattle.command_line.specs.declared.command.Command.TheVariants.{Gen}
 use Rattle.adaptive.specs.declared.analysis.Wanted.{Wanted}
 use Rattle.adaptive.specs.declared.analysis.Wanted.TheVariants as wanted
-use Rattle.gen_text.proofs.Accepted.{accepted as generated_is_accepted}
-use Rattle.gen_text.specs.Generated.{generated_text}
+use Rattle.pl_generator.proofs.Accepted.{accepted as generated_is_accepted}
+use Rattle.pl_generator.specs.Generated.{generated_text}
 use Rattle.report.specs.Reports.{IsReport}
 use Rattle.schedule.specs.Lines.{IsCut, IsFirstLine, a_line, no_line}
 use Rattle.schedule.proofs.LinesExist.{first_exists}
-use Rattle.armus_words.specs.Words.{Text}
+use Rattle.command_line.specs.Words.{Text}
 use Rattle.pl_syntax.specs.Printed.{line}
 use Rattle.armus_top.specs.Generated.{IsFirstAndLast}
 use Rattle.armus_top.specs.calls.Inputs.{MayGenerate}

@@ -4,11 +4,11 @@ use Rattle.armus_base.specs.Plans.{Plan}
 use Rattle.armus_base.specs.Runs.{state_after}
 use Rattle.armus_base.specs.States.{State}
 use Rattle.adaptive.specs.declared.analysis.Wanted.{Wanted}
-use Rattle.armus_words.specs.declared.command.Command.{Command}
-use Rattle.armus_words.specs.declared.command.Command.TheVariants.{Check, Run, Avoid, Record, Replay, Gen, Clock, Pool}
-use Rattle.armus_words.specs.declared.command.RunKind.{RunKind}
-use Rattle.armus_words.specs.declared.command.RunKind.TheVariants.{Plain, Live, Sites}
-use Rattle.armus_words.specs.Words.{Text}
+use Rattle.command_line.specs.declared.command.Command.{Command}
+use Rattle.command_line.specs.declared.command.Command.TheVariants.{Check, Run, Avoid, Record, Replay, Gen, Clock, Pool}
+use Rattle.command_line.specs.declared.command.RunKind.{RunKind}
+use Rattle.command_line.specs.declared.command.RunKind.TheVariants.{Plain, Live, Sites}
+use Rattle.command_line.specs.Words.{Text}
 use Rattle.armus_top.specs.Avoids.{TellsRefused}
 use Rattle.armus_top.specs.Programs.{TellsDead}
 use Rattle.armus_top.specs.Commands.{IsAnswered, IsRefusedInput}

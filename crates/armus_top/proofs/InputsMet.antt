@@ -1,15 +1,15 @@
 -- Each input has an answer.
 use Rattle.std.proofs.Common.{ℕ, Bool, inl, inr, refl, true, false}
 use Rattle.armus_base.specs.Plans.{Plan}
-use Rattle.armus_words.specs.declared.command.Command.{Command}
-use Rattle.armus_words.specs.declared.command.Command.TheVariants.{Check, Run, Avoid, Record, Replay, Gen, Clock, Pool}
-use Rattle.armus_words.specs.declared.command.Graph.{Graph}
-use Rattle.armus_words.specs.declared.command.RunKind.{RunKind}
-use Rattle.armus_words.specs.declared.command.RunKind.TheVariants.{Plain}
+use Rattle.command_line.specs.declared.command.Command.{Command}
+use Rattle.command_line.specs.declared.command.Command.TheVariants.{Check, Run, Avoid, Record, Replay, Gen, Clock, Pool}
+use Rattle.command_line.specs.declared.command.Graph.{Graph}
+use Rattle.command_line.specs.declared.command.RunKind.{RunKind}
+use Rattle.command_line.specs.declared.command.RunKind.TheVariants.{Plain}
 use Rattle.pl_syntax.specs.Printed.{printed_of}
 use Rattle.report.specs.Refusals.{refusal_text}
 use Rattle.report.specs.declared.refusal.Refusal.{Refusal}
-use Rattle.armus_words.specs.Words.{Text}
+use Rattle.command_line.specs.Words.{Text}
 use Rattle.armus_top.specs.Texts.{plan_line}
 use Rattle.armus_top.specs.Commands.{IsRefusedInput, limit_of, wanted_of}
 use Rattle.armus_top.specs.calls.Inputs.{EachInputIsMet, FitsLimit, MayGenerate}

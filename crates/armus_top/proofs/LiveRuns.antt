@@ -23,7 +23,7 @@ use Rattle.adaptive.specs.declared.analysis.Wanted.{Wanted}
 use Rattle.armus_top.specs.declared.output.Output.{Output}
 use Rattle.armus_top.specs.Headline.{Passage}
 use Rattle.armus_top.specs.Runs.{IsLiveRunOf, IsRunOf}
-use Rattle.armus_words.specs.Words.{Text}
+use Rattle.command_line.specs.Words.{Text}
 use Rattle.armus_top.specs.inside.Answers.{ReportsEnd}
 use Rattle.armus_top.specs.inside.Status.{number_of_status}
 use Rattle.armus_top.specs.inside.Writing.{Finished, LeavesOutput, part, wrote}

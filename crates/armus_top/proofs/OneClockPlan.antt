@@ -7,10 +7,10 @@ use Rattle.clock_syntax.specs.Trees.{ClockTree}
 use Rattle.clock_syntax.specs.Grammar.{IsClockText}
 use Rattle.clock_syntax.proofs.ClockTexts.{clock_tree_or_fault}
 use Rattle.clock_syntax.proofs.ClockUnique.{not_both_clocks, one_clock_tree}
-use Rattle.clock_moves.specs.Unfolding.{clock_plan_of}
-use Rattle.clock_moves.proofs.ClockPlanIsChecked.{clock_plan_is_checked}
+use Rattle.clock_semantics.specs.Unfolding.{clock_plan_of}
+use Rattle.clock_semantics.proofs.ClockPlanIsChecked.{clock_plan_is_checked}
 use Rattle.pl_plan.specs.declared.fault.CheckFault.{CheckFault}
-use Rattle.armus_words.specs.Words.{Text}
+use Rattle.command_line.specs.Words.{Text}
 use Rattle.armus_top.specs.Clocks.{IsClockPlanOf, IsClockRefused}
 
 -- a clock text with a plan is not refused

@@ -9,7 +9,7 @@ use Rattle.pl_plan.specs.Unfolding.{plan_of}
 use Rattle.pl_plan.proofs.TextsAreNear.{text_is_checked}
 use Rattle.report.specs.declared.refusal.Refusal.{Refusal}
 use Rattle.report.specs.declared.refusal.Refusal.TheVariants as refusal
-use Rattle.armus_words.specs.Words.{Text}
+use Rattle.command_line.specs.Words.{Text}
 use Rattle.armus_top.specs.Programs.{IsChecked, IsFaultOf, IsPlanOf}
 
 -- a text with a plan is not refused

@@ -8,7 +8,7 @@ use Rattle.pl_syntax.specs.declared.tree.Program.{Program}
 use Rattle.pl_syntax.proofs.Unique.{one_fault, one_tree, text_or_fault}
 use Rattle.report.specs.declared.refusal.Refusal.{Refusal}
 use Rattle.report.specs.declared.refusal.Refusal.TheVariants.{Check, Syntax}
-use Rattle.armus_words.specs.Words.{Text}
+use Rattle.command_line.specs.Words.{Text}
 use Rattle.armus_top.specs.Avoids.{TellsRefused}
 use Rattle.armus_top.specs.Programs.{IsFaultOf, TellsDead}
 

@@ -11,7 +11,7 @@ use Rattle.adaptive.specs.declared.analysis.Wanted.TheVariants as wanted
 use Rattle.locked_world.specs.Journals.{journal_of}
 use Rattle.report.proofs.ReportExists.{report_exists}
 use Rattle.schedule.specs.Records.{IsClosedText, IsEnded, recorded}
-use Rattle.armus_words.specs.Words.{Text}
+use Rattle.command_line.specs.Words.{Text}
 use Rattle.pl_syntax.specs.Printed.{line}
 use Rattle.armus_top.specs.Programs.{IsPlanOf}
 use Rattle.armus_top.specs.Records.{IsRecordOf}

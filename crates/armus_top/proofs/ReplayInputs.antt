@@ -11,7 +11,7 @@ use Rattle.schedule.specs.Replays.{IsFirstFault}
 use Rattle.schedule.specs.Replaying.{AreDeadIn}
 use Rattle.schedule.proofs.OneSchedule.{one_reading, one_split}
 use Rattle.schedule.proofs.OneReplay.{never_both}
-use Rattle.armus_words.specs.Words.{Text}
+use Rattle.command_line.specs.Words.{Text}
 use Rattle.armus_top.specs.inside.Answers.{IsEnd}
 use Rattle.armus_top.specs.Programs.{IsFaultOf, TellsDead}
 use Rattle.armus_top.specs.Replays.{IsReplayedBy, IsReplayFault, IsReplayOf, IsReplayRefused, IsShort}

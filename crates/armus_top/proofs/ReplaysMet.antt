@@ -10,7 +10,7 @@ use Rattle.armus_base.specs.Runs.{state_after}
 use Rattle.armus_base.specs.States.{State}
 use Rattle.armus_base.proofs.DeadByStatuses.{dead_by_statuses, run_is_of_plan}
 use Rattle.armus_base.proofs.Elements.{Contains-head, nothing_in_nil}
-use Rattle.armus_words.specs.declared.command.Command.TheVariants.{Replay}
+use Rattle.command_line.specs.declared.command.Command.TheVariants.{Replay}
 use Rattle.report.specs.Refusals.{refusal_text}
 use Rattle.report.specs.declared.refusal.Refusal.{Refusal}
 use Rattle.report.specs.declared.refusal.Refusal.TheVariants.{Length, Syntax, Check as Checked, Schedule}
@@ -26,7 +26,7 @@ use Rattle.schedule.specs.Texts.{text_of}
 use Rattle.schedule.proofs.LinesExist.{bytes_have_lines, input_is_split}
 use Rattle.schedule.proofs.PassesNameTheDead.{passes_name_the_dead}
 use Rattle.schedule.proofs.LinesMet.{leads_run, lines_are_met}
-use Rattle.armus_words.specs.Words.{Text}
+use Rattle.command_line.specs.Words.{Text}
 use Rattle.pl_syntax.specs.Printed.{line}
 use Rattle.armus_top.specs.Programs.{IsFaultOf, TellsDead}
 use Rattle.armus_top.specs.Replays.{IsShort, ReadsAs}

@@ -15,7 +15,7 @@ use Rattle.armus_base.proofs.StatusesAre.{statuses_are}
 use Rattle.adaptive.specs.declared.analysis.Wanted.{Wanted}
 use Rattle.report.specs.Reports.{IsReport, IsSomeDead}
 use Rattle.world_runs.specs.calls.PlainRuns.{IsPlainEnd}
-use Rattle.armus_words.specs.Words.{Text}
+use Rattle.command_line.specs.Words.{Text}
 use Rattle.armus_top.specs.declared.output.Output.{Output}
 use Rattle.armus_top.specs.inside.Answers.{ReportsEnd}
 use Rattle.armus_top.specs.inside.Status.{number_of_status}

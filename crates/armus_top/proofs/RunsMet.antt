@@ -17,9 +17,9 @@ use Rattle.report.specs.NamedDead.{AreSomeDead}
 use Rattle.report.proofs.DeadExtend.{some_dead_extend}
 use Rattle.report.proofs.ReportExists.{report_exists}
 use Rattle.world_runs.proofs.SerialExists.{serial_run_ends}
-use Rattle.armus_words.specs.declared.command.RunKind.{RunKind}
-use Rattle.armus_words.specs.declared.command.RunKind.TheVariants.{Plain, Live, Sites}
-use Rattle.armus_words.specs.Words.{Text}
+use Rattle.command_line.specs.declared.command.RunKind.{RunKind}
+use Rattle.command_line.specs.declared.command.RunKind.TheVariants.{Plain, Live, Sites}
+use Rattle.command_line.specs.Words.{Text}
 use Rattle.armus_top.specs.Avoids.{IsAvoidOf}
 use Rattle.armus_top.specs.Programs.{IsPlanOf}
 use Rattle.armus_top.specs.Runs.{IsLiveRunOf, IsRunOf, IsRunOutput}

@@ -3,13 +3,13 @@ use Rattle.std.proofs.Common.{◌≡◌, ◌≢◌, ◌≤◌, ◌+◌, ℕ, Boo
 use Rattle.std.specs.Prelude.{Err, IfErr, IfOk, None, Ok, Option, Result, Some, is_some}
 use Rattle.armus_base.specs.Plans.{Plan}
 use Rattle.adaptive.specs.declared.analysis.Wanted.{Wanted}
-use Rattle.armus_words.specs.declared.command.Command.{Command}
-use Rattle.armus_words.specs.declared.command.Command.TheVariants.{Clock, Run}
-use Rattle.armus_words.specs.declared.command.Graph.{Graph}
-use Rattle.armus_words.specs.declared.command.RunKind.{RunKind}
-use Rattle.armus_words.specs.declared.command.RunKind.TheVariants.{Live, Plain, Sites}
-use Rattle.armus_words.specs.Commands.{IsCommand}
-use Rattle.armus_words.specs.Words.{Text}
+use Rattle.command_line.specs.declared.command.Command.{Command}
+use Rattle.command_line.specs.declared.command.Command.TheVariants.{Clock, Run}
+use Rattle.command_line.specs.declared.command.Graph.{Graph}
+use Rattle.command_line.specs.declared.command.RunKind.{RunKind}
+use Rattle.command_line.specs.declared.command.RunKind.TheVariants.{Live, Plain, Sites}
+use Rattle.command_line.specs.Commands.{IsCommand}
+use Rattle.command_line.specs.Words.{Text}
 use Rattle.armus_top.specs.declared.output.InputEnd.{InputEnd}
 use Rattle.armus_top.specs.declared.output.Output.{Output}
 use Rattle.armus_top.specs.declared.output.ExitStatus.{ExitStatus}
@@ -17,7 +17,7 @@ use Rattle.armus_top.specs.Clocks.{IsClockPlanOf}
 use Rattle.armus_top.specs.Commands.{IsAnswered, limit_of, wanted_of, writes_live}
 use Rattle.armus_top.specs.Headline.{Answers, Ends, HasInput, IsCall, IsSound, Passage, reads_input}
 use Rattle.armus_top.specs.calls.Inputs.{FitsLimit}
-use Rattle.armus_words.specs.Commands.{Means}
+use Rattle.command_line.specs.Commands.{Means}
 use Rattle.armus_top.specs.Programs.{IsPlanOf}
 use Rattle.armus_top.specs.Runs.{IsLiveRunOf, IsRunOf}
 use Rattle.armus_top.specs.Texts.{usage_line}

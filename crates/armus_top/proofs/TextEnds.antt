@@ -8,11 +8,11 @@ use Rattle.armus_base.specs.States.{State}
 use Rattle.adaptive.specs.declared.analysis.Wanted.{Wanted}
 use Rattle.pl_plan.proofs.VisitsLeave.{bind_ok, ok_is}
 use Rattle.clock_syntax.specs.Trees.{ClockTree}
-use Rattle.clock_moves.specs.Unfolding.{ClockUnfolding, clock_plan_of, clock_unfolded, plan_of_moves}
-use Rattle.clock_machine.proofs.ClockEnds.{no_task_is_held}
-use Rattle.clock_text.proofs.TextEndsTold.{text_ends_are_told}
-use Rattle.armus_words.specs.declared.command.RunKind.{RunKind}
-use Rattle.armus_words.specs.Words.{Text}
+use Rattle.clock_semantics.specs.Unfolding.{ClockUnfolding, clock_plan_of, clock_unfolded, plan_of_moves}
+use Rattle.clock_laws.proofs.ClockEnds.{no_task_is_held}
+use Rattle.clock_laws.proofs.TextEndsTold.{text_ends_are_told}
+use Rattle.command_line.specs.declared.command.RunKind.{RunKind}
+use Rattle.command_line.specs.Words.{Text}
 use Rattle.armus_top.specs.Clocks.{IsClockPlanOf}
 use Rattle.armus_top.specs.ClockRuns.{HasTextEnds, IsClockRunOf}
 use Rattle.armus_top.specs.Runs.{IsRunOutput}

@@ -5,7 +5,7 @@ use Rattle.std.specs.Io.KnownBytes.{Keeps}
 use Rattle.armus_base.specs.ReadAll.{ReadFront}
 use Rattle.report.specs.Refusals.{refusal_text}
 use Rattle.report.specs.declared.refusal.Refusal.TheVariants.{Length}
-use Rattle.armus_words.specs.Words.{Text}
+use Rattle.command_line.specs.Words.{Text}
 use Rattle.armus_top.specs.Headline.{EndsWith, GaveTooMuch, IsSound, Passage, ReadNoMore, no_memory, read_fault, whole, write_fault}
 use Rattle.armus_top.specs.inside.Reading.{EndsUnread, memory_wanting, source_failed, too_long}
 use Rattle.armus_top.specs.inside.Writing.{Finished, LeavesOutput, nothing, part, wrote}

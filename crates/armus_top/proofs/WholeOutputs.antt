@@ -8,7 +8,7 @@ use Rattle.armus_base.specs.Finals.{end_of}
 use Rattle.armus_base.specs.Plans.{Plan}
 use Rattle.armus_base.specs.States.{State}
 use Rattle.armus_base.proofs.Tasks.{all_or_one}
-use Rattle.armus_words.specs.declared.command.Command.{Command}
+use Rattle.command_line.specs.declared.command.Command.{Command}
 use Rattle.pl_plan.specs.declared.fault.CheckFault.{CheckFault}
 use Rattle.pl_plan.specs.Unfolding.{plan_of}
 use Rattle.pl_syntax.specs.Grammar.{IsText}
@@ -17,7 +17,7 @@ use Rattle.pl_syntax.proofs.Whole.{one_of_both}
 use Rattle.report.specs.declared.refusal.Refusal.{Refusal}
 use Rattle.report.specs.declared.refusal.Refusal.TheVariants.{Syntax, Check as Checked}
 use Rattle.report.specs.Reports.{IsCycleText}
-use Rattle.armus_words.specs.Words.{Text}
+use Rattle.command_line.specs.Words.{Text}
 use Rattle.armus_top.specs.Avoids.{TellsRefused, ended_refused}
 use Rattle.armus_top.specs.Commands.{IsRefusedInput}
 use Rattle.armus_top.specs.Headline.{Answers}

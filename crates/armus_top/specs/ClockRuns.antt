@@ -7,10 +7,10 @@ use Rattle.armus_base.specs.States.{State}
 use Rattle.adaptive.specs.declared.analysis.Wanted.{Wanted}
 use Rattle.clock_syntax.specs.Trees.{ClockTree}
 use Rattle.clock_syntax.specs.Grammar.{IsClockText}
-use Rattle.clock_moves.specs.Unfolding.{ClockUnfolding, clock_unfolded}
-use Rattle.clock_text.specs.TextLaws.{EndsAreTold}
-use Rattle.armus_words.specs.declared.command.RunKind.{RunKind}
-use Rattle.armus_words.specs.Words.{Text}
+use Rattle.clock_semantics.specs.Unfolding.{ClockUnfolding, clock_unfolded}
+use Rattle.clock_laws.specs.TextLaws.{EndsAreTold}
+use Rattle.command_line.specs.declared.command.RunKind.{RunKind}
+use Rattle.command_line.specs.Words.{Text}
 use Rattle.armus_top.specs.Clocks.{IsClockPlanOf}
 use Rattle.armus_top.specs.Runs.{IsRunOutput}
 

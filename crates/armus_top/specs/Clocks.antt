@@ -5,11 +5,11 @@ use Rattle.pl_syntax.specs.declared.fault.SyntaxFault.{SyntaxFault}
 use Rattle.pl_plan.specs.declared.fault.CheckFault.{CheckFault}
 use Rattle.clock_syntax.specs.Trees.{ClockTree}
 use Rattle.clock_syntax.specs.Grammar.{IsClockText, HasClockFault}
-use Rattle.clock_moves.specs.Unfolding.{clock_plan_of}
+use Rattle.clock_semantics.specs.Unfolding.{clock_plan_of}
 use Rattle.clock_pl.specs.ClockLines.{clock_fault_line}
 use Rattle.report.specs.Refusals.{refusal_text}
 use Rattle.report.specs.declared.refusal.Refusal.TheVariants.{Syntax}
-use Rattle.armus_words.specs.Words.{Text}
+use Rattle.command_line.specs.Words.{Text}
 
 -- the text is a clock program that unfolds to this plan
 abbrev pub IsClockPlanOf : Text → Plan → Type 0

@@ -2,9 +2,9 @@
 use Rattle.std.specs.Prelude.{◌≡◌, ℕ, List, [], ◌∷◌, ◌++◌}
 use Rattle.armus_base.specs.Plans.{Plan}
 use Rattle.adaptive.specs.declared.analysis.Wanted.TheVariants as wanted
-use Rattle.gen_text.specs.Generated.{generated_text}
+use Rattle.pl_generator.specs.Generated.{generated_text}
 use Rattle.schedule.specs.Lines.{IsCut}
-use Rattle.armus_words.specs.Words.{Text}
+use Rattle.command_line.specs.Words.{Text}
 use Rattle.pl_syntax.specs.Printed.{line}
 use Rattle.armus_top.specs.Programs.{IsPlanOf}
 use Rattle.armus_top.specs.Runs.{IsRunOf}

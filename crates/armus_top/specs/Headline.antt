@@ -4,11 +4,11 @@ use Rattle.std.specs.Prelude.{◌≡◌, ◌≢◌, ◌≤◌, ◌<◌, ◌⊎�
 use Rattle.std.specs.Io.KnownBytes.{Consumes, Appends, Keeps, IsAtEnd}
 use Rattle.armus_base.specs.Causes.{Rose, counted}
 use Rattle.armus_base.specs.ReadAll.{ReadFront, TookFront}
-use Rattle.armus_words.specs.Words.{HaveForm, Text}
+use Rattle.command_line.specs.Words.{HaveForm, Text}
 use Rattle.armus_top.specs.Texts.{usage_line}
-use Rattle.armus_words.specs.Commands.{Means}
+use Rattle.command_line.specs.Commands.{Means}
 use Rattle.armus_top.specs.Commands.{limit_of, length_line, writes_live, IsRefusedInput, IsAnswered}
-use Rattle.armus_words.specs.declared.command.Command.{Command}
+use Rattle.command_line.specs.declared.command.Command.{Command}
 
 -- a source or a sink at the beginning and at the end of a call: the bytes left or taken, where it tells them, and its faults
 pub record Passage : Type 0 where

@@ -8,7 +8,7 @@ use Rattle.pl_syntax.specs.Grammar.{IsText, HasFault}
 use Rattle.pl_plan.specs.Unfolding.{plan_of}
 use Rattle.report.specs.declared.refusal.Refusal.{Refusal}
 use Rattle.report.specs.declared.refusal.Refusal.TheVariants.{Syntax, Check}
-use Rattle.armus_words.specs.Words.{Text}
+use Rattle.command_line.specs.Words.{Text}
 
 -- the text is this program, which unfolds to this plan
 pub record IsChecked (text : Text) (program : Program) (plan : Plan) : Type 0 where

@@ -6,7 +6,7 @@ use Rattle.armus_base.specs.Runs.{IsMaximal, state_after}
 use Rattle.armus_base.specs.States.{Step}
 use Rattle.locked_world.specs.Journals.{IsJournalOf}
 use Rattle.schedule.specs.Records.{IsRecord}
-use Rattle.armus_words.specs.Words.{Text}
+use Rattle.command_line.specs.Words.{Text}
 use Rattle.armus_top.specs.Programs.{IsPlanOf, TellsDead}
 
 -- the text with the journal of a maximal plain run of its plan, and the status that tells whether a task is dead in the state in which the run ends

@@ -3,11 +3,11 @@ use Rattle.std.specs.Prelude.{◌≡◌, ◌≤◌, ◌↔◌, ◌++◌, ℕ, Li
 use Rattle.armus_base.specs.declared.ids.TaskId.{TaskId}
 use Rattle.armus_base.specs.Deadlocks.{IsDeadIn}
 use Rattle.armus_base.specs.Runs.{state_after}
-use Rattle.armus_words.specs.declared.command.Command.TheVariants.{Record, Replay}
-use Rattle.armus_words.specs.Words.{Text}
+use Rattle.command_line.specs.declared.command.Command.TheVariants.{Record, Replay}
+use Rattle.command_line.specs.Words.{Text}
 use Rattle.armus_top.specs.Headline.{HasInput, IsAccepted, Passage}
 use Rattle.armus_top.specs.Commands.{limit_of}
-use Rattle.armus_words.specs.Commands.{Means}
+use Rattle.command_line.specs.Commands.{Means}
 use Rattle.armus_top.specs.Records.{IsRecordOf}
 use Rattle.armus_top.specs.Replays.{IsReplayOf}
 use Rattle.armus_top.specs.declared.replaying.TheConstants.{MAX_REPLAY_BYTES}

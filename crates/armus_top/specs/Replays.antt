@@ -13,7 +13,7 @@ use Rattle.schedule.specs.Passes.{Loads}
 use Rattle.schedule.specs.Replays.{IsFirstFault}
 use Rattle.schedule.specs.Replaying.{IsReplayed}
 use Rattle.schedule.specs.Texts.{text_of}
-use Rattle.armus_words.specs.Words.{Text}
+use Rattle.command_line.specs.Words.{Text}
 use Rattle.pl_syntax.specs.Printed.{line}
 use Rattle.armus_top.specs.Programs.{IsFaultOf, IsPlanOf, TellsDead}
 use Rattle.armus_top.specs.declared.programs.TheConstants.{MAX_TEXT_BYTES}

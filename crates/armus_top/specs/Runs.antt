@@ -9,9 +9,9 @@ use Rattle.adaptive.specs.declared.analysis.Wanted.{Wanted}
 use Rattle.report.specs.Live.{live_text}
 use Rattle.report.specs.NamedDead.{AreTheDead}
 use Rattle.report.specs.Reports.{IsReport}
-use Rattle.armus_words.specs.declared.command.RunKind.{RunKind}
-use Rattle.armus_words.specs.declared.command.RunKind.TheVariants.{Plain, Live, Sites}
-use Rattle.armus_words.specs.Words.{Text}
+use Rattle.command_line.specs.declared.command.RunKind.{RunKind}
+use Rattle.command_line.specs.declared.command.RunKind.TheVariants.{Plain, Live, Sites}
+use Rattle.command_line.specs.Words.{Text}
 use Rattle.armus_top.specs.Programs.{TellsDead}
 
 -- the report of the state in which every maximal plain run of the plan ends, and there is one; and the status that tells whether a task is dead in it

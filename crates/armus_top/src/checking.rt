@@ -9,7 +9,7 @@ ghost use Rattle.armus_top.specs.Texts.{plan_line};
 ghost use Rattle.armus_top.specs.declared.programs.TheConstants.{MAX_TEXT_BYTES};
 ghost use Rattle.armus_top.specs.inside.Answers.{IsEndOf};
 ghost use Rattle.armus_top.specs.inside.Status.{number_of_status};
-ghost use Rattle.armus_words.specs.declared.command.Command.TheVariants.{Check};
+ghost use Rattle.command_line.specs.declared.command.Command.TheVariants.{Check};
 
 use crate::output::{ExitStatus, InputEnd, Output};
 use crate::programs::{Checked, MAX_TEXT_BYTES, checked_in};

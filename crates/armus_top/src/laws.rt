@@ -1,7 +1,7 @@
 // Laws of inputs and answers, as contracts of functions with an empty body.
 ghost use Rattle.armus_top.specs.Inputs.{EachCallIsMet};
 ghost use Rattle.armus_top.specs.calls.Inputs.{EachInputIsMet};
-ghost use Rattle.armus_words.specs.calls.Commands.{OneMeaning};
+ghost use Rattle.command_line.specs.calls.Commands.{OneMeaning};
 ghost use Rattle.armus_top.specs.calls.Replayable.{RecordsReplay};
 
 /// Each input that is not too long has a whole output of the command, with its status: it is answered, or refused.

@@ -3,7 +3,7 @@ ghost use Rattle.std.specs.Prelude.{◌≡◌, ◌≤◌, ◌<◌, ◌+◌, ◌�
 ghost use Rattle.armus_top.specs.Replays.{IsReplayFault, IsReplayOf, IsReplayedBy, IsShort};
 ghost use Rattle.armus_top.specs.declared.replaying.TheConstants.{MAX_REPLAY_BYTES};
 ghost use Rattle.armus_top.specs.inside.Answers.{IsEnd, IsEndOf};
-ghost use Rattle.armus_words.specs.declared.command.Command.TheVariants.{Replay};
+ghost use Rattle.command_line.specs.declared.command.Command.TheVariants.{Replay};
 ghost use Rattle.armus_top.specs.inside.Status.{number_of_status};
 
 use crate::output::{InputEnd, Output, status_of};

@@ -3,7 +3,7 @@ ghost use Rattle.std.specs.Prelude.{◌≡◌, IfErr, IfOk, None, Some, map, str
 ghost use Rattle.armus_top.specs.Commands.{limit_of};
 ghost use Rattle.armus_top.specs.Headline.{Ends, IsCall};
 ghost use Rattle.armus_top.specs.calls.Headline.{passage};
-ghost use Rattle.armus_words.specs.Commands.{Means};
+ghost use Rattle.command_line.specs.Commands.{Means};
 ghost use Rattle.armus_top.specs.inside.Reading.{EndsUnread, IsRead, IsReadFor};
 ghost use Rattle.armus_top.specs.inside.Status.{number_of_status};
 
@@ -12,7 +12,7 @@ use crate::programs::MAX_TEXT_BYTES;
 use crate::replaying::MAX_REPLAY_BYTES;
 use crate::writing::{finish, refuse};
 use armus_base::{List, ReadEnd, Sink, Source, read_all};
-use armus_words::{Command, command_in};
+use command_line::{Command, command_in};
 use report::Refusal;
 use std::alloc::Global;
 

@@ -3,7 +3,7 @@ ghost use Rattle.std.specs.Prelude.{◌≡◌, ◌≢◌, ◌≤◌, IfOk, false
 ghost use Rattle.std.specs.List.{list_any};
 ghost use Rattle.armus_base.specs.CheckedPlans.{IsCheckedPlan};
 ghost use Rattle.armus_base.specs.calls.Limits.{max_sites};
-ghost use Rattle.armus_words.specs.Words.{Text};
+ghost use Rattle.command_line.specs.Words.{Text};
 ghost use Rattle.armus_top.specs.Avoids.{IsAvoidOf, ended_refused};
 ghost use Rattle.armus_top.specs.Programs.{IsPlanOf};
 ghost use Rattle.armus_top.specs.Records.{IsRecordOf};
@@ -18,7 +18,7 @@ ghost use Rattle.world_runs.specs.calls.PlainRuns.{IsPlainEnd};
 use crate::output::{ExitStatus, Output, reported, status_of};
 use crate::writing::finish;
 use armus_base::{Final, Gate, List, MemSink, NoMemory, Plan, Sink, TaskEnd};
-use armus_words::RunKind;
+use command_line::RunKind;
 use report::{any_dead, report};
 use schedule::recorded_text;
 use sites::{KeepEnd, SafeKeeper};

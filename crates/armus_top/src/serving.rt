@@ -16,7 +16,7 @@ use crate::running::CallSetting;
 use crate::writing::write_answer;
 use adaptive::Wanted;
 use armus_base::{Gate, Sink};
-use armus_words::{Command, Graph, RunKind};
+use command_line::{Command, Graph, RunKind};
 use std::sync::Wait;
 use std::thread::Threads;
 use task_runner::RunOptions;

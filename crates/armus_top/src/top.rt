@@ -1,7 +1,7 @@
 // The top call.
 ghost use Rattle.std.specs.Prelude.{◌≡◌, ◌↔◌, ◌||◌, IsTrue, false, map, string_bytes};
 ghost use Rattle.std.specs.Str.{bytes_eq};
-ghost use Rattle.armus_words.specs.declared.table.TheConstants.{POOL, RECORD};
+ghost use Rattle.command_line.specs.declared.table.TheConstants.{POOL, RECORD};
 ghost use Rattle.armus_top.specs.calls.Meanings.{BeginsRecordOrPool};
 ghost use Rattle.armus_top.specs.Replayable.{WritesReplayable};
 ghost use Rattle.armus_top.specs.Headline.{IsServed};
@@ -10,7 +10,7 @@ ghost use Rattle.armus_top.specs.calls.Headline.{passage};
 use crate::requests::{CommandInput, request_of};
 use crate::running::CallSetting;
 use armus_base::{Gate, Sink, Source};
-use armus_words::{POOL, RECORD};
+use command_line::{POOL, RECORD};
 use std::alloc::Global;
 use std::sync::Wait;
 use std::thread::Threads;

@@ -1,7 +1,7 @@
 // Writing what a command answers.
 ghost use Rattle.std.specs.Prelude.{◌≡◌, ◌≢◌};
-ghost use Rattle.armus_words.specs.declared.command.Command.{Command as Asked};
-ghost use Rattle.armus_words.specs.Words.{Text};
+ghost use Rattle.command_line.specs.declared.command.Command.{Command as Asked};
+ghost use Rattle.command_line.specs.Words.{Text};
 ghost use Rattle.armus_top.specs.calls.Headline.{passage};
 ghost use Rattle.armus_top.specs.inside.Answers.{AnswersBy, IsEndOf};
 ghost use Rattle.armus_top.specs.inside.Status.{number_of_status};

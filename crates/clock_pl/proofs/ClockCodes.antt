@@ -16,8 +16,8 @@ use Rattle.armus_base.specs.declared.op.Op.{Op}
 use Rattle.armus_base.specs.declared.piece.Piece.{Piece}
 use Rattle.armus_base.proofs.Unfolding.{straight_is_folded, unfolded-straight}
 use Rattle.clock_syntax.specs.Trees.{ClockTree}
-use Rattle.clock_moves.specs.Unfolding.{clock_plan_of}
-use Rattle.clock_moves.proofs.ClockPlanIsChecked.{clock_plan_is_checked}
+use Rattle.clock_semantics.specs.Unfolding.{clock_plan_of}
+use Rattle.clock_semantics.proofs.ClockPlanIsChecked.{clock_plan_is_checked}
 use Rattle.clock_pl.specs.calls.ClockPlanning.{GivesClockPlan, as_fault}
 use Rattle.clock_pl.specs.declared.fault.ClockEnd.{ClockEnd}
 use Rattle.clock_pl.specs.declared.fault.ClockEnd.TheVariants as ends_by

@@ -8,9 +8,9 @@ use Rattle.clock_syntax.specs.declared.tree.ClockStmt.TheVariants as s
 use Rattle.clock_syntax.specs.Trees.{ClockTree, done, clock_count}
 use Rattle.clock_syntax.specs.calls.Bodies.{clock_followed_by, clock_tree_of}
 use Rattle.clock_syntax.proofs.ClockParts.{clock_count_first, clock_counts}
-use Rattle.clock_moves.specs.Unfolding.{ClockComing, a_close, a_turn, coming, comings_of}
-use Rattle.clock_moves.proofs.ByClockTable.{bind_assoc}
-use Rattle.clock_moves.proofs.NextComings.{first_comings, times_more}
+use Rattle.clock_semantics.specs.Unfolding.{ClockComing, a_close, a_turn, coming, comings_of}
+use Rattle.clock_semantics.proofs.ByClockTable.{bind_assoc}
+use Rattle.clock_semantics.proofs.NextComings.{first_comings, times_more}
 use Rattle.pl_plan.specs.Unfolding.{Outcome, ◌>>=◌}
 use Rattle.pl_plan.specs.declared.fault.CheckFault.{CheckFault}
 use Rattle.clock_pl.specs.declared.fault.ClockEnd.{ClockEnd}

@@ -10,9 +10,9 @@ use Rattle.armus_base.specs.declared.ids.TaskId.{TaskId}
 use Rattle.armus_base.specs.declared.op.Op.{Op}
 use Rattle.armus_base.specs.declared.op.Op.TheVariants.{Reg, Fork}
 use Rattle.clock_syntax.specs.Trees.{ClockTree}
-use Rattle.clock_moves.specs.Moves.{ops_of, starts, Standing}
-use Rattle.clock_moves.specs.Unfolding.{Current, as_clock, clock_of, clocks_of, innermost, listed_twice, not_registered, still_pending}
-use Rattle.clock_moves.proofs.ByClockTable.{bind_assoc}
+use Rattle.clock_semantics.specs.Moves.{ops_of, starts, Standing}
+use Rattle.clock_semantics.specs.Unfolding.{Current, as_clock, clock_of, clocks_of, innermost, listed_twice, not_registered, still_pending}
+use Rattle.clock_semantics.proofs.ByClockTable.{bind_assoc}
 use Rattle.armus_base.specs.Numbers.{phaser}
 use Rattle.pl_plan.specs.Unfolding.{Outcome, ◌>>=◌, fault_unless}
 use Rattle.pl_plan.specs.declared.fault.CheckFault.{CheckFault}

@@ -9,9 +9,9 @@ use Rattle.std.proofs.lemmas.List.{length-append, length-map, length-set, map-ap
 use Rattle.armus_base.specs.States.{updated}
 use Rattle.armus_base.specs.declared.ids.PhaserId.{PhaserId}
 use Rattle.clock_syntax.specs.Trees.{ClockTree}
-use Rattle.clock_moves.specs.Moves.{Move, advances, after_move, begins, code_of_moves, drops, ends, no_standing, opens, ops_of, resumes, starts, stops}
-use Rattle.clock_moves.specs.Unfolding.{ClockStart, ClockUnfolding, Current, governed_by, innermost, naming, start_at, with_activity, with_clock_made, with_known, with_move}
-use Rattle.clock_moves.proofs.MoveCodes.{SamePending, code_more, pending_more, stood}
+use Rattle.clock_semantics.specs.Moves.{Move, advances, after_move, begins, code_of_moves, drops, ends, no_standing, opens, ops_of, resumes, starts, stops}
+use Rattle.clock_semantics.specs.Unfolding.{ClockStart, ClockUnfolding, Current, governed_by, innermost, naming, start_at, with_activity, with_clock_made, with_known, with_move}
+use Rattle.clock_semantics.proofs.MoveCodes.{SamePending, code_more, pending_more, stood}
 use Rattle.pl_plan.specs.calls.MemberRows.{marked}
 use Rattle.armus_base.specs.Numbers.{phaser, task}
 use Rattle.pl_plan.proofs.MemberRows.{marked_same, marked_other}

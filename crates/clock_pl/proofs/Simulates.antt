@@ -8,8 +8,8 @@ use Rattle.armus_base.specs.Numbers.{phaser}
 use Rattle.armus_base.specs.Plans.{straight_plan}
 use Rattle.armus_base.specs.declared.ids.PhaserId.{PhaserId}
 use Rattle.clock_syntax.specs.Trees.{ClockPlain, ClockTree, clock, advance, resume, drop, skip}
-use Rattle.clock_moves.specs.Moves.{Move, advances, begins, code_of_moves, drops, ends, opens, ops_of, resumes, starts, stops}
-use Rattle.clock_moves.specs.Unfolding.{ClockComing, ClockPart, ClockUnfolding, Current, a_close, a_finish, a_loop, a_plain, a_turn, act_async, act_close, act_finish, act_plain, an_async, clock_act, clock_of, clock_opening, clock_plan_of, clock_unfolded, clocks_of, come, come_all, comings_of, count_clock_visit, counted_coming, governed_by, innermost, move_at, naming, next_activity, next_clock, numbers_of, plan_of_moves, start_at, stop, too_many_activities, too_many_clock_cells, too_many_clock_ops, too_many_clock_visits, too_many_clocks, unfold_activities, unfold_started, with_activity, with_clock_made, with_known, with_move}
+use Rattle.clock_semantics.specs.Moves.{Move, advances, begins, code_of_moves, drops, ends, opens, ops_of, resumes, starts, stops}
+use Rattle.clock_semantics.specs.Unfolding.{ClockComing, ClockPart, ClockUnfolding, Current, a_close, a_finish, a_loop, a_plain, a_turn, act_async, act_close, act_finish, act_plain, an_async, clock_act, clock_of, clock_opening, clock_plan_of, clock_unfolded, clocks_of, come, come_all, comings_of, count_clock_visit, counted_coming, governed_by, innermost, move_at, naming, next_activity, next_clock, numbers_of, plan_of_moves, start_at, stop, too_many_activities, too_many_clock_cells, too_many_clock_ops, too_many_clock_visits, too_many_clocks, unfold_activities, unfold_started, with_activity, with_clock_made, with_known, with_move}
 use Rattle.pl_plan.specs.Limits.{max_visits}
 use Rattle.pl_plan.specs.Unfolding.{Outcome, ◌>>=◌, fault_unless, has_cells}
 use Rattle.pl_plan.specs.declared.fault.CheckFault.{CheckFault}

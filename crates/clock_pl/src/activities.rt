@@ -5,7 +5,7 @@ ghost use Rattle.std.specs.List.{list_any};
 ghost use Rattle.std.specs.Str.{bytes_eq};
 ghost use Rattle.armus_base.specs.declared.ids.PhaserId.{PhaserId};
 ghost use Rattle.clock_syntax.specs.Trees.{clock_count};
-ghost use Rattle.clock_moves.specs.Unfolding.{clock_of, clocks_of};
+ghost use Rattle.clock_semantics.specs.Unfolding.{clock_of, clocks_of};
 ghost use Rattle.clock_pl.specs.inside.ClockChecker.{current, spelled_names};
 ghost use Rattle.clock_pl.specs.inside.ClockCheckerSteps.{GivesClockChecker, GivesValue, checker_async, checker_stop, innermost_alone, kept_start_at, start_ops, stop_op, stop_ops};
 
@@ -28,7 +28,7 @@ fn list_once<'n>(listed: &mut IndexSet<&'n [u8]>, x: &'n [u8]) -> Result<bool, A
 }
 
 // The clock of a name of an async, behind the names that are listed.
-#[tactic(auto, unfolding(clock_moves::specs::Unfolding::clock_of))]
+#[tactic(auto, unfolding(clock_semantics::specs::Unfolding::clock_of))]
 fn clock_once<'n>(
     checker: &ClockChecker<'_>,
     n: u32,

@@ -4,7 +4,7 @@ ghost use Rattle.std.specs.Prelude.{◌≡◌, ◌<◌, ◌≤◌, ◌^◌, [], 
 ghost use Rattle.armus_base.specs.calls.Pieces.{IsFolded};
 ghost use Rattle.armus_base.specs.Pieces.{straight};
 ghost use Rattle.clock_syntax.specs.Trees.{clock_count};
-ghost use Rattle.clock_moves.specs.Unfolding.{clock_plan_of};
+ghost use Rattle.clock_semantics.specs.Unfolding.{clock_plan_of};
 ghost use Rattle.clock_pl.specs.calls.ClockPlanning.{GivesClockPlan};
 ghost use Rattle.clock_pl.specs.inside.ClockCheckerSteps.{GivesClockChecker, checker_activities, checker_started};
 

@@ -3,7 +3,7 @@
 ghost use Rattle.std.specs.Prelude.{◌≡◌, ◌+◌, ◌*◌, ◌<◌, ◌≤◌, ◌^◌, ◌++◌, ◌∷◌, [], length, slice_index_or, map, OnOk, IfOk, None, false, ℕ, slice_get};
 ghost use Rattle.armus_base.specs.declared.ids.PhaserId.{PhaserId};
 ghost use Rattle.pl_plan.specs.Unfolding.{fault, fault_unless, has_cells};
-ghost use Rattle.clock_moves.specs.Unfolding.{as_clock, clock_of};
+ghost use Rattle.clock_semantics.specs.Unfolding.{as_clock, clock_of};
 ghost use Rattle.armus_base.specs.declared.ids.TaskId.{TaskId};
 ghost use Rattle.clock_pl.specs.inside.ClockChecker.{current};
 ghost use Rattle.clock_pl.specs.inside.ClockCheckerSteps.{GivesClockChecker, clock_viewed, registered_clock, checker_ops, checker_next_clock, checker_next_activity, checker_open, checker_advance, checker_resume, checker_drop, checker_finish, checker_close, checker_visit};
@@ -64,7 +64,7 @@ pub(crate) fn registered_clock(
 }
 
 // The clock of this name, on which the activity is registered, and which is not pending if it is wanted idle.
-#[tactic(auto, unfolding(clock_moves::specs::Unfolding::clock_of))]
+#[tactic(auto, unfolding(clock_semantics::specs::Unfolding::clock_of))]
 fn clock_of(
     checker: &ClockChecker<'_>,
     wants_idle: bool,

@@ -4,7 +4,7 @@ ghost use Rattle.std.specs.Prelude.{◌+◌, ◌<◌, ◌≤◌, ◌^◌, ◌∷
 ghost use Rattle.armus_base.specs.Pieces.{times};
 ghost use Rattle.clock_syntax.specs.Trees.{clock_count, done};
 ghost use Rattle.clock_syntax.specs.calls.Bodies.{clock_followed_by};
-ghost use Rattle.clock_moves.specs.Unfolding.{a_turn, coming, comings_of};
+ghost use Rattle.clock_semantics.specs.Unfolding.{a_turn, coming, comings_of};
 ghost use Rattle.clock_pl.specs.inside.ClockCheckerSteps.{GivesClockChecker, checker_come_all, checker_statement};
 
 use crate::activities::start;

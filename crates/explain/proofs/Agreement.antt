@@ -12,20 +12,20 @@ use Rattle.armus_base.specs.States.{State}
 use Rattle.armus_base.proofs.DeadByStatuses.{dead_by_final, run_is_of_plan}
 use Rattle.armus_base.proofs.Stepping.{places_fix}
 use Rattle.adaptive.specs.declared.analysis.Wanted.{Wanted}
-use Rattle.explained_tasks.specs.declared.outcome.WaitVerdict.TheVariants.{Circle}
-use Rattle.explained_tasks.specs.Paragraphs.{paragraphs}
-use Rattle.explained_tasks.specs.RunEnds.{AreFactsAt}
-use Rattle.explained_tasks.specs.VerdictWords.{verdict_line}
-use Rattle.explained_tasks.specs.Verdicts.{shown_of, somebody_waits}
-use Rattle.explained_tasks.proofs.DeadlockShown.{deadlock_is_reported}
-use Rattle.explained_tasks.proofs.RestsAtEnd.{leads_there}
+use Rattle.explain_deadlock.specs.declared.outcome.WaitVerdict.TheVariants.{Circle}
+use Rattle.explain_deadlock.specs.Paragraphs.{paragraphs}
+use Rattle.explain_deadlock.specs.RunEnds.{AreFactsAt}
+use Rattle.explain_deadlock.specs.VerdictWords.{verdict_line}
+use Rattle.explain_deadlock.specs.Verdicts.{shown_of, somebody_waits}
+use Rattle.explain_deadlock.proofs.DeadlockShown.{deadlock_is_reported}
+use Rattle.explain_deadlock.proofs.RestsAtEnd.{leads_there}
 use Rattle.report.specs.Counts.{counts_of}
 use Rattle.report.specs.Lines.{counts_line, cycle_line, task_lines}
 use Rattle.report.specs.Reports.{IsCycleText, IsSomeDead}
 use Rattle.report.specs.Standings.{AreStandings}
 use Rattle.report.proofs.OneReport.{one_cycle_text, one_standings}
-use Rattle.task_sayings.specs.Facts.{FactsValue, facts_of}
-use Rattle.armus_words.specs.Words.{Text}
+use Rattle.explain_tasks.specs.Facts.{FactsValue, facts_of}
+use Rattle.command_line.specs.Words.{Text}
 use Rattle.armus_top.specs.Programs.{TellsDead}
 use Rattle.armus_top.specs.Runs.{IsRunOf as IsReportedRun}
 use Rattle.armus_top.proofs.OnePlan.{checked_plan}

@@ -2,7 +2,7 @@
 use Rattle.std.proofs.Common.{◌≡◌, ◌∙◌, ◌≤◌, ◌⊎◌, ℕ, Bool, true, false, Option, arith, inl, inr, refl, subst, sym}
 use Rattle.std.specs.Prelude.{None, Some, if◌then◌else◌}
 use Rattle.std.proofs.KnownBytes.{Keeps-refl}
-use Rattle.armus_words.specs.Words.{Text}
+use Rattle.command_line.specs.Words.{Text}
 use Rattle.armus_top.specs.Headline.{EndsWith, HasCountedFault, IsSound, Passage, ReadNoMore, no_memory, read_fault}
 use Rattle.armus_top.specs.declared.programs.TheConstants.{MAX_TEXT_BYTES}
 use Rattle.armus_top.specs.inside.Writing.{Finished}

@@ -19,12 +19,12 @@ use Rattle.pl_plan.specs.declared.fault.CheckFault.{CheckFault}
 use Rattle.clock_syntax.specs.Grammar.{IsClockText}
 use Rattle.clock_syntax.specs.Trees.{ClockTree}
 use Rattle.clock_syntax.proofs.ClockUnique.{not_both_clocks, one_clock_tree}
-use Rattle.clock_moves.specs.Unfolding.{ClockUnfolding, clock_plan_of, clock_unfolded, plan_of_moves}
-use Rattle.clock_moves.proofs.ClockPlanIsChecked.{clock_plan_is_checked}
-use Rattle.clock_text.proofs.TextEndsTold.{text_ends_are_told}
-use Rattle.clock_origins.proofs.Walked.{same_unfolding}
-use Rattle.clock_sayings.specs.ClockExplanations.{ExplainsActivities, waits_there}
-use Rattle.armus_words.specs.Words.{Text}
+use Rattle.clock_semantics.specs.Unfolding.{ClockUnfolding, clock_plan_of, clock_unfolded, plan_of_moves}
+use Rattle.clock_semantics.proofs.ClockPlanIsChecked.{clock_plan_is_checked}
+use Rattle.clock_laws.proofs.TextEndsTold.{text_ends_are_told}
+use Rattle.clock_source_map.proofs.Walked.{same_unfolding}
+use Rattle.explain_clock.specs.ClockExplanations.{ExplainsActivities, waits_there}
+use Rattle.command_line.specs.Words.{Text}
 use Rattle.armus_top.proofs.SomeBelow.{any_below, some_below}
 use Rattle.explain.specs.ClockExplained.{HasSomeClockFault, IsMaximalClockRun}
 use Rattle.explain.specs.Explained.{WaitsIn}

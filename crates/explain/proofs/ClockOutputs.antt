@@ -11,12 +11,12 @@ use Rattle.clock_syntax.specs.Grammar.{IsClockText}
 use Rattle.clock_syntax.specs.Trees.{ClockTree}
 use Rattle.clock_syntax.proofs.ClockTexts.{clock_tree_or_fault}
 use Rattle.clock_syntax.proofs.ClockUnique.{not_both_clocks, one_clock_fault, one_clock_tree}
-use Rattle.clock_moves.specs.Unfolding.{ClockUnfolding, clock_unfolded, plan_of_moves}
-use Rattle.clock_origins.specs.ClockOffsets.{clock_offsets}
-use Rattle.clock_sayings.specs.ClockExplanations.{ExplainsActivities}
-use Rattle.clock_sayings.specs.ClockRefusals.{clock_fault_lines, clock_syntax_lines}
-use Rattle.clock_sayings.proofs.OneExplanation.{clock_explanation_exists, one_clock_explanation}
-use Rattle.armus_words.specs.Words.{Text}
+use Rattle.clock_semantics.specs.Unfolding.{ClockUnfolding, clock_unfolded, plan_of_moves}
+use Rattle.clock_source_map.specs.ClockOffsets.{clock_offsets}
+use Rattle.explain_clock.specs.ClockExplanations.{ExplainsActivities}
+use Rattle.explain_clock.specs.ClockRefusals.{clock_fault_lines, clock_syntax_lines}
+use Rattle.explain_clock.proofs.OneExplanation.{clock_explanation_exists, one_clock_explanation}
+use Rattle.command_line.specs.Words.{Text}
 use Rattle.explain.specs.ClockExplained.{AnswersClock, ClockEndsSo, HasSomeClockFault, IsClockExplanationOf, IsClockRefusedWith, IsMaximalClockRun, IsClockStatusOf}
 use Rattle.explain.specs.Explained.{SomeWaits}
 use Rattle.explain.specs.calls.Laws.{EachHasOutput, IsOneOutput}

@@ -5,16 +5,16 @@ use Rattle.armus_base.specs.Runs.{IsMaximal, places}
 use Rattle.armus_base.specs.States.{Step}
 use Rattle.clock_syntax.specs.Grammar.{IsClockText}
 use Rattle.clock_syntax.specs.Trees.{ClockTree}
-use Rattle.clock_moves.specs.Unfolding.{ClockUnfolding, clock_unfolded, plan_of_moves}
-use Rattle.clock_sayings.proofs.OneExplanation.{clock_explanation_exists}
-use Rattle.step_lines.specs.SerialRuns.{IsSerialRun}
-use Rattle.step_lines.specs.calls.SerialRuns.{IsWholeSerialRun}
-use Rattle.step_lines.proofs.OneSerialRun.{one_serial_run}
-use Rattle.step_lines.proofs.SerialExists.{serial_run_exists}
-use Rattle.step_lines.proofs.SerialIsPlain.{serial_is_plain}
-use Rattle.clock_steps.specs.ShownClockSteps.{AreClockShown}
-use Rattle.clock_steps.proofs.OneClockShowing.{clock_showing_exists, one_clock_showing}
-use Rattle.armus_words.specs.Words.{Text}
+use Rattle.clock_semantics.specs.Unfolding.{ClockUnfolding, clock_unfolded, plan_of_moves}
+use Rattle.explain_clock.proofs.OneExplanation.{clock_explanation_exists}
+use Rattle.explain_steps.specs.SerialRuns.{IsSerialRun}
+use Rattle.explain_steps.specs.calls.SerialRuns.{IsWholeSerialRun}
+use Rattle.explain_steps.proofs.OneSerialRun.{one_serial_run}
+use Rattle.explain_steps.proofs.SerialExists.{serial_run_exists}
+use Rattle.explain_steps.proofs.SerialIsPlain.{serial_is_plain}
+use Rattle.explain_steps.specs.ShownClockSteps.{AreClockShown}
+use Rattle.explain_steps.proofs.OneClockShowing.{clock_showing_exists, one_clock_showing}
+use Rattle.command_line.specs.Words.{Text}
 use Rattle.explain.specs.ClockExplained.{IsClockExplanationOf, IsClockRefusedWith, IsClockStatusOf}
 use Rattle.explain.specs.ClockStepped.{AreClockStepsOf}
 use Rattle.explain.specs.Outputs.{AnswersStepsIn}

@@ -2,11 +2,11 @@
 use Rattle.std.proofs.Common.{◌++◌, ℕ, Bool, true, false, Option, inl, refl}
 use Rattle.std.specs.Prelude.{if◌then◌else◌}
 use Rattle.armus_base.specs.Plans.{Plan}
-use Rattle.explained_tasks.proofs.ExplanationExists.{explanation_exists}
-use Rattle.step_lines.proofs.SerialExists.{serial_run_exists}
-use Rattle.step_lines.proofs.SerialIsPlain.{serial_is_plain}
-use Rattle.step_lines.proofs.ShowingExists.{showing_exists}
-use Rattle.armus_words.specs.Words.{Text}
+use Rattle.explain_deadlock.proofs.ExplanationExists.{explanation_exists}
+use Rattle.explain_steps.proofs.SerialExists.{serial_run_exists}
+use Rattle.explain_steps.proofs.SerialIsPlain.{serial_is_plain}
+use Rattle.explain_steps.proofs.ShowingExists.{showing_exists}
+use Rattle.command_line.specs.Words.{Text}
 use Rattle.armus_top.specs.Programs.{IsPlanOf}
 use Rattle.armus_top.proofs.OnePlan.{checked_plan}
 use Rattle.explain.specs.calls.Laws.{EachHasOutput}

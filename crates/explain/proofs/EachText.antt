@@ -6,10 +6,10 @@ use Rattle.armus_base.proofs.MaximalExists.{maximal_exists}
 use Rattle.pl_plan.proofs.Unfolds.{fault_is_first}
 use Rattle.report.specs.declared.refusal.Refusal.{Refusal}
 use Rattle.report.specs.declared.refusal.Refusal.TheVariants.{Check, Length, Schedule, Syntax}
-use Rattle.check_refusals.proofs.TextRefusals.{has_refusal}
-use Rattle.explained_tasks.proofs.ExplanationExists.{explanation_exists}
-use Rattle.refusals.proofs.SomeStand.{some_refusal}
-use Rattle.armus_words.specs.Words.{Text}
+use Rattle.explain_check.proofs.TextRefusals.{has_refusal}
+use Rattle.explain_deadlock.proofs.ExplanationExists.{explanation_exists}
+use Rattle.explain_syntax.proofs.SomeStand.{some_refusal}
+use Rattle.command_line.specs.Words.{Text}
 use Rattle.armus_top.specs.Programs.{IsFaultOf, IsPlanOf}
 use Rattle.armus_top.proofs.OnePlan.{checked_plan}
 use Rattle.armus_top.proofs.WholeOutputs.{plan_or_refused}

@@ -2,17 +2,17 @@
 use Rattle.std.proofs.Common.{◌≡◌, ℕ, Option}
 use Rattle.std.specs.Prelude.{Ok, if◌then◌else◌}
 use Rattle.armus_base.specs.Plans.{Plan}
-use Rattle.accounts.specs.declared.account.Account.{Account}
+use Rattle.explain_facts.specs.declared.account.Account.{Account}
 use Rattle.pl_core.specs.calls.Worlds.{places_of}
 use Rattle.pl_plan.specs.Unfolding.{plan_of}
 use Rattle.pl_syntax.specs.Grammar.{IsText}
 use Rattle.pl_syntax.specs.declared.tree.Program.{Program}
-use Rattle.explained_tasks.specs.RunEnds.{IsAccountOf}
-use Rattle.refused_awaits.specs.calls.AvoidedRuns.{IsRunWithRefusals, IsExplainedRun}
-use Rattle.refused_awaits.specs.declared.avoiding.AvoidedRun.{AvoidedRun}
-use Rattle.refused_awaits.specs.declared.explaining.AvoidedExplanation.{AvoidedExplanation}
-use Rattle.refused_awaits.proofs.Explained.{avoided_explained}
-use Rattle.armus_words.specs.Words.{Text}
+use Rattle.explain_deadlock.specs.RunEnds.{IsAccountOf}
+use Rattle.explain_avoid.specs.calls.AvoidedRuns.{IsRunWithRefusals, IsExplainedRun}
+use Rattle.explain_avoid.specs.declared.avoiding.AvoidedRun.{AvoidedRun}
+use Rattle.explain_avoid.specs.declared.explaining.AvoidedExplanation.{AvoidedExplanation}
+use Rattle.explain_avoid.proofs.Explained.{avoided_explained}
+use Rattle.command_line.specs.Words.{Text}
 use Rattle.explain.specs.Avoided.{IsAvoidedOf}
 
 pub end_avoided : (file : Option Text) (text : Text) (p : Program) (plan : Plan) (r : AvoidedRun) (run : IsRunWithRefusals file text p plan r) → IsText text p

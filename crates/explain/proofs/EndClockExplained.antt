@@ -5,17 +5,17 @@ use mathlib.Core.Path.{fun_ext}
 use Rattle.armus_base.specs.Plans.{Plan}
 use Rattle.armus_base.specs.Runs.{IsMaximal, IsPlainRun, Place, places}
 use Rattle.pl_core.specs.calls.Worlds.{WorldValue, places_of}
-use Rattle.step_lines.specs.SerialRuns.{IsSerialRun}
-use Rattle.step_lines.specs.declared.stepping.SteppedRun.{SteppedRun}
+use Rattle.explain_steps.specs.SerialRuns.{IsSerialRun}
+use Rattle.explain_steps.specs.declared.stepping.SteppedRun.{SteppedRun}
 use Rattle.clock_syntax.specs.Grammar.{IsClockText}
 use Rattle.clock_syntax.specs.Trees.{ClockTree}
-use Rattle.clock_moves.specs.Unfolding.{ClockUnfolding, clock_plan_of, clock_unfolded, plan_of_moves}
-use Rattle.clock_sayings.specs.ClockExplanations.{ExplainsActivities}
-use Rattle.clock_sayings.specs.declared.explaining.ClockExplanation.{ClockExplanation}
-use Rattle.clock_steps.specs.ShownClockSteps.{AreClockShown}
-use Rattle.clock_steps.specs.calls.SteppedClocks.{IsSteppedClockRun}
+use Rattle.clock_semantics.specs.Unfolding.{ClockUnfolding, clock_plan_of, clock_unfolded, plan_of_moves}
+use Rattle.explain_clock.specs.ClockExplanations.{ExplainsActivities}
+use Rattle.explain_clock.specs.declared.explaining.ClockExplanation.{ClockExplanation}
+use Rattle.explain_steps.specs.ShownClockSteps.{AreClockShown}
+use Rattle.explain_steps.specs.calls.SteppedClocks.{IsSteppedClockRun}
 use Rattle.world_runs.specs.calls.EndWorlds.{IsEndWorld}
-use Rattle.armus_words.specs.Words.{Text}
+use Rattle.command_line.specs.Words.{Text}
 use Rattle.explain.specs.ClockExplained.{IsClockExplanationOf, IsMaximalClockRun}
 use Rattle.explain.specs.ClockStepped.{AreClockStepsOf}
 use Rattle.explain.proofs.ClockEnds.{clock_run}

@@ -9,16 +9,16 @@ use Rattle.pl_core.specs.calls.Worlds.{WorldValue, places_of}
 use Rattle.pl_plan.specs.Unfolding.{plan_of}
 use Rattle.pl_syntax.specs.Grammar.{IsText}
 use Rattle.pl_syntax.specs.declared.tree.Program.{Program}
-use Rattle.explained_tasks.specs.Explanations.{IsExplanationAt}
-use Rattle.explained_tasks.specs.calls.RunEnds.{WaitersStay}
-use Rattle.explained_tasks.specs.declared.explaining.Explanation.{Explanation}
-use Rattle.explained_tasks.proofs.RestsAtEnd.{rests_at_end}
-use Rattle.step_lines.specs.calls.SerialRuns.{IsWholeSerialRun}
-use Rattle.step_lines.specs.calls.SteppedRuns.{IsSteppedRun}
-use Rattle.step_lines.specs.declared.stepping.SteppedRun.{SteppedRun}
-use Rattle.step_lines.proofs.SerialIsPlain.{serial_is_plain}
+use Rattle.explain_deadlock.specs.Explanations.{IsExplanationAt}
+use Rattle.explain_deadlock.specs.calls.RunEnds.{WaitersStay}
+use Rattle.explain_deadlock.specs.declared.explaining.Explanation.{Explanation}
+use Rattle.explain_deadlock.proofs.RestsAtEnd.{rests_at_end}
+use Rattle.explain_steps.specs.calls.SerialRuns.{IsWholeSerialRun}
+use Rattle.explain_steps.specs.calls.SteppedRuns.{IsSteppedRun}
+use Rattle.explain_steps.specs.declared.stepping.SteppedRun.{SteppedRun}
+use Rattle.explain_steps.proofs.SerialIsPlain.{serial_is_plain}
 use Rattle.world_runs.specs.calls.EndWorlds.{IsEndWorld}
-use Rattle.armus_words.specs.Words.{Text}
+use Rattle.command_line.specs.Words.{Text}
 use Rattle.armus_top.specs.Programs.{IsPlanOf}
 use Rattle.armus_top.proofs.OnePlan.{checked_plan}
 use Rattle.explain.specs.Explained.{IsEndedRunOf, IsExplanationOf}

@@ -9,7 +9,7 @@ use Rattle.armus_base.proofs.OneEnd.{one_end}
 use Rattle.armus_base.proofs.OneSerialEnd.{one_serial_end}
 use Rattle.pl_plan.proofs.Unfolds.{fault_is_first}
 use Rattle.report.specs.declared.refusal.Refusal.TheVariants.{Check, Syntax}
-use Rattle.armus_words.specs.Words.{Text}
+use Rattle.command_line.specs.Words.{Text}
 use Rattle.armus_top.specs.Programs.{IsPlanOf}
 use Rattle.armus_top.specs.Headline.{EndsWith, IsCalm, Passage, no_memory, read_fault, whole, write_fault}
 use Rattle.armus_top.specs.declared.programs.TheConstants.{MAX_TEXT_BYTES}

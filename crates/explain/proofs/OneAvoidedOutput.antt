@@ -6,10 +6,10 @@ use Rattle.armus_base.specs.Serial.{IsSerialAvoidedEnd}
 use Rattle.armus_base.specs.States.{Step}
 use Rattle.armus_base.proofs.OneSerialEnd.{one_serial_end}
 use Rattle.world_runs.proofs.SerialExists.{serial_run_ends}
-use Rattle.refused_awaits.specs.AvoidedExplanations.{IsAvoidedExplanation}
-use Rattle.refused_awaits.proofs.AvoidedExists.{avoided_explanation_exists}
-use Rattle.refused_awaits.proofs.OneAvoided.{one_avoided_explanation}
-use Rattle.armus_words.specs.Words.{Text}
+use Rattle.explain_avoid.specs.AvoidedExplanations.{IsAvoidedExplanation}
+use Rattle.explain_avoid.proofs.AvoidedExists.{avoided_explanation_exists}
+use Rattle.explain_avoid.proofs.OneAvoided.{one_avoided_explanation}
+use Rattle.command_line.specs.Words.{Text}
 use Rattle.armus_top.specs.Programs.{IsPlanOf}
 use Rattle.armus_top.proofs.OnePlan.{checked_plan, one_plan}
 use Rattle.explain.specs.Avoided.{IsAvoidedOf}

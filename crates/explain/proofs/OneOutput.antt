@@ -5,11 +5,11 @@ use Rattle.armus_base.specs.Plans.{Plan}
 use Rattle.armus_base.specs.Runs.{IsMaximal, IsPlainRun, Place, places}
 use Rattle.armus_base.proofs.OneEnd.{one_end}
 use Rattle.pl_syntax.proofs.Unique.{text_or_fault}
-use Rattle.explained_tasks.specs.Explanations.{IsExplanationAt}
-use Rattle.explained_tasks.proofs.OneExplanation.{one_explanation}
-use Rattle.refusals.proofs.SomeStand.{one_refusal as one_syntax_refusal}
-use Rattle.check_refusals.proofs.OneRefusal.{one_refusal as one_check_refusal}
-use Rattle.armus_words.specs.Words.{Text}
+use Rattle.explain_deadlock.specs.Explanations.{IsExplanationAt}
+use Rattle.explain_deadlock.proofs.OneExplanation.{one_explanation}
+use Rattle.explain_syntax.proofs.SomeStand.{one_refusal as one_syntax_refusal}
+use Rattle.explain_check.proofs.OneRefusal.{one_refusal as one_check_refusal}
+use Rattle.command_line.specs.Words.{Text}
 use Rattle.armus_top.proofs.OnePlan.{checked_plan, one_plan}
 use Rattle.explain.specs.Explained.{IsExplanationOf}
 use Rattle.explain.specs.Outputs.{AnswersText}

@@ -3,12 +3,12 @@ use Rattle.std.proofs.Common.{◌≡◌, ◌∙◌, ◌++◌, ℕ, Bool, true, f
 use Rattle.armus_base.specs.Plans.{Plan}
 use Rattle.armus_base.specs.Runs.{IsMaximal}
 use Rattle.armus_base.specs.States.{Step}
-use Rattle.step_lines.specs.SerialRuns.{IsSerialRun}
-use Rattle.step_lines.specs.calls.SerialRuns.{IsWholeSerialRun}
-use Rattle.step_lines.specs.ShownSteps.{AreShown}
-use Rattle.step_lines.proofs.OneSerialRun.{one_serial_run}
-use Rattle.step_lines.proofs.OneShowing.{one_showing}
-use Rattle.armus_words.specs.Words.{Text}
+use Rattle.explain_steps.specs.SerialRuns.{IsSerialRun}
+use Rattle.explain_steps.specs.calls.SerialRuns.{IsWholeSerialRun}
+use Rattle.explain_steps.specs.ShownSteps.{AreShown}
+use Rattle.explain_steps.proofs.OneSerialRun.{one_serial_run}
+use Rattle.explain_steps.proofs.OneShowing.{one_showing}
+use Rattle.command_line.specs.Words.{Text}
 use Rattle.armus_top.proofs.OnePlan.{checked_plan, one_plan}
 use Rattle.explain.specs.calls.Laws.{IsOneOutput}
 use Rattle.explain.specs.Languages.{is_of_clocks}

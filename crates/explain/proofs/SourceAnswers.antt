@@ -3,8 +3,8 @@ use Rattle.std.proofs.Common.{◌≡◌, Bool, true, false, Option, Some, inl, i
 use Rattle.std.specs.Prelude.{IfOk, Result}
 use Rattle.std.proofs.lemmas.Result.{IfOk-weaker}
 use Rattle.armus_base.specs.declared.errors.NoMemory.{NoMemory}
-use Rattle.refusals.specs.LengthRefusals.{length_refusal}
-use Rattle.armus_words.specs.Words.{Text}
+use Rattle.explain_syntax.specs.LengthRefusals.{length_refusal}
+use Rattle.command_line.specs.Words.{Text}
 use Rattle.armus_top.specs.Headline.{GaveTooMuch, HasInput, IsSound, Passage}
 use Rattle.armus_top.specs.declared.programs.TheConstants.{MAX_TEXT_BYTES}
 use Rattle.armus_top.specs.inside.Status.{number_of_status}

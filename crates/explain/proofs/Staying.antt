@@ -18,15 +18,15 @@ use Rattle.armus_base.proofs.NobodyIsDead.{avoided_legal}
 use Rattle.armus_base.proofs.SerialIsAvoided.{serial_is_avoided}
 use Rattle.armus_base.proofs.Stepping.{places_fix}
 use Rattle.armus_base.proofs.Tasks.{action_of_task}
-use Rattle.accounts.proofs.Awaiting.{published_of}
+use Rattle.explain_facts.proofs.Awaiting.{published_of}
 use Rattle.report.specs.Standings.{AreStandings, Stands}
 use Rattle.report.specs.declared.standing.Standing.{Standing}
 use Rattle.report.specs.declared.standing.Standing.TheVariants as way
-use Rattle.refused_awaits.specs.AvoidedExplanations.{IsAvoidedExplanation}
-use Rattle.refused_awaits.specs.AvoidedWords.{was_refused, waits_at_the_end, somebody_stays}
-use Rattle.refused_awaits.proofs.StaysTold.{stays_by_standing, standing_stays}
-use Rattle.refused_awaits.proofs.ToldOnce.{refused_end}
-use Rattle.armus_words.specs.Words.{Text}
+use Rattle.explain_avoid.specs.AvoidedExplanations.{IsAvoidedExplanation}
+use Rattle.explain_avoid.specs.AvoidedWords.{was_refused, waits_at_the_end, somebody_stays}
+use Rattle.explain_avoid.proofs.StaysTold.{stays_by_standing, standing_stays}
+use Rattle.explain_avoid.proofs.ToldOnce.{refused_end}
+use Rattle.command_line.specs.Words.{Text}
 use Rattle.armus_top.specs.Programs.{IsPlanOf}
 use Rattle.armus_top.proofs.OnePlan.{checked_plan}
 use Rattle.explain.specs.Avoided.{SomeStays}

@@ -2,8 +2,8 @@
 use Rattle.std.proofs.Common.{◌≡◌, ◌∙◌, ℕ, ◌<◌, Bool, true, Option, Some, List, length, ap, inl, inr, refl, subst, sym}
 use Rattle.std.specs.Prelude.{◌↔◌, Contains, slice_index_or}
 use Rattle.std.proofs.lemmas.Option.{get_or_from_slice_get}
-use Rattle.accounts.specs.declared.account.Forked.{Forked}
-use Rattle.accounts.proofs.Awaiting.{published_of}
+use Rattle.explain_facts.specs.declared.account.Forked.{Forked}
+use Rattle.explain_facts.proofs.Awaiting.{published_of}
 use Rattle.armus_base.specs.Deadlocks.{IsDeadBy}
 use Rattle.armus_base.specs.declared.ending.TaskEnd.{TaskEnd}
 use Rattle.armus_base.specs.declared.ending.TaskEnd.TheVariants as ends
@@ -21,13 +21,13 @@ use Rattle.armus_base.proofs.Stepping.{places_fix}
 use Rattle.report.specs.Standings.{AreStandings, Stands}
 use Rattle.report.specs.declared.standing.Standing.{Standing}
 use Rattle.report.specs.declared.standing.Standing.TheVariants as way
-use Rattle.explained_tasks.specs.Explanations.{Explains, IsExplanationAt}
-use Rattle.task_sayings.specs.Facts.{FactsValue, forking_of, is_waiting, situation_by, situation_of, tasks_that}
-use Rattle.task_sayings.proofs.Filters.{passed_from}
-use Rattle.explained_tasks.proofs.SomebodyWaits.{waits}
-use Rattle.explained_tasks.proofs.Starts.{that_is}
-use Rattle.explained_tasks.proofs.TasksThat.{task_below}
-use Rattle.armus_words.specs.Words.{Text}
+use Rattle.explain_deadlock.specs.Explanations.{Explains, IsExplanationAt}
+use Rattle.explain_tasks.specs.Facts.{FactsValue, forking_of, is_waiting, situation_by, situation_of, tasks_that}
+use Rattle.explain_tasks.proofs.Filters.{passed_from}
+use Rattle.explain_deadlock.proofs.SomebodyWaits.{waits}
+use Rattle.explain_deadlock.proofs.Starts.{that_is}
+use Rattle.explain_deadlock.proofs.TasksThat.{task_below}
+use Rattle.command_line.specs.Words.{Text}
 use Rattle.armus_top.proofs.OnePlan.{checked_plan}
 use Rattle.explain.specs.Explained.{IsEndedRunOf, WaitsIn}
 

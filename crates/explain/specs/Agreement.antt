@@ -2,11 +2,11 @@
 use Rattle.std.specs.Prelude.{◌≡◌, ◌++◌, ℕ, List, Option}
 use Rattle.armus_base.specs.declared.ids.TaskId.{TaskId}
 use Rattle.adaptive.specs.declared.analysis.Wanted.{Wanted}
-use Rattle.explained_tasks.specs.declared.outcome.WaitVerdict.TheVariants.{Circle}
+use Rattle.explain_deadlock.specs.declared.outcome.WaitVerdict.TheVariants.{Circle}
 use Rattle.report.specs.Counts.{counts_of}
 use Rattle.report.specs.declared.standing.Standing.{Standing}
 use Rattle.report.specs.Lines.{counts_line, cycle_line}
-use Rattle.armus_words.specs.Words.{Text}
+use Rattle.command_line.specs.Words.{Text}
 use Rattle.armus_top.specs.Runs.{IsRunOf as IsReportedRun}
 use Rattle.explain.specs.Explained.{IsExplanationOf}
 

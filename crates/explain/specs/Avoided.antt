@@ -5,10 +5,10 @@ use Rattle.armus_base.specs.Plans.{Plan}
 use Rattle.armus_base.specs.Runs.{state_after}
 use Rattle.armus_base.specs.Serial.{IsSerialAvoidedEnd}
 use Rattle.armus_base.specs.States.{State, Step}
-use Rattle.armus_words.specs.Words.{Text}
+use Rattle.command_line.specs.Words.{Text}
 use Rattle.armus_top.specs.Programs.{IsPlanOf}
 use Rattle.explain.specs.Explained.{WaitsIn}
-use Rattle.refused_awaits.specs.AvoidedExplanations.{IsAvoidedExplanation}
+use Rattle.explain_avoid.specs.AvoidedExplanations.{IsAvoidedExplanation}
 
 -- The lines explain the serial avoided run of a text, of the file with this name or of none: its refusals, and how its tasks stand where it has ended; and the
 -- status is 1 where by them somebody was refused or waits for ever, else 0.

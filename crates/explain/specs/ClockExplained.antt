@@ -6,12 +6,12 @@ use Rattle.pl_syntax.specs.declared.fault.SyntaxFault.{SyntaxFault}
 use Rattle.pl_plan.specs.declared.fault.CheckFault.{CheckFault}
 use Rattle.clock_syntax.specs.Grammar.{HasClockFault, IsClockText}
 use Rattle.clock_syntax.specs.Trees.{ClockTree}
-use Rattle.clock_moves.specs.Unfolding.{ClockUnfolding, clock_unfolded, plan_of_moves}
-use Rattle.clock_text.specs.TextLaws.{EndsAreTold}
-use Rattle.clock_origins.specs.ClockOffsets.{clock_offsets}
-use Rattle.clock_sayings.specs.ClockExplanations.{ExplainsActivities}
-use Rattle.clock_sayings.specs.ClockRefusals.{clock_fault_lines, clock_syntax_lines}
-use Rattle.armus_words.specs.Words.{Text}
+use Rattle.clock_semantics.specs.Unfolding.{ClockUnfolding, clock_unfolded, plan_of_moves}
+use Rattle.clock_laws.specs.TextLaws.{EndsAreTold}
+use Rattle.clock_source_map.specs.ClockOffsets.{clock_offsets}
+use Rattle.explain_clock.specs.ClockExplanations.{ExplainsActivities}
+use Rattle.explain_clock.specs.ClockRefusals.{clock_fault_lines, clock_syntax_lines}
+use Rattle.command_line.specs.Words.{Text}
 use Rattle.explain.specs.Explained.{IsStatusBy, SomeWaits}
 
 -- The text is this clock program, which has this unfolding, and these steps are a run of the unfolding's plan up to its end. Where it ends, each task has

@@ -3,11 +3,11 @@ use Rattle.std.specs.Prelude.{◌≡◌, ◌++◌, ℕ, Bool, if◌then◌else�
 use Rattle.armus_base.specs.Runs.{places}
 use Rattle.armus_base.specs.States.{Step}
 use Rattle.clock_syntax.specs.Trees.{ClockTree}
-use Rattle.clock_moves.specs.Unfolding.{ClockUnfolding, plan_of_moves}
-use Rattle.clock_sayings.specs.ClockExplanations.{ExplainsActivities}
-use Rattle.step_lines.specs.SerialRuns.{IsSerialRun}
-use Rattle.clock_steps.specs.ShownClockSteps.{AreClockShown}
-use Rattle.armus_words.specs.Words.{Text}
+use Rattle.clock_semantics.specs.Unfolding.{ClockUnfolding, plan_of_moves}
+use Rattle.explain_clock.specs.ClockExplanations.{ExplainsActivities}
+use Rattle.explain_steps.specs.SerialRuns.{IsSerialRun}
+use Rattle.explain_steps.specs.ShownClockSteps.{AreClockShown}
+use Rattle.command_line.specs.Words.{Text}
 use Rattle.explain.specs.ClockExplained.{IsMaximalClockRun}
 
 -- The lines show the steps of the serial plain run of a clock text, of the file with this name or of none, and then explain how its activities stand where this

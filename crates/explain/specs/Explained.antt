@@ -4,8 +4,8 @@ use Rattle.armus_base.specs.declared.event.Event.{Event}
 use Rattle.armus_base.specs.Plans.{Plan}
 use Rattle.armus_base.specs.Runs.{IsMaximal, IsPlainRun, places, state_after}
 use Rattle.armus_base.specs.States.{State, Step}
-use Rattle.explained_tasks.specs.Explanations.{IsExplanationAt}
-use Rattle.armus_words.specs.Words.{Text}
+use Rattle.explain_deadlock.specs.Explanations.{IsExplanationAt}
+use Rattle.command_line.specs.Words.{Text}
 use Rattle.armus_top.specs.Programs.{IsPlanOf}
 
 -- these steps are a run of the text's plan up to its end: a plain one that is maximal

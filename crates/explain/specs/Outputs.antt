@@ -1,8 +1,8 @@
 -- What a call of the program that explains texts leaves.
 use Rattle.std.specs.Prelude.{◌≡◌, ◌⊎◌, ℕ, Bool, true, false, Some, Option, None}
 use Rattle.std.specs.Io.KnownBytes.{Keeps}
-use Rattle.refusals.specs.LengthRefusals.{length_refusal}
-use Rattle.armus_words.specs.Words.{Text}
+use Rattle.explain_syntax.specs.LengthRefusals.{length_refusal}
+use Rattle.command_line.specs.Words.{Text}
 use Rattle.armus_top.specs.Headline.{EndsWith, GaveTooMuch, HasInput, IsCalm, Offers, OffersTooMuch, Passage}
 use Rattle.armus_top.specs.declared.programs.TheConstants.{MAX_TEXT_BYTES}
 use Rattle.explain.specs.ClockExplained.{AnswersClock, IsClockRefusedWith, IsClockStatusOf}

@@ -3,9 +3,9 @@ use Rattle.std.specs.Prelude.{◌⊎◌, Option}
 use Rattle.pl_syntax.specs.declared.fault.SyntaxFault.{SyntaxFault}
 use Rattle.pl_syntax.specs.declared.tree.Program.{Program}
 use Rattle.report.specs.declared.refusal.Refusal.{Refusal}
-use Rattle.refusals.specs.SyntaxRefusals.{IsSyntaxRefusal}
-use Rattle.check_refusals.specs.CheckRefusals.{IsCheckRefusal}
-use Rattle.armus_words.specs.Words.{Text}
+use Rattle.explain_syntax.specs.SyntaxRefusals.{IsSyntaxRefusal}
+use Rattle.explain_check.specs.CheckRefusals.{IsCheckRefusal}
+use Rattle.command_line.specs.Words.{Text}
 use Rattle.armus_top.specs.Programs.{IsFaultOf}
 
 -- the lines of a text, of the file with this name or of none, that is not too long and is refused: for its first syntax fault, or else its first check fault

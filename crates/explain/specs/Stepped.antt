@@ -3,11 +3,11 @@ use Rattle.std.specs.Prelude.{◌≡◌, ◌++◌, ℕ, Bool, if◌then◌else�
 use Rattle.armus_base.specs.Plans.{Plan}
 use Rattle.armus_base.specs.Runs.{places}
 use Rattle.armus_base.specs.States.{Step}
-use Rattle.explained_tasks.specs.Explanations.{IsExplanationAt}
+use Rattle.explain_deadlock.specs.Explanations.{IsExplanationAt}
 use Rattle.pl_syntax.specs.declared.tree.Program.{Program}
-use Rattle.step_lines.specs.SerialRuns.{IsSerialRun}
-use Rattle.step_lines.specs.ShownSteps.{AreShown}
-use Rattle.armus_words.specs.Words.{Text}
+use Rattle.explain_steps.specs.SerialRuns.{IsSerialRun}
+use Rattle.explain_steps.specs.ShownSteps.{AreShown}
+use Rattle.command_line.specs.Words.{Text}
 use Rattle.explain.specs.Explained.{IsEndedRunOf}
 
 -- The lines show the steps of the serial plain run of a text, of the file with this name or of none, and then explain how its tasks stand where this run has

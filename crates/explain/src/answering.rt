@@ -17,7 +17,7 @@ use armus_top::MAX_TEXT_BYTES;
 use pl_plan::{PlanEnd, unfold};
 use pl_syntax::{ParseEnd, Program, parse};
 use std::alloc::Global;
-use text_places::TextPlaces;
+use source_map::TextPlaces;
 
 // The whole output for the text with these places, which is this program.
 fn answer_program(

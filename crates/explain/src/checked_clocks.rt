@@ -1,8 +1,8 @@
 // What is written of a clock text that is not refused.
 ghost use Rattle.std.specs.Prelude.{◌≡◌, IfOk, Ok};
 ghost use Rattle.armus_base.specs.Finals.{final_of};
-ghost use Rattle.clock_moves.specs.Unfolding.{ClockUnfolding, clock_unfolded};
-ghost use Rattle.clock_sayings.specs.ClockExplanations.{ExplainsActivities};
+ghost use Rattle.clock_semantics.specs.Unfolding.{ClockUnfolding, clock_unfolded};
+ghost use Rattle.explain_clock.specs.ClockExplanations.{ExplainsActivities};
 ghost use Rattle.pl_core.specs.calls.Worlds.{places_of, state_of};
 ghost use Rattle.armus_top.specs.inside.Status.{number_of_status};
 ghost use Rattle.explain.specs.ClockExplained.{IsClockExplanationOf};
@@ -15,11 +15,11 @@ use crate::answer::{Answer, ClockWanted, with_steps};
 use armus_base::{Final, NoMemory, Plan};
 use armus_top::status_of;
 use clock_pl::ClockProgram;
-use clock_sayings::{ClockExplanation, clock_explanation_of};
-use clock_steps::clock_steps_through;
+use explain_clock::{ClockExplanation, clock_explanation_of};
+use explain_steps::clock_steps_through;
 use pl_core::World;
 use std::alloc::Global;
-use text_places::TextPlaces;
+use source_map::TextPlaces;
 use world_runs::run_to_world;
 
 /// What is known of a clock text that is not refused.

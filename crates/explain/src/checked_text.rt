@@ -3,8 +3,8 @@ ghost use Rattle.std.specs.Prelude.{◌≡◌, IfOk};
 ghost use Rattle.armus_base.specs.Finals.{final_of};
 ghost use Rattle.pl_core.specs.calls.Worlds.{places_of, state_of};
 ghost use Rattle.pl_plan.specs.Forks.{fork_statements};
-ghost use Rattle.explained_tasks.specs.Explanations.{IsExplanationAt};
-ghost use Rattle.explained_tasks.specs.RunEnds.{IsAccountOf};
+ghost use Rattle.explain_deadlock.specs.Explanations.{IsExplanationAt};
+ghost use Rattle.explain_deadlock.specs.RunEnds.{IsAccountOf};
 ghost use Rattle.world_runs.specs.calls.EndWorlds.{IsEndWorld};
 ghost use Rattle.armus_top.specs.inside.Status.{number_of_status};
 ghost use Rattle.explain.specs.Avoided.{IsAvoidedOf};
@@ -15,17 +15,17 @@ ghost use Rattle.explain.specs.inside.Checked.{IsCheckedText};
 ghost use Rattle.explain.specs.inside.Ending.{IsPlAnswerTo};
 
 use crate::answer::{Answer, PlWanted, with_steps};
-use accounts::{Account, account_of};
+use explain_facts::{Account, account_of};
 use armus_base::{Final, NoMemory};
 use armus_top::status_of;
-use explained_tasks::{Explanation, explanation_of};
+use explain_deadlock::{Explanation, explanation_of};
 use pl_core::World;
 use pl_plan::Unfolded;
 use pl_syntax::Program;
-use refused_awaits::{avoid_through, avoided_explanation_of};
+use explain_avoid::{avoid_through, avoided_explanation_of};
 use std::alloc::Global;
-use step_lines::step_through;
-use text_places::TextPlaces;
+use explain_steps::step_through;
+use source_map::TextPlaces;
 use world_runs::run_to_world;
 
 /// What is known of a text of PL that is not refused.

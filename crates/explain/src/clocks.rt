@@ -2,7 +2,7 @@
 ghost use Rattle.std.specs.Prelude.{◌≡◌, ◌≤◌, Err, IfOk, length};
 ghost use Rattle.clock_syntax.specs.Grammar.{IsClockText};
 ghost use Rattle.clock_syntax.specs.Trees.{clock_count};
-ghost use Rattle.clock_moves.specs.Unfolding.{clock_plan_of};
+ghost use Rattle.clock_semantics.specs.Unfolding.{clock_plan_of};
 ghost use Rattle.armus_top.specs.declared.programs.TheConstants.{MAX_TEXT_BYTES};
 ghost use Rattle.clock_pl.specs.calls.ClockPlanning.{as_fault};
 ghost use Rattle.explain.specs.inside.Ending.{IsClockAnswerTo, IsClockRefusalOf};
@@ -13,10 +13,10 @@ use crate::checked_clocks::CheckedClocks;
 use crate::refusing::refused;
 use armus_base::NoMemory;
 use clock_pl::{ClockEnd, ClockFault, ClockProgram, clock_parse, clock_plan};
-use clock_sayings::{clock_fault_refusal, clock_syntax_refusal};
+use explain_clock::{clock_fault_refusal, clock_syntax_refusal};
 use pl_syntax::ParseEnd;
 use std::alloc::Global;
-use text_places::TextPlaces;
+use source_map::TextPlaces;
 
 // The refusal of the clock text of this program, whose unfolding has this first fault.
 fn refuse_unfolding(

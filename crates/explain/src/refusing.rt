@@ -1,11 +1,11 @@
 // The lines of a text that is refused.
 ghost use Rattle.std.specs.Prelude.{◌≡◌, ◌≤◌, Err, IfOk, length};
-ghost use Rattle.check_scenes.specs.Scenes.{IsScene};
+ghost use Rattle.explain_check.specs.Scenes.{IsScene};
 ghost use Rattle.pl_plan.specs.Unfolding.{plan_of};
 ghost use Rattle.pl_plan.specs.declared.fault.CheckFault.{CheckFault as Fault};
 ghost use Rattle.pl_syntax.specs.Grammar.{HasFault, IsText};
 ghost use Rattle.pl_syntax.specs.Tree.{count};
-ghost use Rattle.refusals.specs.LengthRefusals.{length_refusal};
+ghost use Rattle.explain_syntax.specs.LengthRefusals.{length_refusal};
 ghost use Rattle.armus_top.specs.declared.programs.TheConstants.{MAX_TEXT_BYTES};
 ghost use Rattle.armus_top.specs.inside.Status.{number_of_status};
 ghost use Rattle.explain.specs.inside.Ending.{IsRefusalOf};
@@ -14,12 +14,12 @@ ghost use Rattle.explain.specs.calls.Requested.{file_bytes};
 use crate::answer::Answer;
 use armus_base::{List, NoMemory};
 use armus_top::ExitStatus;
-use check_refusals::{Statements, check_refusal};
-use check_scenes::{Scene, scene_of};
+use explain_check::{Statements, check_refusal};
+use explain_check::{Scene, scene_of};
 use pl_syntax::{Program, SyntaxFault, statement_offsets};
-use refusals::{length_refusal, syntax_refusal};
+use explain_syntax::{length_refusal, syntax_refusal};
 use std::alloc::Global;
-use text_places::TextPlaces;
+use source_map::TextPlaces;
 
 /// A refusal with these lines.
 pub(crate) fn refused(lines: List<u8>) -> Answer

@@ -18,8 +18,8 @@ use Rattle.board.specs.calls.Views.{avoids, own_place, seen}
 use Rattle.board.specs.calls.Words.{IsShown}
 use Rattle.board.proofs.Seated.{event_here}
 use Rattle.phase_scan.specs.calls.Looks.{LoadsAlone}
-use Rattle.board_rounds.specs.calls.Turns.{EndsTurn, EndsTurnWithin, StandsAtAwait, Working, is_behind, is_done, is_locked_out, is_refused, standing_of}
-use Rattle.board_rounds.specs.calls.TaskSeats.{ArePlacesOf, AreTaskSeats, IsSeatIn, KnowsTasks, number}
+use Rattle.board_runs.specs.calls.Turns.{EndsTurn, EndsTurnWithin, StandsAtAwait, Working, is_behind, is_done, is_locked_out, is_refused, standing_of}
+use Rattle.board_runs.specs.calls.TaskSeats.{ArePlacesOf, AreTaskSeats, IsSeatIn, KnowsTasks, number}
 use Rattle.task_runner.specs.calls.DetectRuns.{AreSettledPlaces}
 use Rattle.task_runner.proofs.BoardPlaces.{at_places, stands, whose}
 use Rattle.task_runner.proofs.EndedTurns.{HasEndedTurn}

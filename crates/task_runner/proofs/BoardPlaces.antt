@@ -28,9 +28,9 @@ use Rattle.board.proofs.Seated.{event_here, next_there}
 use Rattle.board.proofs.Walking.{published_is}
 use Rattle.phase_scan.specs.calls.Looks.{LoadsAlone}
 use Rattle.phase_scan.proofs.Loads.{goes_itself}
-use Rattle.board_rounds.specs.calls.Turns.{EndsTurn, EndsTurnWithin, HasLeftAll, StandsAtAwait, Working, is_behind, is_done, is_locked_out, is_refused, standing_of}
-use Rattle.board_rounds.specs.calls.TaskSeats.{ArePlacesOf, IsClosed, AreTaskSeats, AreTaskSeatsOf, IsSeatIn, KnowsTasks, number}
-use Rattle.board_rounds.proofs.Closed.{all_exact}
+use Rattle.board_runs.specs.calls.Turns.{EndsTurn, EndsTurnWithin, HasLeftAll, StandsAtAwait, Working, is_behind, is_done, is_locked_out, is_refused, standing_of}
+use Rattle.board_runs.specs.calls.TaskSeats.{ArePlacesOf, IsClosed, AreTaskSeats, AreTaskSeatsOf, IsSeatIn, KnowsTasks, number}
+use Rattle.board_runs.proofs.Closed.{all_exact}
 use Rattle.task_runner.proofs.EndedTurns.{HasEndedTurn}
 
 module _ (f : Frame) (mode : Mode) (tasks : List Working) (board_tasks : AreTaskSeats f (IsSeatIn tasks)) (before now : Known) (known : KnowsTasks f tasks before)

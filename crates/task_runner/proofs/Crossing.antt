@@ -11,8 +11,8 @@ use Rattle.std.proofs.Crossing.{crosses}
 use Rattle.std.proofs.alloc.Global.TheSendSync as heap
 use Rattle.board.specs.contracts.board.Board as boards
 use Rattle.board.proofs.Sending.{board_sync}
-use Rattle.board_rounds.proofs.Crossing.{plan_sync, task_send, worker_cells_send}
-use Rattle.board_rounds.specs.contracts.board_tasks.BoardTasks as board_tasks_rows
+use Rattle.board_runs.proofs.Crossing.{plan_sync, task_send, worker_cells_send}
+use Rattle.board_runs.specs.contracts.board_tasks.BoardTasks as board_tasks_rows
 use Rattle.task_runner.specs.contracts.board_run.BoardRun as runs
 
 -- the tasks of a run may be handed to a thread

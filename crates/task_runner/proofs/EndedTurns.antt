@@ -2,10 +2,10 @@
 use Rattle.std.proofs.Common.{◌⊎◌, ℕ, Bool, get_or, inl, inr}
 use Rattle.std.specs.Prelude.{All, Contains}
 use Rattle.board.specs.calls.Seats.{Frame, Known}
-use Rattle.board_rounds.specs.calls.Turns.{ActsNoMore, EndsTurnWithin, Working, is_done, is_refused, loads_between}
-use Rattle.board_rounds.specs.calls.TaskSeats.{Tasks, all_of}
-use Rattle.board_rounds.specs.calls.Rounds.{HasTakenTurn}
-use Rattle.board_rounds.proofs.Between.{to_each}
+use Rattle.board_runs.specs.calls.Turns.{ActsNoMore, EndsTurnWithin, Working, is_done, is_refused, loads_between}
+use Rattle.board_runs.specs.calls.TaskSeats.{Tasks, all_of}
+use Rattle.board_runs.specs.calls.Rounds.{HasTakenTurn}
+use Rattle.board_runs.proofs.Between.{to_each}
 use Rattle.task_runner.specs.inside.BoardRuns.{HaveAllEnded, bound_on}
 
 -- the seat stands where a turn of it has ended, with this bound on so many loads

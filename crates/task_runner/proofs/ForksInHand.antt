@@ -9,9 +9,9 @@ use Rattle.armus_base.specs.declared.op.Op.TheVariants.{Make, Reg, Fork, Adv, Dr
 use Rattle.armus_base.specs.Plans.{Plan, action_at, actions, actions_of, code_of}
 use Rattle.armus_base.proofs.Elements.{Contains-head}
 use Rattle.armus_base.proofs.Lists.{slice_get-set_other}
-use Rattle.board_rounds.specs.calls.Turns.{Working}
-use Rattle.board_rounds.specs.calls.TaskSeats.{done_of, number}
-use Rattle.board_rounds.proofs.Between.{to_each}
+use Rattle.board_runs.specs.calls.Turns.{Working}
+use Rattle.board_runs.specs.calls.TaskSeats.{done_of, number}
+use Rattle.board_runs.proofs.Between.{to_each}
 use Rattle.task_runner.specs.inside.Pooled.{AreForksMarked, AreClosedUnderForks, ContainsTask}
 
 -- one op ahead of a code

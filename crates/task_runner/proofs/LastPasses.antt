@@ -19,9 +19,9 @@ use Rattle.board.specs.calls.Views.{seen}
 use Rattle.phase_scan.specs.calls.Looks.{LoadsAlone}
 use Rattle.phase_scan.proofs.Loads.{prefix_both}
 use Rattle.phase_scan.specs.calls.Settled.{KnowsAll, seen_state}
-use Rattle.board_rounds.specs.calls.Turns.{Working}
-use Rattle.board_rounds.specs.calls.TaskSeats.{ArePlacesOf, AreTaskSeats, IsSeatIn, KnowsTasks}
-use Rattle.board_rounds.proofs.Closed.{all_exact, all_places}
+use Rattle.board_runs.specs.calls.Turns.{Working}
+use Rattle.board_runs.specs.calls.TaskSeats.{ArePlacesOf, AreTaskSeats, IsSeatIn, KnowsTasks}
+use Rattle.board_runs.proofs.Closed.{all_exact, all_places}
 use Rattle.collector.specs.calls.Passes.{HasDeadOf}
 use Rattle.task_runner.specs.inside.LiveReporters.{HasPassed, Telling}
 use Rattle.task_runner.proofs.BoardEnds.{there}

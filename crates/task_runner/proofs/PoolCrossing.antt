@@ -6,8 +6,8 @@ use denote.Struct.Field.{shr_ref_field}
 use denote.Struct.Tuple.{TupleAt}
 use denote.Param.Send.{IsSend, IsSync, sendable}
 use Rattle.std.proofs.Common.{[], ◌∷◌}
-use Rattle.board_rounds.proofs.Crossing.{setting_sync}
-use Rattle.board_rounds.specs.contracts.rounds.TurnSetting as settings
+use Rattle.board_runs.proofs.Crossing.{setting_sync}
+use Rattle.board_runs.specs.contracts.rounds.TurnSetting as settings
 use Rattle.slot_pool.specs.declared.named.Named.{Ghosts}
 use Rattle.slot_pool.specs.contracts.pool.Pool as pools
 use Rattle.slot_pool.proofs.Sending.{pool_sync}

@@ -12,10 +12,10 @@ use Rattle.board.specs.calls.Closing.{AreLastOf}
 use Rattle.board.specs.calls.Seats.{Frame, IsNewSeat, IsOf, Known, nothing_seen}
 use Rattle.board.specs.calls.Views.{seen}
 use Rattle.phase_scan.specs.calls.Looks.{LoadsAlone}
-use Rattle.board_rounds.specs.calls.Turns.{Working}
-use Rattle.board_rounds.specs.calls.TaskSeats.{ArePlacesOf, AreTaskSeats, IsTaskSeat, IsSeatIn, KnowsTasks}
-use Rattle.board_rounds.specs.calls.Endings.{TakesAll}
-use Rattle.board_rounds.proofs.Noting.{knows}
+use Rattle.board_runs.specs.calls.Turns.{Working}
+use Rattle.board_runs.specs.calls.TaskSeats.{ArePlacesOf, AreTaskSeats, IsTaskSeat, IsSeatIn, KnowsTasks}
+use Rattle.board_runs.specs.calls.Endings.{TakesAll}
+use Rattle.board_runs.proofs.Noting.{knows}
 use Rattle.task_runner.specs.inside.Pooled.{AreClosedUnderForks}
 use Rattle.task_runner.proofs.BoardEnds.{plain, reachable}
 use Rattle.task_runner.proofs.PooledTasks.{whole_task_seats}

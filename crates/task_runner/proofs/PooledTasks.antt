@@ -7,11 +7,11 @@ use Rattle.armus_base.specs.calls.Seats.{seen_by_child}
 use Rattle.armus_base.proofs.Elements.{Contains-head}
 use Rattle.board.specs.calls.Views.{own_place, task_of}
 use Rattle.board.specs.calls.Seats.{Frame, IsNewSeat, IsOf, Known, nothing_seen}
-use Rattle.board_rounds.specs.calls.Turns.{Acts, AreChildSeats, IsChildSeat, Working, tasks_forked}
-use Rattle.board_rounds.specs.calls.TaskSeats.{HasSeatOf, AreTaskSeats, IsTaskSeat, IsSeatIn, number}
-use Rattle.board_rounds.proofs.Between.{all_from, first_task_seats, to_each}
-use Rattle.board_rounds.proofs.TaskSeatsKept.{child_is, goes_with_seats}
-use Rattle.board_rounds.proofs.Goings.{task_is}
+use Rattle.board_runs.specs.calls.Turns.{Acts, AreChildSeats, IsChildSeat, Working, tasks_forked}
+use Rattle.board_runs.specs.calls.TaskSeats.{HasSeatOf, AreTaskSeats, IsTaskSeat, IsSeatIn, number}
+use Rattle.board_runs.proofs.Between.{all_from, first_task_seats, to_each}
+use Rattle.board_runs.proofs.TaskSeatsKept.{child_is, goes_with_seats}
+use Rattle.board_runs.proofs.Goings.{task_is}
 use Rattle.task_runner.specs.inside.Pooled.{AreClosedUnderForks, IsForked, ContainsTask, IsPooled}
 
 pub acted : (f : Frame) (own : List Action) (a b : Working) → IsPooled f a → Acts f own a b → IsTaskSeat f b.seat

@@ -27,7 +27,7 @@ use Rattle.board.specs.calls.Steps.{IsSameSeat}
 use Rattle.board.proofs.Closing.{some_task}
 use Rattle.phase_scan.specs.calls.Collects.{IsCollect}
 use Rattle.phase_scan.specs.calls.Looks.{LoadsAlone}
-use Rattle.board_rounds.proofs.Between.{all_from}
+use Rattle.board_runs.proofs.Between.{all_from}
 use Rattle.collector.specs.calls.Passes.{Watch}
 use Rattle.task_runner.specs.inside.LiveReporters.{TellsMore, Telling, Watches}
 use Rattle.task_runner.specs.declared.ran.RunEnd.{RunEnd}

@@ -3,7 +3,7 @@ ghost use Rattle.std.specs.Prelude.{◌≡◌, OnOk};
 
 use armus_base::NoMemory;
 use board::Board;
-use board_rounds::Calls;
+use board_runs::Calls;
 use std::alloc::Global;
 
 /// Who makes a pass beside each round of a run on a board, and works on something in it.

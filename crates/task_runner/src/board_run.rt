@@ -4,7 +4,7 @@ ghost use Rattle.armus_base.specs.calls.Boards.{IsLawful};
 ghost use Rattle.armus_base.specs.calls.Seats.{seen_by_child};
 ghost use Rattle.board.specs.calls.Seats.{IsNewSeat, IsOf, IsSeat, nothing_seen};
 ghost use Rattle.board.specs.calls.Views.{avoids, seen};
-ghost use Rattle.board_rounds.specs.calls.TaskSeats.{left_to};
+ghost use Rattle.board_runs.specs.calls.TaskSeats.{left_to};
 ghost use Rattle.pl_core.specs.calls.Worlds.{places_at};
 ghost use Rattle.task_runner.specs.inside.BoardRuns.{HasHadRound, HaveAllEnded, IsOnBoard};
 
@@ -14,7 +14,7 @@ use crate::leaving::{bound_on_loads, goes_on};
 use armus_base::{Gate, List, NoMemory, Plan};
 use avoider::Judging;
 use board::{Board, TaskSeat, ViewSeat};
-use board_rounds::{BoardTasks, Rounded, TurnSetting};
+use board_runs::{BoardTasks, Rounded, TurnSetting};
 use pl_core::Place;
 use std::alloc::Global;
 use std::thread::{Threads, join_mut};

@@ -3,7 +3,7 @@ ghost use Rattle.std.specs.Prelude.{◌≡◌, ◌<◌, true, false};
 ghost use Rattle.task_runner.specs.inside.BoardRuns.{bound_on};
 
 use board::{Board, Mode};
-use board_rounds::Rounded;
+use board_runs::Rounded;
 
 /// How many words the awaits of a run may load on a board, before the run leaves it.
 pub(crate) const MANY_LOADS: u64 = 1 << 24;

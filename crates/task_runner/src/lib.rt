@@ -17,7 +17,7 @@ mod site_runs;
 mod viewers;
 
 pub use avoided::{run_avoid, run_avoid_kept};
-pub use board_rounds::{Task, round};
+pub use board_runs::{Task, round};
 pub use detect::run_detect;
 pub use pool::run_pool;
 pub use ran::{Ran, RunEnd};

@@ -7,7 +7,7 @@ ghost use Rattle.board.specs.calls.Closing.{AreLastOf};
 ghost use Rattle.board.specs.calls.Seats.{IsNewSeat, IsOf, nothing_seen};
 ghost use Rattle.board.specs.calls.Views.{seen};
 ghost use Rattle.phase_scan.specs.calls.Looks.{LoadsAlone};
-ghost use Rattle.board_rounds.specs.calls.TaskSeats.{AreTasksOf, KnowsTasks, all_of};
+ghost use Rattle.board_runs.specs.calls.TaskSeats.{AreTasksOf, KnowsTasks, all_of};
 ghost use Rattle.task_runner.specs.calls.DetectRuns.{told};
 ghost use Rattle.task_runner.specs.inside.LiveReporters.{HasPassed, TellsMore, Watches};
 
@@ -16,7 +16,7 @@ use crate::beside::Beside;
 use adaptive::Wanted;
 use armus_base::{Dead, List, NoMemory, Point, TaskId, Writes};
 use board::{Board, ViewSeat, Words};
-use board_rounds::{BoardTasks, Calls};
+use board_runs::{BoardTasks, Calls};
 use collector::{Collector, Verdict};
 use report::live_lines;
 use std::alloc::Global;

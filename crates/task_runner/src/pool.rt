@@ -15,7 +15,7 @@ use crate::pooled_task::{BoardName, PooledTask};
 use armus_base::{Final, Gate, List, NoMemory, Plan};
 use avoider::Judging;
 use board::{Board, Mode, TaskSeat, ViewSeat};
-use board_rounds::{Calls, Task, TurnSetting};
+use board_runs::{Calls, Task, TurnSetting};
 use slot_pool::{Named, Pool, Worker};
 use std::alloc::Global;
 use std::marker::Brand;

@@ -5,13 +5,13 @@ ghost use Rattle.armus_base.specs.declared.ids.TaskId.{TaskId};
 ghost use Rattle.armus_base.specs.Plans.{actions_of, code_of};
 ghost use Rattle.board.specs.declared.mode.Mode.TheVariants.{Detect};
 ghost use Rattle.board.specs.calls.Seats.{IsNewSeat, nothing_seen};
-ghost use Rattle.board_rounds.specs.calls.TaskSeats.{done_of, number};
+ghost use Rattle.board_runs.specs.calls.TaskSeats.{done_of, number};
 ghost use Rattle.world_runs.specs.calls.PlainRuns.{IsPlainEnd};
 ghost use Rattle.task_runner.specs.inside.Pooled.{AreForksMarked, AreClosedUnderForks, ContainsTask, IsPooled};
 
 use crate::pool::PoolRun;
 use armus_base::{Cursor, Final, Gate, NoMemory, Op, Plan};
-use board_rounds::{Task, first_places, note_places, take_in_all};
+use board_runs::{Task, first_places, note_places, take_in_all};
 use collector::Collector;
 use std::alloc::Global;
 use world_runs::{run_plain, world_end_from};

@@ -1,6 +1,6 @@
 // A worker of a run without rounds.
 ghost use Rattle.std.specs.Prelude.{◌≡◌, ◌<◌, IfOk, IfSome, length};
-ghost use Rattle.board_rounds.specs.calls.TaskSeats.{number};
+ghost use Rattle.board_runs.specs.calls.TaskSeats.{number};
 ghost use Rattle.slot_pool.specs.calls.PoolValues.{IsOfPool};
 ghost use Rattle.task_runner.specs.inside.Pooled.{KeepsWhatItHas, IsIdleWorker};
 
@@ -8,7 +8,7 @@ use crate::leaving::are_many;
 use crate::pooled_task::{BoardName, PooledTask};
 use armus_base::{NoMemory, Plan, TaskId};
 use avoider::Judging;
-use board_rounds::{Calls, Pause, TurnSetting, WorkerCells};
+use board_runs::{Calls, Pause, TurnSetting, WorkerCells};
 use slot_pool::{Claim, Named, Pool, Worker};
 use std::alloc::Global;
 use std::marker::Model;

@@ -2,12 +2,12 @@
 ghost use Rattle.std.specs.Prelude.{◌≡◌, ◌<◌, All, IfOk, IfSome, length};
 ghost use Rattle.armus_base.specs.Runs.{first_place};
 ghost use Rattle.board.specs.calls.Views.{own_place, task_of};
-ghost use Rattle.board_rounds.specs.calls.TaskSeats.{IsTaskSeat, number};
+ghost use Rattle.board_runs.specs.calls.TaskSeats.{IsTaskSeat, number};
 ghost use Rattle.task_runner.specs.inside.Pooled.{IsForked, IsPooled};
 
 use armus_base::{NoMemory, Plan, TaskId};
 use board::TaskSeat;
-use board_rounds::{Acted, Calls, Task, TurnSetting, WorkerCells};
+use board_runs::{Acted, Calls, Task, TurnSetting, WorkerCells};
 use slot_pool::Named;
 use std::alloc::Global;
 use std::marker::{Brand, Model, PhantomData};
@@ -35,7 +35,7 @@ pub(crate) struct PooledTask<'p, N: BoardName> {
 }
 
 impl<'p, N: BoardName> Model for PooledTask<'p, N> {
-    ghost use Rattle.board_rounds.specs.calls.Turns.{Working};
+    ghost use Rattle.board_runs.specs.calls.Turns.{Working};
 
     ghost Value = { Working };
 

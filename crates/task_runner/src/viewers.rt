@@ -7,7 +7,7 @@ use crate::beside::Beside;
 use adaptive::Wanted;
 use armus_base::NoMemory;
 use board::{Board, ViewSeat};
-use board_rounds::Calls;
+use board_runs::Calls;
 use sites::{KeepEnd, Keeps, pass_over};
 use std::alloc::Global;
 

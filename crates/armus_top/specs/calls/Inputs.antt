@@ -1,9 +1,9 @@
 -- Each call has an answer: words have a meaning, and each input of a command has a whole output.
 use Rattle.std.specs.Prelude.{◌≤◌, ℕ, Option, Some, None, [], ◌≡◌, length}
-use Rattle.armus_words.specs.declared.command.Command.{Command}
-use Rattle.armus_words.specs.declared.command.Command.TheVariants.{Gen}
-use Rattle.armus_words.specs.declared.table.TheConstants.{MAX_GENERATED}
-use Rattle.armus_words.specs.Words.{Text}
+use Rattle.command_line.specs.declared.command.Command.{Command}
+use Rattle.command_line.specs.declared.command.Command.TheVariants.{Gen}
+use Rattle.command_line.specs.declared.table.TheConstants.{MAX_GENERATED}
+use Rattle.command_line.specs.Words.{Text}
 use Rattle.armus_top.specs.Commands.{limit_of}
 use Rattle.armus_top.specs.Headline.{Answers}
 

@@ -1,7 +1,7 @@
 -- Which commands wait for threads.
 use Rattle.std.specs.Prelude.{◌≡◌, ◌⊎◌, ◌∷◌, List}
-use Rattle.armus_words.specs.declared.table.TheConstants.{POOL, RECORD}
-use Rattle.armus_words.specs.Words.{Text}
+use Rattle.command_line.specs.declared.table.TheConstants.{POOL, RECORD}
+use Rattle.command_line.specs.Words.{Text}
 
 -- the first word is `record` or `pool`, whose commands wait for threads
 abbrev pub BeginsRecordOrPool : List Text → Type 0

@@ -2,7 +2,7 @@
 use Rattle.std.specs.Prelude.{◌≤◌, ℕ, length}
 use Rattle.armus_base.specs.Deadlocks.{IsDeadIn}
 use Rattle.armus_base.specs.Runs.{state_after}
-use Rattle.armus_words.specs.Words.{Text}
+use Rattle.command_line.specs.Words.{Text}
 use Rattle.armus_top.specs.Records.{IsRecordOf}
 use Rattle.armus_top.specs.declared.programs.TheConstants.{MAX_TEXT_BYTES}
 use Rattle.armus_top.specs.Replayable.{IsReplayable}

@@ -2,7 +2,7 @@
 use Rattle.std.specs.Prelude.{◌≡◌, ◌↔◌, ℕ, Bool, Result, Ok, Err, IsTrue, if◌then◌else◌}
 use Rattle.clock_syntax.specs.Trees.{ClockTree}
 use Rattle.clock_syntax.specs.Grammar.{IsClockText, HasClockFault}
-use Rattle.clock_moves.specs.Unfolding.{clock_plan_of}
+use Rattle.clock_semantics.specs.Unfolding.{clock_plan_of}
 use Rattle.clock_pl.specs.calls.ClockPlanning.{as_fault}
 use Rattle.clock_pl.specs.ClockLines.{clock_fault_line}
 use Rattle.armus_base.specs.declared.ending.Final.{Final}
@@ -11,8 +11,8 @@ use Rattle.report.specs.Refusals.{refusal_text}
 use Rattle.report.specs.Reports.{IsReport, IsSomeDead}
 use Rattle.report.specs.declared.refusal.Refusal.{Refusal}
 use Rattle.report.specs.declared.refusal.Refusal.TheVariants as refusal
-use Rattle.armus_words.specs.declared.command.Command.{Command}
-use Rattle.armus_words.specs.Words.{Text}
+use Rattle.command_line.specs.declared.command.Command.{Command}
+use Rattle.command_line.specs.Words.{Text}
 use Rattle.armus_top.specs.Commands.{IsAnswered, IsRefusedInput}
 use Rattle.armus_top.specs.declared.output.InputEnd.{InputEnd}
 use Rattle.armus_top.specs.declared.output.InputEnd.TheVariants.{Refused, Clock, NoMemory}

@@ -2,8 +2,8 @@
 use Rattle.std.specs.Prelude.{◌≡◌, ◌≤◌, ◌+◌, ℕ, Some, length}
 use Rattle.std.specs.Io.KnownBytes.{Keeps}
 use Rattle.report.specs.declared.refusal.Refusal.TheVariants.{Length}
-use Rattle.armus_words.specs.declared.command.Command.{Command}
-use Rattle.armus_words.specs.Words.{Text}
+use Rattle.command_line.specs.declared.command.Command.{Command}
+use Rattle.command_line.specs.Words.{Text}
 use Rattle.armus_top.specs.Commands.{limit_of}
 use Rattle.armus_top.specs.Headline.{GaveTooMuch, HasCountedFault, HasInput, IsSound, Passage, ReadNoMore}
 use Rattle.armus_top.specs.inside.Writing.{Refuses}

@@ -1,9 +1,9 @@
 -- Which commands are served where.
 use Rattle.std.specs.Prelude.{◌≤◌, ℕ}
-use Rattle.armus_words.specs.declared.command.Command.{Command}
-use Rattle.armus_words.specs.declared.command.Command.TheVariants.{Check, Run, Avoid, Record, Replay, Gen, Clock, Pool}
-use Rattle.armus_words.specs.declared.command.RunKind.{RunKind}
-use Rattle.armus_words.specs.declared.command.RunKind.TheVariants.{Plain, Live, Sites}
+use Rattle.command_line.specs.declared.command.Command.{Command}
+use Rattle.command_line.specs.declared.command.Command.TheVariants.{Check, Run, Avoid, Record, Replay, Gen, Clock, Pool}
+use Rattle.command_line.specs.declared.command.RunKind.{RunKind}
+use Rattle.command_line.specs.declared.command.RunKind.TheVariants.{Plain, Live, Sites}
 use Rattle.armus_base.specs.calls.Limits.{max_sites, max_workers}
 
 -- a number of workers that a run may have

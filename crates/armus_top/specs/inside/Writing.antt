@@ -6,8 +6,8 @@ use Rattle.clock_pl.specs.ClockLines.{clock_fault_line}
 use Rattle.clock_pl.specs.declared.fault.ClockFault.{ClockFault}
 use Rattle.report.specs.Refusals.{refusal_text}
 use Rattle.report.specs.declared.refusal.Refusal.{Refusal}
-use Rattle.armus_words.specs.declared.command.Command.{Command}
-use Rattle.armus_words.specs.Words.{Text}
+use Rattle.command_line.specs.declared.command.Command.{Command}
+use Rattle.command_line.specs.Words.{Text}
 use Rattle.armus_top.specs.Commands.{writes_live}
 use Rattle.armus_top.specs.Headline.{Answers, Passage, HasCountedFault, IsSound, Took}
 

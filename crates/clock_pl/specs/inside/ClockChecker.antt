@@ -7,8 +7,8 @@ use Rattle.armus_base.specs.declared.ids.TaskId.{TaskId}
 use Rattle.armus_base.specs.declared.ids.PhaserId.{PhaserId}
 use Rattle.armus_base.specs.declared.op.Op.{Op}
 use Rattle.clock_syntax.specs.Trees.{ClockTree}
-use Rattle.clock_moves.specs.Moves.{Standing}
-use Rattle.clock_moves.specs.Unfolding.{Current, ClockStart}
+use Rattle.clock_semantics.specs.Moves.{Standing}
+use Rattle.clock_semantics.specs.Unfolding.{Current, ClockStart}
 use Rattle.indexmap.specs.IndexSet.{insert_key}
 use Rattle.pl_plan.specs.calls.MemberRows.{marked}
 

@@ -12,8 +12,8 @@ use Rattle.clock_syntax.specs.declared.tree.ClockStmt.{ClockStmt}
 use Rattle.clock_syntax.specs.declared.tree.ClockStmt.TheVariants.{Clock, Advance, Resume, Skip, Async, Finish, Loop}
 use Rattle.clock_syntax.specs.declared.tree.ClockStmt.TheVariants as statement
 use Rattle.clock_syntax.specs.Trees.{ClockPlain, ClockTree, clock, advance, resume, drop, skip}
-use Rattle.clock_moves.specs.Moves.{Move, advances, begins, drops, ends, opens, ops_of, resumes, starts, stops}
-use Rattle.clock_moves.specs.Unfolding.{ClockComing, ClockPart, a_plain, an_async, a_finish, a_close, a_loop, a_turn, Current, as_clock, clock_of, clocks_of, coming, comings_of, innermost, not_registered, numbers_of, too_many_activities, too_many_clock_cells, too_many_clock_ops, too_many_clock_visits, too_many_clocks}
+use Rattle.clock_semantics.specs.Moves.{Move, advances, begins, drops, ends, opens, ops_of, resumes, starts, stops}
+use Rattle.clock_semantics.specs.Unfolding.{ClockComing, ClockPart, a_plain, an_async, a_finish, a_close, a_loop, a_turn, Current, as_clock, clock_of, clocks_of, coming, comings_of, innermost, not_registered, numbers_of, too_many_activities, too_many_clock_cells, too_many_clock_ops, too_many_clock_visits, too_many_clocks}
 use Rattle.pl_plan.specs.Limits.{max_visits}
 use Rattle.pl_plan.specs.calls.MemberRows.{marked}
 use Rattle.armus_base.specs.Numbers.{phaser, task}

@@ -1,6 +1,6 @@
 -- What is known of a text that is not refused.
 use Rattle.std.specs.Prelude.{◌≡◌, ◌+◌, ◌<◌, ◌^◌, Ok}
-use Rattle.clock_moves.specs.Unfolding.{clock_plan_of}
+use Rattle.clock_semantics.specs.Unfolding.{clock_plan_of}
 use Rattle.clock_syntax.specs.Grammar.{IsClockText}
 use Rattle.clock_syntax.specs.Trees.{clock_count}
 use Rattle.pl_plan.specs.Forks.{fork_statements}

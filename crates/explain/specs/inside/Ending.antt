@@ -1,6 +1,6 @@
 -- What the program has before it writes.
 use Rattle.std.specs.Prelude.{◌≡◌, true, false, Option, Some}
-use Rattle.armus_words.specs.Words.{Text}
+use Rattle.command_line.specs.Words.{Text}
 use Rattle.armus_top.specs.Headline.{HasCountedFault, IsSound, Passage, ReadNoMore}
 use Rattle.armus_top.specs.declared.programs.TheConstants.{MAX_TEXT_BYTES}
 use Rattle.armus_top.specs.inside.Status.{number_of_status}

@@ -3,9 +3,9 @@ use Rattle.std.specs.Prelude.{◌≡◌, ℕ, ◌<◌, ◌+◌, ◌-◌, ◌/◌
 use Rattle.armus_base.specs.Plans.{Plan}
 use Rattle.board.specs.calls.Seats.{Frame}
 use Rattle.board.specs.calls.Views.{avoids}
-use Rattle.board_rounds.specs.declared.board_tasks.Rounded.{Rounded}
-use Rattle.board_rounds.specs.calls.TaskSeats.{AreTasksOf, Tasks, left_to}
-use Rattle.board_rounds.specs.calls.Rounds.{HasRound, HaveEnded}
+use Rattle.board_runs.specs.declared.board_tasks.Rounded.{Rounded}
+use Rattle.board_runs.specs.calls.TaskSeats.{AreTasksOf, Tasks, left_to}
+use Rattle.board_runs.specs.calls.Rounds.{HasRound, HaveEnded}
 
 -- the board is of this plan, and the tasks are those of a run on it
 pub record IsOnBoard (board : Frame) (plan : Plan) (tasks : Tasks) : Type 0 where

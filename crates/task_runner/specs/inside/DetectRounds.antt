@@ -3,7 +3,7 @@ use Rattle.std.specs.Prelude.{◌≡◌}
 use Rattle.armus_base.specs.Plans.{Plan}
 use Rattle.board.specs.declared.mode.Mode.TheVariants.{Detect}
 use Rattle.board.specs.calls.Seats.{Frame}
-use Rattle.board_rounds.specs.calls.TaskSeats.{Tasks}
+use Rattle.board_runs.specs.calls.TaskSeats.{Tasks}
 use Rattle.task_runner.specs.inside.BoardRuns.{IsOnBoard}
 use Rattle.task_runner.specs.inside.LiveReporters.{Telling, Watches}
 

@@ -5,8 +5,8 @@ use Rattle.armus_base.specs.declared.op.Op.{Op}
 use Rattle.armus_base.specs.Plans.{Plan, Forks, action_at, actions_of}
 use Rattle.board.specs.declared.mode.Mode.TheVariants.{Detect}
 use Rattle.board.specs.calls.Seats.{Frame, Known}
-use Rattle.board_rounds.specs.calls.Turns.{IsChildSeat, Working}
-use Rattle.board_rounds.specs.calls.TaskSeats.{IsTaskSeat, done_of, number}
+use Rattle.board_runs.specs.calls.Turns.{IsChildSeat, Working}
+use Rattle.board_runs.specs.calls.TaskSeats.{IsTaskSeat, done_of, number}
 use Rattle.slot_pool.specs.calls.PoolValues.{WorkerValue, IsNumberOf, IsOfPool, IsSameWorker, PoolValue}
 
 -- a board of the first plan

@@ -1,4 +1,4 @@
-use Rattle.armus_words.proofs.Meaning.{one_meaning}
+use Rattle.command_line.proofs.Meaning.{one_meaning}
 use Rattle.armus_top.proofs.laws.words_mean_one_command.Goals as goal
 
 pub returns : goal.returns

@@ -2,7 +2,7 @@ use Rattle.std.proofs.Common.{arith, refl, subst, sym}
 use Rattle.armus_base.specs.Runs.{state_after}
 use Rattle.schedule.proofs.PassesNameTheDead.{passes_name_the_dead}
 use Rattle.schedule.proofs.Within.{split_within}
-use Rattle.armus_words.specs.declared.command.Command.TheVariants.{Replay}
+use Rattle.command_line.specs.declared.command.Command.TheVariants.{Replay}
 use Rattle.armus_top.specs.Programs.{TellsDead}
 use Rattle.armus_top.specs.Replays.{IsReplayFault}
 use Rattle.armus_top.proofs.Answering.{end_of_text}

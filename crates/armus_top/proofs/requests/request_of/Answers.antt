@@ -1,6 +1,6 @@
 use Rattle.std.proofs.Common.{map, string_bytes, subst, refl}
 use Rattle.armus_top.specs.calls.Headline.{passage}
-use Rattle.armus_words.specs.Commands.{Means}
+use Rattle.command_line.specs.Commands.{Means}
 use Rattle.armus_top.specs.Texts.{usage_line}
 use Rattle.armus_top.specs.inside.Status.{number_of_status}
 use Rattle.armus_top.proofs.Ending.{finished_as}

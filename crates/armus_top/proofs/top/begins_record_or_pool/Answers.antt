@@ -3,9 +3,9 @@ use Rattle.std.specs.Str.{bytes_eq}
 use Rattle.std.proofs.lemmas.Slice.Eq.{bytes_eq-Decides}
 use Rattle.std.proofs.lemmas.Bool.{or_cases, or_left, or_right}
 use Rattle.armus_base.proofs.Lists.{headed}
-use Rattle.armus_words.specs.declared.table.TheConstants.{POOL, RECORD}
-use Rattle.armus_words.specs.Words.{Text}
-use Rattle.armus_words.proofs.Meaning.{head_is}
+use Rattle.command_line.specs.declared.table.TheConstants.{POOL, RECORD}
+use Rattle.command_line.specs.Words.{Text}
+use Rattle.command_line.proofs.Meaning.{head_is}
 use Rattle.armus_top.proofs.top.begins_record_or_pool.Goals as goal
 
 -- the test of a word

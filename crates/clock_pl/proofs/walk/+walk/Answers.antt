@@ -1,6 +1,6 @@
 use Rattle.std.proofs.Common.{◌+◌, Err, ap, sym, subst, ◌∙◌}
 use Rattle.std.proofs.lemmas.Result.{err_from_is_err_and}
-use Rattle.clock_moves.specs.Unfolding.{comings_of}
+use Rattle.clock_semantics.specs.Unfolding.{comings_of}
 use Rattle.clock_pl.specs.inside.ClockCheckerSteps.{checker_come_all, checker_statement, checker_visit}
 use Rattle.clock_pl.proofs.Comings.{StatementsDone, gives_err, gives_same, no_statement, no_turn, statement_comes, statement_done, statement_failed, statement_fails, statements_done, turn_comes, turn_done, turn_failed, turn_fails}
 use Rattle.clock_pl.proofs.walk.+walk.Goals as goal

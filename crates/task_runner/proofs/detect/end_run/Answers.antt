@@ -21,8 +21,8 @@ use Rattle.board.specs.calls.Words.{IsShown}
 use Rattle.phase_scan.specs.calls.Looks.{LoadsAlone}
 use Rattle.collector.specs.calls.Passes.{HasDeadOf}
 use Rattle.report.specs.NamedDead.{AreSomeDead}
-use Rattle.board_rounds.specs.calls.Turns.{Working, loads_between}
-use Rattle.board_rounds.specs.calls.TaskSeats.{ArePlacesOf, AreTaskSeats, IsSeatIn, all_of}
+use Rattle.board_runs.specs.calls.Turns.{Working, loads_between}
+use Rattle.board_runs.specs.calls.TaskSeats.{ArePlacesOf, AreTaskSeats, IsSeatIn, all_of}
 use Rattle.task_runner.specs.calls.DetectRuns.{AreDeadAtTheEnd, AreSettledPlaces, told}
 use Rattle.task_runner.specs.inside.Rests.{TellsRest}
 use Rattle.task_runner.specs.inside.LiveReporters.{TellsMore, TellsOn}

@@ -2,8 +2,8 @@ use Rattle.std.proofs.Common.{◌≡◌, ◌∙◌, ◌<◌, ℕ, List, Bool, So
 use Rattle.std.specs.Prelude.{All, replicate, slice_get}
 use Rattle.std.proofs.lemmas.List.{length-replicate}
 use Rattle.armus_base.specs.Plans.{code_of}
-use Rattle.board_rounds.specs.calls.Turns.{Working}
-use Rattle.board_rounds.specs.calls.TaskSeats.{done_of, number}
+use Rattle.board_runs.specs.calls.Turns.{Working}
+use Rattle.board_runs.specs.calls.TaskSeats.{done_of, number}
 use Rattle.task_runner.specs.inside.Pooled.{AreForksMarked, AreClosedUnderForks, ContainsTask}
 use Rattle.task_runner.proofs.ForksInHand.{unmarked, whole_marked}
 use Rattle.task_runner.proofs.pool_end.are_whole.Goals as goal

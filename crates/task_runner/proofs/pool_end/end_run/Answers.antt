@@ -5,10 +5,10 @@ use Rattle.armus_base.specs.Runs.{IsReachable}
 use Rattle.pl_core.specs.declared.place.Place.{Place as KeptPlace}
 use Rattle.pl_core.specs.calls.Worlds.{places_at}
 use Rattle.board.specs.calls.Seats.{Frame}
-use Rattle.board_rounds.specs.calls.Turns.{Working}
-use Rattle.board_rounds.specs.calls.TaskSeats.{ArePlacesOf, IsTaskSeat, number}
+use Rattle.board_runs.specs.calls.Turns.{Working}
+use Rattle.board_runs.specs.calls.TaskSeats.{ArePlacesOf, IsTaskSeat, number}
 use Rattle.task_runner.specs.inside.Pooled.{AreClosedUnderForks}
-use Rattle.board_rounds.proofs.Noting.{noted_more}
+use Rattle.board_runs.proofs.Noting.{noted_more}
 use Rattle.task_runner.proofs.PoolEnds.{plain_places, reachable_places}
 use Rattle.task_runner.proofs.PooledTasks.{pooled_none, pooled_of, pooled_seats, pooled_within}
 use Rattle.task_runner.proofs.pool_end.end_run.Goals.{Then-whole}

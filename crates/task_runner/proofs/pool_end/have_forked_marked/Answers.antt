@@ -5,8 +5,8 @@ use Rattle.std.proofs.lemmas.List.{take_all}
 use Rattle.armus_base.specs.declared.op.Op.{Op}
 use Rattle.armus_base.specs.Plans.{code_of}
 use Rattle.pl_core.specs.declared.place.Place.{Place as KeptPlace}
-use Rattle.board_rounds.specs.calls.Turns.{Working}
-use Rattle.board_rounds.specs.calls.TaskSeats.{done_of, number}
+use Rattle.board_runs.specs.calls.Turns.{Working}
+use Rattle.board_runs.specs.calls.TaskSeats.{done_of, number}
 use Rattle.task_runner.specs.inside.Pooled.{AreForksMarked}
 use Rattle.task_runner.proofs.pool_end.have_forked_marked.Goals as goal
 

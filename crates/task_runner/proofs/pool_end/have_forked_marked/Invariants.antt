@@ -1,7 +1,7 @@
 use Rattle.std.proofs.Common.{take}
 use Rattle.std.specs.Prelude.{All}
 use Rattle.armus_base.specs.Plans.{code_of}
-use Rattle.board_rounds.specs.calls.TaskSeats.{done_of, number}
+use Rattle.board_runs.specs.calls.TaskSeats.{done_of, number}
 use Rattle.task_runner.specs.inside.Pooled.{AreForksMarked}
 use Rattle.task_runner.proofs.pool_end.have_forked_marked.Given as goal
 

@@ -1,8 +1,8 @@
 use Rattle.std.proofs.Common.{◌≡◌, ◌∙◌, ◌⊎◌, ◌∷◌, ◌++◌, [], ◌<◌, ℕ, List, Some, true, length, get_or, set, take, sym, ap, subst, arith}
 use Rattle.std.specs.Prelude.{slice_get, unwrap_or}
 use Rattle.std.proofs.lemmas.List.{length-set, take_more}
-use Rattle.board_rounds.specs.calls.Turns.{Working}
-use Rattle.board_rounds.specs.calls.TaskSeats.{number}
+use Rattle.board_runs.specs.calls.Turns.{Working}
+use Rattle.board_runs.specs.calls.TaskSeats.{number}
 use Rattle.task_runner.specs.inside.Pooled.{ContainsTask}
 use Rattle.task_runner.proofs.ForksInHand.{one_marked}
 use Rattle.task_runner.proofs.pool_end.mark.Goals as goal

@@ -1,5 +1,5 @@
 use Rattle.std.proofs.Common.{◌∙◌, subst}
-use Rattle.gen_text.specs.Generated.{generated_text}
+use Rattle.pl_generator.specs.Generated.{generated_text}
 use Rattle.adaptive.specs.declared.analysis.Wanted.TheVariants as wanted
 use Rattle.armus_top.specs.Programs.{IsPlanOf}
 use Rattle.armus_top.proofs.GeneratedRuns.{with_plan}

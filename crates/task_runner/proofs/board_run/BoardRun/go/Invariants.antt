@@ -1,5 +1,5 @@
 use Rattle.std.proofs.Common.{◌≡◌, Ok}
-use Rattle.board_rounds.specs.calls.TaskSeats.{left_to}
+use Rattle.board_runs.specs.calls.TaskSeats.{left_to}
 use Rattle.task_runner.specs.inside.BoardRuns.{IsOnBoard}
 use Rattle.task_runner.proofs.board_run.BoardRun.go.Given as goal
 

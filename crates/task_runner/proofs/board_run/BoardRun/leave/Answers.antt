@@ -4,8 +4,8 @@ use Rattle.armus_base.specs.Plans.{Plan}
 use Rattle.pl_core.specs.declared.place.Place.{Place as KeptPlace}
 use Rattle.pl_core.specs.calls.Worlds.{places_at}
 use Rattle.board.specs.calls.Views.{avoids}
-use Rattle.board_rounds.specs.calls.Turns.{loads_between}
-use Rattle.board_rounds.specs.calls.TaskSeats.{ArePlacesOf, all_of}
+use Rattle.board_runs.specs.calls.Turns.{loads_between}
+use Rattle.board_runs.specs.calls.TaskSeats.{ArePlacesOf, all_of}
 use Rattle.task_runner.specs.inside.BoardRuns.{bound_on}
 use Rattle.task_runner.proofs.BoardPlaces.{lawful_end}
 use Rattle.task_runner.proofs.EndedTurns.{turns_ended}

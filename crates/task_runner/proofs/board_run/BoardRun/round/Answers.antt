@@ -1,7 +1,7 @@
 use Rattle.std.proofs.Common.{◌≡◌, ◌<◌, ℕ, sym, subst}
 use Rattle.armus_base.specs.Plans.{Plan}
-use Rattle.board_rounds.specs.calls.TaskSeats.{left_to}
-use Rattle.board_rounds.specs.calls.Rounds.{HasRound, HaveEnded}
+use Rattle.board_runs.specs.calls.TaskSeats.{left_to}
+use Rattle.board_runs.specs.calls.Rounds.{HasRound, HaveEnded}
 use Rattle.task_runner.specs.inside.BoardRuns.{bound_on}
 use Rattle.task_runner.proofs.board_run.BoardRun.round.Goals as goal
 

@@ -1,5 +1,5 @@
 use Rattle.std.proofs.Common.{◌≡◌}
-use Rattle.board_rounds.specs.calls.TaskSeats.{number}
+use Rattle.board_runs.specs.calls.TaskSeats.{number}
 use Rattle.task_runner.specs.inside.Pooled.{KeepsWhatItHas}
 use Rattle.task_runner.proofs.pool_worker.PoolWorker.turn.Given as goal
 

@@ -1,8 +1,8 @@
 use Rattle.std.proofs.Common.{◌∙◌, sym, subst}
 use Rattle.std.specs.Prelude.{All}
 use Rattle.board.specs.calls.Seats.{Frame, IsOf}
-use Rattle.board_rounds.specs.calls.Turns.{Acts}
-use Rattle.board_rounds.specs.calls.TaskSeats.{IsTaskSeat}
+use Rattle.board_runs.specs.calls.Turns.{Acts}
+use Rattle.board_runs.specs.calls.TaskSeats.{IsTaskSeat}
 use Rattle.task_runner.specs.inside.Pooled.{IsForked}
 use Rattle.task_runner.proofs.PooledTasks.{acted, forked}
 use Rattle.task_runner.proofs.pooled_task.PooledTask.act.Goals as goal

@@ -1,7 +1,7 @@
 use Rattle.std.proofs.Common.{◌<◌, ◌∙◌, length, sym, refl, subst}
 use Rattle.board.specs.calls.Seats.{Known}
 use Rattle.board.specs.calls.Views.{task_of}
-use Rattle.board_rounds.specs.calls.TaskSeats.{IsTaskSeat}
+use Rattle.board_runs.specs.calls.TaskSeats.{IsTaskSeat}
 use Rattle.task_runner.proofs.PooledTasks.{small}
 use Rattle.task_runner.proofs.pooled_task.PooledTask.new.Goals as goal
 

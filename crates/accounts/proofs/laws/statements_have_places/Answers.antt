@@ -1,5 +1,0 @@
-use Rattle.accounts.proofs.Witnesses.{statements_have_places}
-use Rattle.accounts.proofs.laws.statements_have_places.Goals as goal
-
-pub returns : goal.returns
-returns c = statements_have_places

@@ -1,5 +1,0 @@
-use Rattle.accounts.proofs.Witnesses.{drawn_have_names, waiters_have_awaits}
-use Rattle.accounts.proofs.laws.tasks_are_of_text.Goals as goal
-
-pub returns : goal.returns
-returns c = record { awaits = waiters_have_awaits; names = drawn_have_names }

@@ -1,5 +1,0 @@
-use Rattle.answer_laws.proofs.Avoided.{avoid_tells_as_run}
-use Rattle.answer_laws.proofs.agreement.avoid_tells_as_run.Goals as goal
-
-pub returns : goal.returns
-returns c = avoid_tells_as_run

@@ -1,5 +1,0 @@
-use Rattle.answer_laws.proofs.Named.{replay_tells_as_run}
-use Rattle.answer_laws.proofs.agreement.replay_tells_as_run.Goals as goal
-
-pub returns : goal.returns
-returns c = replay_tells_as_run

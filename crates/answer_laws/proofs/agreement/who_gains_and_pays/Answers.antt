@@ -1,5 +1,0 @@
-use Rattle.answer_laws.proofs.Avoided.{who_gains_and_pays}
-use Rattle.answer_laws.proofs.agreement.who_gains_and_pays.Goals as goal
-
-pub returns : goal.returns
-returns c = who_gains_and_pays

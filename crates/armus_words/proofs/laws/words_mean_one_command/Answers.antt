@@ -1,5 +1,0 @@
-use Rattle.armus_words.proofs.Meaning.{one_meaning}
-use Rattle.armus_words.proofs.laws.words_mean_one_command.Goals as goal
-
-pub returns : goal.returns
-returns c = one_meaning

@@ -1,5 +1,0 @@
-use Rattle.board.proofs.Walking.{new_first}
-use Rattle.board_tests.proofs.walker.begin_as.Goals as goal
-
-pub of-requires-clause-first : goal.of-requires-clause-first
-of-requires-clause-first c = new_first _ _ c.in_ok-board.ensures.seat

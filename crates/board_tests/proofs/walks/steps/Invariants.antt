@@ -1,5 +1,0 @@
-use Rattle.board.specs.calls.Seats.{IsOf}
-use Rattle.board_tests.proofs.walks.steps.Given as goal
-
-abbrev pub invariant-loop : goal.invariant-loop
-invariant-loop l = IsOf l.walker l.board

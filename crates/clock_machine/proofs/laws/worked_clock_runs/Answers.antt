@@ -1,5 +1,0 @@
-use Rattle.clock_machine.proofs.WorkedRuns.{runs_stuck, runs_worked}
-use Rattle.clock_machine.proofs.laws.worked_clock_runs.Goals as goal
-
-pub returns : goal.returns
-returns c = record { ends = runs_worked; stuck = runs_stuck }

@@ -1,2 +1,0 @@
--- Words of contracts further down, which no promise of a program needs.
-pub mod calls

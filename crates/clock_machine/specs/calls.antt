@@ -1,3 +1,0 @@
-pub mod Direct
-pub mod Laws
-pub mod WorkedRuns

@@ -1,5 +1,0 @@
-use Rattle.clock_moves.proofs.ClockFaultIsOfText.{clock_fault_is_of_text as proved}
-use Rattle.clock_moves.proofs.laws.clock_fault_is_of_text.Goals as goal
-
-pub returns : goal.returns
-returns c = proved

@@ -1,5 +1,0 @@
-use Rattle.clock_moves.proofs.ClockPlanIsChecked.{clock_plan_is_checked as proved}
-use Rattle.clock_moves.proofs.laws.clock_plan_is_checked.Goals as goal
-
-pub returns : goal.returns
-returns c = proved

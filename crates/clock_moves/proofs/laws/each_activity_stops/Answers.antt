@@ -1,5 +1,0 @@
-use Rattle.clock_moves.proofs.EachStops.{each_activity_stops as proved}
-use Rattle.clock_moves.proofs.laws.each_activity_stops.Goals as goal
-
-pub returns : goal.returns
-returns c = proved

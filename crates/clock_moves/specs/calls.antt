@@ -1,4 +1,0 @@
-pub mod Making
-pub mod ClockTests
-pub mod Laws
-pub mod WorkedClocks

@@ -1,5 +1,0 @@
-use Rattle.clock_origins.proofs.OffsetsMany.{statements_have_offsets as proved}
-use Rattle.clock_origins.proofs.laws.statements_have_offsets.Goals as goal
-
-pub returns : goal.returns
-returns c = proved

@@ -1,4 +1,0 @@
--- Why the functions do what their contracts say.
-pub mod NotingParts
-pub mod OneClockShowing
-pub mod SteppedThrough

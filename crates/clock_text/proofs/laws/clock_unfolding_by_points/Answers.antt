@@ -1,5 +1,0 @@
-use Rattle.clock_text.proofs.UnfoldsByPoints.{fault_is_first, unfolding_is_unfolded}
-use Rattle.clock_text.proofs.laws.clock_unfolding_by_points.Goals as goal
-
-pub returns : goal.returns
-returns c = record { unfolds = unfolding_is_unfolded; fault = fault_is_first }

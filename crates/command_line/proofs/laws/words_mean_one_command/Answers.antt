@@ -1,0 +1,5 @@
+use Rattle.command_line.proofs.Meaning.{one_meaning}
+use Rattle.command_line.proofs.laws.words_mean_one_command.Goals as goal
+
+pub returns : goal.returns
+returns c = one_meaning

@@ -1,0 +1,91 @@
+-- What is known of a clock text, and of its activities where a run of its plan has ended.
+use Rattle.std.specs.Prelude.{◌≡◌, ℕ, ◌<◌, ◌==◌, ◌&&◌, ◌||◌, not, reverse, Bool, false, List, [], ◌∷◌, Option, None, count_by, length, slice_get, slice_index_or, take}
+use Rattle.armus_base.specs.declared.ending.TaskEnd.{TaskEnd}
+use Rattle.armus_base.specs.declared.ending.TaskEnd.TheVariants.{Blocked, Done, Refused, Unforked}
+use Rattle.armus_base.specs.declared.op.Op.{Op}
+use Rattle.armus_base.specs.declared.op.Op.TheVariants.{Adv, Await, Drop}
+use Rattle.armus_base.specs.declared.status.Status.{Status}
+use Rattle.armus_base.specs.Finals.{end_of, final_of, list_below}
+use Rattle.armus_base.specs.Places.{state_at}
+use Rattle.armus_base.specs.Plans.{Plan, code_of}
+use Rattle.armus_base.specs.Runs.{Place}
+use Rattle.pl_core.specs.Tasks.{IsAtOp}
+use Rattle.clock_syntax.specs.Trees.{ClockTree}
+use Rattle.clock_semantics.specs.Unfolding.{ClockUnfolding}
+use Rattle.clock_source_map.specs.ClockOffsets.{clock_offsets}
+use Rattle.clock_source_map.specs.ClockOrigins.{StartedActivity, MadeThing, all_begun, all_things, all_waits}
+use Rattle.clock_source_map.specs.ClockOps.{is_await}
+
+-- where an activity waits: the statement; and for each clock and finish, in order of number, whether it is pending there: the activity has signalled on it, and not
+-- waited since
+pub record ClockWait : Type 0 where
+  pub statement : Option ℕ
+  pub pending : List Bool
+
+-- what is known of the text alone: its bytes, and the name of its file, if it comes from one; the offsets of its statements; and its activities, clocks and
+-- finishes, by their numbers
+pub record TextFacts : Type 0 where
+  pub text : List ℕ
+  pub file : Option (List ℕ)
+  pub offsets : List ℕ
+  pub begun : List StartedActivity
+  pub things : List MadeThing
+
+-- what is known of the text; how each activity has ended, as its task; the statuses of those that wait; and where each waits
+pub record ClockFacts : Type 0 where
+  pub of_text : TextFacts
+  pub ends : List TaskEnd
+  pub blocked : List Status
+  pub waits : List ClockWait
+
+-- ---- waits
+
+-- of these ops, the last one standing first: the first one that signals on p, waits on it or leaves it, is a signal
+abbrev pub is_signalled : ℕ → List Op → Bool
+is_signalled p [] = false
+is_signalled p (Adv q ∷ ops) = q.0 == p || is_signalled p ops
+is_signalled p (Await q off ∷ ops) = not (q.0 == p) && is_signalled p ops
+is_signalled p (Drop q ∷ ops) = not (q.0 == p) && is_signalled p ops
+is_signalled p (op ∷ ops) = is_signalled p ops
+
+-- behind these ops p is pending
+abbrev pub is_pending : List Op → ℕ → Bool
+is_pending ops p = is_signalled p (reverse ops)
+
+-- an activity with this code and these waits, of a plan with so many clocks and finishes, waits so, where its task has made so many actions: at the op at which
+-- it stands, before which each op that waits is one of its waits
+pub record IsWaitOf (code : List Op) (waits : List ℕ) (clocks : ℕ) (done : ℕ) (w : ClockWait) : Type 0 where
+  pub op : ℕ
+  pub stands : IsAtOp code done op
+  pub statement_is : w.statement ≡ slice_get waits (count_by is_await (take op code))
+  pub pending_is : w.pending ≡ list_below (is_pending (take op code)) clocks
+
+-- the same by how its task has ended: only who waits has a statement there
+abbrev pub IsWaitBy : List Op → List ℕ → ℕ → ℕ → TaskEnd → ClockWait → Type 0
+IsWaitBy code waits clocks done (Blocked e) w = IsWaitOf code waits clocks done w
+IsWaitBy code waits clocks done Done w = w.statement ≡ None × w.pending ≡ []
+IsWaitBy code waits clocks done (Refused e) w = w.statement ≡ None × w.pending ≡ []
+IsWaitBy code waits clocks done Unforked w = w.statement ≡ None × w.pending ≡ []
+
+-- each activity waits so at these places
+pub record AreWaitsAt (waits : List (List ℕ)) (plan : Plan) (a : ℕ → Place) (ws : List ClockWait) : Type 0 where
+  pub all : length ws ≡ length plan.parents
+  pub each : (t : ℕ) (d : ClockWait) → t < length plan.parents →
+      IsWaitBy (code_of plan t) (slice_index_or waits t []) (length plan.makers) (a t).done (end_of (state_at plan a) t) (slice_index_or ws t d)
+
+-- ---- facts
+
+-- these are the facts of a text, of the file with this name or of none, that is this program, with its unfolding
+pub record AreTextFacts (file : Option (List ℕ)) (text : List ℕ) (p : ClockTree) (u : ClockUnfolding) (f : TextFacts) : Type 0 where
+  pub text_is : f.text ≡ text
+  pub file_is : f.file ≡ file
+  pub offsets_are : f.offsets ≡ clock_offsets text p
+  pub begun_are : f.begun ≡ all_begun u
+  pub things_are : f.things ≡ all_things u
+
+-- and these are those where a run of the plan of the unfolding has come to these places
+pub record AreClockFacts (file : Option (List ℕ)) (text : List ℕ) (p : ClockTree) (u : ClockUnfolding) (plan : Plan) (a : ℕ → Place) (f : ClockFacts) : Type 0 where
+  pub text_facts : AreTextFacts file text p u f.of_text
+  pub ends_are : f.ends ≡ (final_of plan (state_at plan a)).ends
+  pub blocked_are : f.blocked ≡ (final_of plan (state_at plan a)).blocked
+  pub waits_are : AreWaitsAt (all_waits u) plan a f.waits

@@ -1,0 +1,82 @@
+// How activities stand.
+ghost use Rattle.std.specs.Prelude.{◌≡◌, ◌++◌, OnOk, count_by};
+ghost use Rattle.explain_clock.specs.ClockExplanations.{ended_counts, is_ended, is_unstarted, waits_there, nobody_line, some_activity_waits, waiting_counts};
+
+use crate::words::put_number;
+use explain_facts::put_words;
+use armus_base::{NoMemory, TaskEnd};
+use std::alloc::Global;
+
+// How many have ended.
+fn count_ended(ends: &[TaskEnd]) -> usize
+    ensures { result ≡ count_by is_ended ends.now }
+{
+    ends.iter()
+        .filter(|end| matches!(end, TaskEnd::Done))
+        .count()
+}
+
+// How many wait.
+fn count_waiting(ends: &[TaskEnd]) -> usize
+    ensures { result ≡ count_by waits_there ends.now }
+{
+    ends.iter()
+        .filter(|end| matches!(end, TaskEnd::Blocked(_)))
+        .count()
+}
+
+// How many are not started.
+fn count_unstarted(ends: &[TaskEnd]) -> usize
+    ensures { result ≡ count_by is_unstarted ends.now }
+{
+    ends.iter()
+        .filter(|end| matches!(end, TaskEnd::Unforked))
+        .count()
+}
+
+// Appends how many activities there are, and how many have ended.
+fn put_ended(alloc: Global, out: &mut Vec<u8>, ends: &[TaskEnd]) -> Result<(), NoMemory>
+    ensures { OnOk result (out.new.items ≡ out.old.items ++ ended_counts ends.now) }
+{
+    put_words(out, b"activities ")?;
+    put_number(alloc, out, ends.len())?;
+    put_words(out, b" ended ")?;
+    put_number(alloc, out, count_ended(ends))?;
+    Ok(())
+}
+
+// Appends how many wait, and how many are not started.
+fn put_waiting(alloc: Global, out: &mut Vec<u8>, ends: &[TaskEnd]) -> Result<(), NoMemory>
+    ensures { OnOk result (out.new.items ≡ out.old.items ++ waiting_counts ends.now) }
+{
+    let waiting = count_waiting(ends);
+    let unstarted = count_unstarted(ends);
+    let text = format!(in alloc; " waiting {waiting} unstarted {unstarted}\n")?;
+    out.extend_from_slice(text.as_bytes())?;
+    Ok(())
+}
+
+// Appends the line that counts how activities stand.
+pub(crate) fn put_counts(alloc: Global, out: &mut Vec<u8>, ends: &[TaskEnd]) -> Result<(), NoMemory>
+    ensures { OnOk result (out.new.items ≡ out.old.items ++ ended_counts ends.now ++ waiting_counts ends.now) }
+{
+    put_ended(alloc, out, ends)?;
+    put_waiting(alloc, out, ends)
+}
+
+// Whether some activity waits.
+pub(crate) fn somebody_waits(ends: &[TaskEnd]) -> bool
+    ensures { result ≡ some_activity_waits ends.now }
+{
+    ends.iter().any(|end| matches!(end, TaskEnd::Blocked(_)))
+}
+
+// Appends the line that says that none does.
+pub(crate) fn put_nobody(out: &mut Vec<u8>, somebody: bool) -> Result<(), NoMemory>
+    ensures { OnOk result (out.new.items ≡ out.old.items ++ nobody_line somebody) }
+{
+    if somebody {
+        return Ok(());
+    }
+    put_words(out, b"nobody waits for ever\n")
+}

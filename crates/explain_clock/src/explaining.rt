@@ -1,0 +1,115 @@
+// The explanation of a clock text.
+ghost use Rattle.std.specs.Prelude.{◌≡◌, ◌+◌, ◌<◌, ◌^◌, Ok, IfOk, length, option_copied};
+ghost use Rattle.armus_base.specs.Finals.{final_of};
+ghost use Rattle.pl_core.specs.calls.Worlds.{places_of, state_of};
+ghost use Rattle.clock_syntax.specs.Grammar.{IsClockText};
+ghost use Rattle.clock_syntax.specs.Trees.{clock_count};
+ghost use Rattle.clock_semantics.specs.Unfolding.{ClockUnfolding, clock_plan_of, clock_unfolded};
+ghost use Rattle.explain_clock.specs.ClockFacts.{ClockFacts};
+ghost use Rattle.explain_clock.specs.ClockExplanations.{ExplainsActivities, clock_lines, some_activity_waits};
+
+use crate::counts::{put_counts, put_nobody, somebody_waits};
+use crate::facts::{ClockFacts, Wait};
+use crate::text_facts::{ClockLayout, ClockTextFacts};
+use crate::waits::waits_of;
+use armus_base::{Final, List, NoMemory};
+use clock_syntax::ClockProgram;
+use pl_core::World;
+use std::alloc::Global;
+use source_map::TextPlaces;
+
+/// The explanation of a run of a clock text, and whether somebody waits for ever.
+#[derive(Drop)]
+pub struct ClockExplanation {
+    /// The lines of the explanation.
+    pub lines: List<u8>,
+    /// Whether an activity waits.
+    pub has_waiting: bool,
+}
+
+// Explains what is known.
+fn explain_facts(facts: &ClockFacts<'_>) -> Result<ClockExplanation, NoMemory>
+    ensures lines { IfOk result (λ e. e.lines ≡ clock_lines facts.now) }
+    ensures waits { IfOk result (λ e. e.has_waiting ≡ some_activity_waits facts.now.ends) }
+{
+    let ends = facts.end.ends.as_slice();
+    let somebody = somebody_waits(ends);
+    let of_text = facts.of_text;
+    let alloc = of_text.alloc;
+    let mut out = Vec::new(alloc);
+    put_counts(alloc, &mut out, ends)?;
+    put_nobody(&mut out, somebody)?;
+    facts.put_paragraphs(&mut out)?;
+    Ok(ClockExplanation {
+        lines: List::from_vec(out),
+        has_waiting: somebody,
+    })
+}
+
+// Explains what is known of a text, where a run has ended so and its activities wait so.
+fn explain_waits(
+    of_text: &ClockTextFacts<'_>,
+    end: &Final,
+    waits: Vec<Wait>,
+) -> Result<ClockExplanation, NoMemory>
+    requires few { length end.now.ends < 2 ^ 32 }
+    ensures { IfOk result (λ e. (f : ClockFacts) → f ≡ record { of_text = of_text.now; ends = end.now.ends; blocked = end.now.blocked; waits = waits.items }
+        → (e.lines ≡ clock_lines f) × (e.has_waiting ≡ some_activity_waits f.ends)) }
+{
+    let facts = ClockFacts::new(of_text, end, waits);
+    let explanation = explain_facts(&facts)?;
+    Ok(explanation)
+}
+
+// Explains what is known of a text with these places and this layout, where a run has ended so and its activities wait so.
+fn explain_layout(
+    alloc: Global,
+    places: &TextPlaces<'_>,
+    file: Option<&[u8]>,
+    layout: &ClockLayout<'_>,
+    end: &Final,
+    waits: Vec<Wait>,
+) -> Result<ClockExplanation, NoMemory>
+    requires few { length end.now.ends < 2 ^ 32 }
+    ensures { IfOk result (λ e. (f : ClockFacts) → f ≡ record {
+      of_text = record {
+        text = places.now;
+        file = option_copied file.entry;
+        offsets = layout.now.offsets;
+        begun = layout.now.origins.begun;
+        things = layout.now.origins.things;
+      };
+      ends = end.now.ends;
+      blocked = end.now.blocked;
+      waits = waits.items;
+    } → (e.lines ≡ clock_lines f) × (e.has_waiting ≡ some_activity_waits f.ends)) }
+{
+    let of_text = ClockTextFacts::new(alloc, places, file, layout);
+    let explanation = explain_waits(&of_text, end, waits)?;
+    Ok(explanation)
+}
+
+/// Explains where a run of the plan of a clock text has ended: `world` is that of its end, and `end` the value of its state. `places` are those of the
+/// text, which is this program and unfolds to the plan of the world, and `file` is the name of its file, if it comes from one. The only error is want of
+/// memory. The time is linear in the visits of the unfolding, and in the pairs of an activity that waits with another one or with a clock or finish.
+pub fn clock_explanation_of(
+    alloc: Global,
+    places: &TextPlaces<'_>,
+    file: Option<&[u8]>,
+    program: &ClockProgram,
+    world: &World<'_>,
+    end: &Final,
+) -> Result<ClockExplanation, NoMemory>
+    requires few { clock_count program.now.body + 1 < 2 ^ 32 }
+    requires reads { IsClockText places.now program.now.body }
+    requires plan { clock_plan_of program.now.body ≡ Ok world.now.plan }
+    requires end { end.now ≡ final_of world.now.plan (state_of world.now) }
+    ensures { IfOk result (λ e. (u : ClockUnfolding) → clock_unfolded program.now.body ≡ Ok u →
+        ExplainsActivities (option_copied file.entry) places.now program.now.body u world.now.plan (places_of world.now) e.lines e.has_waiting) }
+{
+    let _plan = world.plan();
+    let layout = ClockLayout::new(alloc, places.text(), program)?;
+    let waits = waits_of(alloc, &layout.origins, world, end.ends.as_slice())?;
+    let explanation = explain_layout(alloc, places, file, &layout, end, waits)?;
+    Ok(explanation)
+}

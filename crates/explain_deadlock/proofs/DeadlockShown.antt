@@ -1,0 +1,167 @@
+-- Where a task is dead, the verdict is the report's cycle, and the lines of a deadlocked task begin with those that are deadlocked.
+use Rattle.std.proofs.Common.{◌≡◌, ℕ, ◌+◌, ◌<◌, true, Option, Some, None, IsSome, List, [], ◌∷◌, ◌++◌, length, length-append, arith, sym, ◌∙◌, ap, subst, refl, eq-eqb}
+use borrow.Author.Tests.{eqb-true}
+use Rattle.std.specs.Prelude.{Contains, filter, map, slice_get}
+use Rattle.std.proofs.lemmas.Bool.{false≢true}
+use Rattle.std.proofs.lemmas.List.{get_or-append-add}
+use Rattle.armus_base.specs.declared.ids.TaskId.{TaskId}
+use Rattle.armus_base.specs.declared.status.Status.{Status}
+use Rattle.armus_base.specs.Deadlocks.{IsDeadBy}
+use Rattle.armus_base.specs.Finals.{final_of}
+use Rattle.armus_base.specs.Places.{state_at}
+use Rattle.armus_base.specs.Plans.{Plan}
+use Rattle.armus_base.specs.Relations.{IsWalkCycle}
+use Rattle.armus_base.specs.Runs.{Place}
+use Rattle.armus_base.specs.States.{State}
+use Rattle.report.specs.Reports.{IsLeastDead, IsReportedCycle, IsSomeDead}
+use Rattle.verdict.specs.Cycles.{IsDeadStep}
+use Rattle.explain_tasks.specs.declared.impeders.Impeder.{Impeder}
+use Rattle.explain_deadlock.specs.declared.outcome.WaitVerdict.{WaitVerdict}
+use Rattle.explain_deadlock.specs.declared.outcome.WaitVerdict.TheVariants.{Nobody, Circle, Chain}
+use Rattle.explain_tasks.specs.declared.situation.Situation.{Situation}
+use Rattle.explain_tasks.specs.declared.situation.Situation.TheVariants.{Deadlocked, Held, HasEnded, NotForkedYet, NeverForked}
+use Rattle.explain_tasks.specs.Facts.{FactsValue, forking_of, is_deadlocked, is_waiting, situation_of, tasks_that}
+use Rattle.explain_tasks.specs.Groups.{each_once}
+use Rattle.explain_deadlock.specs.ImpederLines.{is_this_impeder, told_of}
+use Rattle.explain_tasks.specs.Impeders.{impeders_by_facts}
+use Rattle.explain_deadlock.specs.Laws.{DeadlockIsReported}
+use Rattle.explain_deadlock.specs.calls.Laws.{DeadlockStandsFirst, IsDeadAndWaitsFor, ShownAreDead, ShowsCircle}
+use Rattle.explain_tasks.specs.Nexts.{IsNext, first_or, next_by, next_of}
+use Rattle.explain_deadlock.specs.RunEnds.{AreFactsAt}
+use Rattle.explain_tasks.specs.Sayings.{Said, impeder_said, impeder_words, same_said}
+use Rattle.explain_deadlock.specs.Verdicts.{IsVerdictFrom, IsWalkTo, walk_start}
+use Rattle.explain_deadlock.proofs.DeadNexts.{dead_waits, deadlocked_dead, next_dead, next_found, next_is_step}
+use Rattle.explain_tasks.proofs.Filters.{passed_from, passed_is}
+use Rattle.explain_deadlock.proofs.FitsEnds.{all_stand, dead_is, next_of_dead}
+use Rattle.explain_deadlock.proofs.NextInside.{find_contains, first_contains}
+use Rattle.explain_tasks.proofs.SameSaid.{same_said_is}
+use Rattle.explain_deadlock.proofs.Starts.{that_is}
+use Rattle.explain_deadlock.proofs.TasksThat.{some_first, that_has, that_least}
+use Rattle.explain_deadlock.proofs.WalksMapped.{all_keep, circle_back, circle_steps, cycle_maps}
+
+-- with what a text begins
+abbrev first_byte : List ℕ → ℕ
+first_byte [] = 0
+first_byte (c ∷ cs) = c
+
+module _ (plan : Plan) (a : ℕ → Place) (f : FactsValue) (at : AreFactsAt plan a f) where
+  abbrev s : State
+  s = state_at plan a
+
+  abbrev blocked : List Status
+  blocked = (final_of plan s).blocked
+
+  abbrev IsDeadTask : TaskId → Type 0
+  IsDeadTask t = IsDeadBy blocked t.0
+
+  -- a dead task has a next
+  has_next : (t : TaskId) → IsDeadTask t → next_of f s.phases t.0 ≡ None → ⊥
+  has_next t dead none =
+      let some = subst (λ (x : Situation). IsSome (next_by f (impeders_by_facts f s.phases t.0) (forking_of f t.0) x)) (sym (dead_is plan a f at t.0 dead).3) (next_of_dead plan a f at t.0 dead) in
+      false≢true (subst IsSome none some)
+
+  keeps : (t u : TaskId) → IsDeadTask t → IsNext f s.phases t u → IsDeadTask u
+  keeps t u dead step = next_dead plan a f at t u dead step
+
+  -- the walk begins with the least dead task
+  starts_dead : IsSomeDead blocked → (start : TaskId) × (walk_start f ≡ Some start) × IsLeastDead blocked start
+  starts_dead (t, dead) =
+      let within : (u : ℕ) → IsDeadBy blocked u → u < length f.standings = λ u d. (let lt = (dead_is plan a f at u d).0 in let e = all_stand plan a f at in omega arith) in
+      let passes : (u : ℕ) → IsDeadBy blocked u → is_deadlocked (situation_of f u) ≡ true = λ u d. ap is_deadlocked (dead_is plan a f at u d).3 in
+      let (start, first) = some_first (tasks_that is_deadlocked f) (record { 0 = t }) (that_has f is_deadlocked (record { 0 = t }) (within t dead) (passes t dead)) in
+      let is = that_is f is_deadlocked start (first_contains (tasks_that is_deadlocked f) start first) in (
+        start,
+        ap (λ o. first_or o (slice_get (tasks_that is_waiting f) 0)) first,
+        record {
+          dead = deadlocked_dead plan a f at start.0 is.1;
+          least = λ u d. that_least f is_deadlocked start first (record { 0 = u }) (within u d) (passes u d);
+        },
+      )
+
+  module _ (start : TaskId) (dead : IsDeadTask start) where
+    -- the walk of the dead comes to no end
+    no_end : (held last : TaskId) → IsWalkTo f s.phases start held last → ⊥
+    no_end held last w =
+        let whole = w.before ++ held ∷ last ∷ [] in
+        let n = length-append w.before (held ∷ last ∷ []) in
+        let is = all_keep (IsNext f s.phases) IsDeadTask keeps start dead whole w.steps w.starts (length w.before + 1) start (omega arith) in
+        has_next last (subst IsDeadTask (get_or-append-add w.before (held ∷ last ∷ []) 1 start) is) w.ends
+
+    shown_circle : (v : WaitVerdict) → IsVerdictFrom f s.phases (Some start) v → (cycle : List TaskId) × (v ≡ Circle cycle) × IsWalkCycle (IsNext f s.phases) start cycle
+    shown_circle Nobody is = absurd is
+    shown_circle (Circle c) is = (c, refl, is)
+    shown_circle (Chain held last) is = absurd (no_end held last is)
+
+  pub reported : (v : WaitVerdict) → IsVerdictFrom f s.phases (walk_start f) v → IsSomeDead blocked → (cycle : List TaskId) × (v ≡ Circle cycle) × IsReportedCycle blocked cycle
+  reported v is some =
+      let (start, starts, least) = starts_dead some in
+      let (c, same, walk) = shown_circle start least.dead v (subst (λ o. IsVerdictFrom f s.phases o v) starts is) in
+      (c, same, (start, least, cycle_maps (IsNext f s.phases) IsDeadTask keeps start least.dead (IsDeadStep blocked) (next_is_step plan a f at) c walk))
+
+  pub shown_dead : (shown : List TaskId) → IsVerdictFrom f s.phases (walk_start f) (Circle shown) → IsSomeDead blocked → ShowsCircle (IsDeadAndWaitsFor s) shown
+  shown_dead shown is some =
+      let (start, starts, least) = starts_dead some in
+      let walk : IsWalkCycle (IsNext f s.phases) start shown = subst (λ o. IsVerdictFrom f s.phases o (Circle shown)) starts is in
+      record {
+        some = walk.some;
+        steps = circle_steps (IsNext f s.phases) IsDeadTask keeps start least.dead (IsDeadAndWaitsFor s) (dead_waits plan a f at) shown walk;
+        back = circle_back (IsNext f s.phases) IsDeadTask keeps start least.dead (IsDeadAndWaitsFor s) (dead_waits plan a f at) shown walk;
+      }
+
+  -- ---- the lines of the impeders
+
+  -- what begins as what is said of a deadlocked impeder is said of one
+  deadlocked_words : (t u : ℕ) (x : Situation) → impeder_words f t Deadlocked ≡ impeder_words f u x → x ≡ Deadlocked
+  deadlocked_words t u Deadlocked same = refl
+  deadlocked_words t u Held same = absurd (let e : 100 ≡ 104 = ap first_byte same in omega arith)
+  deadlocked_words t u HasEnded same = absurd (let e : 100 ≡ 101 = ap first_byte same in omega arith)
+  deadlocked_words t u NotForkedYet same = absurd (let e : 100 ≡ 110 = ap first_byte same in omega arith)
+  deadlocked_words t u NeverForked same = absurd (let e : 100 ≡ 110 = ap first_byte same in omega arith)
+
+  abbrev imps : ℕ → List Impeder
+  imps t = impeders_by_facts f s.phases t
+
+  -- what is said first is said of the first of these
+  first_told : (next : Option TaskId) (is : List Impeder) (j : Impeder) → slice_get (filter (is_this_impeder next) is) 0 ≡ Some j → slice_get (told_of f next is) 0 ≡ Some (impeder_said f j)
+  first_told next is j first = by (filter (is_this_impeder next) is) first
+    where
+      by : (xs : List Impeder) → slice_get xs 0 ≡ Some j → slice_get (each_once same_said (map (impeder_said f) (xs ++ is))) 0 ≡ Some (impeder_said f j)
+      by [] e = absurd (cc)
+      by (x ∷ xs) e = ap (λ i. Some (impeder_said f i)) (let same : x ≡ j = cc in same)
+
+  pub stands_first : (t : ℕ) → situation_of f t ≡ Deadlocked →
+      (said : Said) × (slice_get (told_of f (next_of f s.phases t) (imps t)) 0 ≡ Some said)
+      × ((i : Impeder) → Contains (imps t) i → same_said said (impeder_said f i) ≡ true → situation_of f i.t.0 ≡ Deadlocked)
+  stands_first t deadlocked = by (next_of f s.phases t) refl
+    where
+      dead : IsDeadBy blocked t
+      dead = deadlocked_dead plan a f at t (ap is_deadlocked deadlocked)
+
+      by : (next : Option TaskId) → next_of f s.phases t ≡ next →
+          (said : Said) × (slice_get (told_of f next (imps t)) 0 ≡ Some said)
+          × ((i : Impeder) → Contains (imps t) i → same_said said (impeder_said f i) ≡ true → situation_of f i.t.0 ≡ Deadlocked)
+      by None none = absurd (has_next (record { 0 = t }) dead none)
+      by (Some u) next =
+          let (i, found, same) = next_found plan a f at (record { 0 = t }) u dead next in
+          let there = find_contains (λ (k : Impeder). is_deadlocked (situation_of f k.t.0)) (imps t) i found in
+          let number : i.t.0 ≡ u.0 = ap (λ (v : TaskId). v.0) same in
+          let (j, first) = some_first (filter (is_this_impeder (Some u)) (imps t)) i (passed_from (is_this_impeder (Some u)) (imps t) i there (eq-eqb i.t.0 u.0 number)) in
+          let own = (passed_is (is_this_impeder (Some u)) (imps t) j (first_contains (filter (is_this_impeder (Some u)) (imps t)) j first)).1 in
+          let is_u : j.t.0 ≡ u.0 = eqb-true j.t.0 u.0 own in
+          let also : situation_of f j.t.0 ≡ Deadlocked =
+          subst (λ k. situation_of f k ≡ Deadlocked) (sym is_u) (dead_is plan a f at u.0 (next_dead plan a f at (record { 0 = t }) u dead next)).3 in (
+            impeder_said f j,
+            first_told (Some u) (imps t) j first,
+            λ k in' alike.
+                let words = ap (λ (x : Said). x.words) (same_said_is (impeder_said f j) (impeder_said f k) alike) in
+                deadlocked_words j.t.0 k.t.0 (situation_of f k.t.0) (ap (impeder_words f j.t.0) (sym also) ∙ words),
+          )
+
+pub deadlock_is_reported : DeadlockIsReported
+deadlock_is_reported plan a f v at is some = reported plan a f at v is some
+
+pub shown_are_dead : ShownAreDead
+shown_are_dead plan a f shown at is some = shown_dead plan a f at shown is some
+
+pub deadlock_stands_first : DeadlockStandsFirst
+deadlock_stands_first plan a f t at deadlocked = stands_first plan a f at t deadlocked

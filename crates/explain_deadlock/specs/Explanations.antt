@@ -1,0 +1,44 @@
+-- The explanation of the state in which a run has ended.
+use Rattle.std.specs.Prelude.{◌≡◌, ℕ, Bool, List, Option, ◌++◌}
+use Rattle.explain_facts.specs.declared.account.Account.{Account}
+use Rattle.armus_base.specs.Deadlocks.{IsDeadBy}
+use Rattle.armus_base.specs.declared.ending.Final.{Final}
+use Rattle.armus_base.specs.Finals.{final_of}
+use Rattle.armus_base.specs.Places.{state_at}
+use Rattle.armus_base.specs.Plans.{Plan}
+use Rattle.armus_base.specs.Runs.{Place}
+use Rattle.armus_base.specs.States.{Phases}
+use Rattle.report.specs.Counts.{counts_of}
+use Rattle.report.specs.Lines.{counts_line}
+use Rattle.report.specs.Standings.{AreStandings}
+use Rattle.report.specs.declared.standing.Standing.{Standing}
+use Rattle.explain_deadlock.specs.declared.outcome.WaitVerdict.{WaitVerdict}
+use Rattle.explain_tasks.specs.Facts.{FactsValue, facts_of}
+use Rattle.explain_deadlock.specs.Paragraphs.{paragraphs}
+use Rattle.explain_deadlock.specs.RunEnds.{IsAccountOf}
+use Rattle.explain_deadlock.specs.VerdictWords.{verdict_line}
+use Rattle.explain_deadlock.specs.Verdicts.{IsVerdict, shown_of, somebody_waits}
+
+-- the lines with this verdict: how many tasks stand in each way, the verdict, and the paragraphs
+abbrev pub explained_by : FactsValue → (ℕ → Phases) → List ℕ → WaitVerdict → List ℕ
+explained_by f phases counts v = counts ++ verdict_line f v ++ paragraphs f phases (shown_of v)
+
+-- these lines explain what is known in a state with these phases, behind this line of counts, and tell whether somebody waits for ever
+pub record Explains (f : FactsValue) (phases : ℕ → Phases) (counts : List ℕ) (lines : List ℕ) (waits : Bool) : Type 0 where
+  pub verdict : WaitVerdict
+  pub found : IsVerdict f phases verdict
+  pub is_it : lines ≡ explained_by f phases counts verdict
+  pub tells : waits ≡ somebody_waits verdict
+
+-- The lines explain how a run has ended, in a state with these phases, and tell whether somebody waits for ever: the standings and the line that counts them
+-- are those of the report.
+pub record IsExplanation (text : List ℕ) (file : Option (List ℕ)) (account : Account) (end : Final) (phases : ℕ → Phases) (lines : List ℕ) (waits : Bool) : Type 0 where
+  pub standings : List Standing
+  pub stand : AreStandings (IsDeadBy end.blocked) end.ends standings
+  pub explains : Explains (facts_of text file account standings) phases (counts_line (counts_of standings)) lines waits
+
+-- the lines explain how the tasks of the text's plan stand at these places, to which a run has come, and tell whether somebody waits for ever
+pub record IsExplanationAt (file : Option (List ℕ)) (text : List ℕ) (plan : Plan) (a : ℕ → Place) (lines : List ℕ) (waits : Bool) : Type 0 where
+  pub account : Account
+  pub is_account : IsAccountOf text plan a account
+  pub explains : IsExplanation text file account (final_of plan (state_at plan a)) (state_at plan a).phases lines waits

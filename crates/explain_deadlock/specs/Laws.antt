@@ -1,0 +1,69 @@
+-- What is proved of explanations.
+use Rattle.std.specs.Prelude.{◌≡◌, ◌↔◌, ℕ, ◌<◌, true, List, ◌++◌, Contains, Some, flat_map, length, take}
+use Rattle.armus_base.specs.declared.ids.TaskId.{TaskId}
+use Rattle.armus_base.specs.Counts.{IsDistinct}
+use Rattle.armus_base.specs.Finals.{final_of}
+use Rattle.armus_base.specs.Places.{state_at}
+use Rattle.armus_base.specs.Plans.{Plan}
+use Rattle.armus_base.specs.Runs.{Place}
+use Rattle.armus_base.specs.States.{Phases}
+use Rattle.explain_facts.specs.declared.account.Waiting.{Waiting}
+use Rattle.report.specs.Reports.{IsReportedCycle, IsSomeDead}
+use Rattle.explain_deadlock.specs.declared.outcome.WaitVerdict.{WaitVerdict}
+use Rattle.explain_deadlock.specs.declared.outcome.WaitVerdict.TheVariants.{Circle}
+use Rattle.explain_tasks.specs.Facts.{FactsValue, is_waiting, situation_of, wait_of}
+use Rattle.explain_deadlock.specs.ImpederLines.{group_of, rest_of, told_of}
+use Rattle.explain_tasks.specs.Impeders.{impeders_by_facts}
+use Rattle.explain_tasks.specs.Nexts.{next_of}
+use Rattle.explain_deadlock.specs.Paragraphs.{explained_tasks, sayings_of, tasks_of}
+use Rattle.explain_deadlock.specs.RunEnds.{AreFactsAt}
+use Rattle.explain_tasks.specs.Sayings.{Said, own_said}
+use Rattle.explain_deadlock.specs.Verdicts.{IsVerdict}
+
+-- ---- the paragraphs
+
+-- a task that is not done stands in the paragraph of what is said of it
+abbrev pub EachHasAParagraph : Type 0
+EachHasAParagraph =
+    (f : FactsValue) (shown : List TaskId) (t : TaskId) → Contains (explained_tasks f) t →
+    Contains (sayings_of f shown) (own_said f t.0) × Contains (tasks_of f (own_said f t.0)) t
+
+-- what a paragraph says is what is said of each of its tasks, so a task stands in one paragraph only, and each of these is not done
+abbrev pub SaysWhatIsSo : Type 0
+SaysWhatIsSo = (f : FactsValue) (said : Said) (t : TaskId) → Contains (tasks_of f said) t → (said ≡ own_said f t.0) × Contains (explained_tasks f) t
+
+-- the tasks of the paragraph of a task that waits stand as it does, and have its impeders and its next
+abbrev pub WaitAlike : Type 0
+WaitAlike =
+    (f : FactsValue) (phases : ℕ → Phases) (said : Said) (t u : TaskId) → Contains (tasks_of f said) t → Contains (tasks_of f said) u →
+    is_waiting (situation_of f t.0) ≡ true →
+    (situation_of f u.0 ≡ situation_of f t.0) × (impeders_by_facts f phases u.0 ≡ impeders_by_facts f phases t.0) × (next_of f phases u.0 ≡ next_of f phases t.0)
+
+-- ---- the impeders
+
+-- what the lines of groups say where the impeders of task t are told
+abbrev pub told_in_lines : FactsValue → (ℕ → Phases) → ℕ → List Said
+told_in_lines f phases t = take 3 (told_of f (next_of f phases t) (impeders_by_facts f phases t))
+
+-- the tasks named there: those of the groups, and those of the rest
+abbrev pub named_impeders : FactsValue → (ℕ → Phases) → ℕ → List TaskId
+named_impeders f phases t =
+    flat_map (group_of f (impeders_by_facts f phases t)) (told_in_lines f phases t) ++ rest_of f (impeders_by_facts f phases t) (told_in_lines f phases t)
+
+-- task u impedes the event for which task t waits
+abbrev pub IsImpededBy : FactsValue → (ℕ → Phases) → ℕ → TaskId → Type 0
+IsImpededBy f phases t u =
+    (w : Waiting) × (wait_of f t ≡ Some w) × (u.0 < length f.standings) × (m : ℕ) × (phases u.0 w.event.p.0 ≡ Some m) × (m < w.event.n)
+
+-- each impeder of a task is named once, and nobody else is
+abbrev pub EachImpederIsTold : Type 0
+EachImpederIsTold =
+    (f : FactsValue) (phases : ℕ → Phases) (t : ℕ) →
+    IsDistinct (named_impeders f phases t) × ((u : TaskId) → Contains (named_impeders f phases t) u ↔ IsImpededBy f phases t u)
+
+-- where a task is dead, the verdict is a circle: the cycle of the report
+abbrev pub DeadlockIsReported : Type 0
+DeadlockIsReported =
+    (plan : Plan) (a : ℕ → Place) (f : FactsValue) (v : WaitVerdict) → AreFactsAt plan a f → IsVerdict f (state_at plan a).phases v →
+    IsSomeDead (final_of plan (state_at plan a)).blocked →
+    (cycle : List TaskId) × (v ≡ Circle cycle) × IsReportedCycle (final_of plan (state_at plan a)).blocked cycle

@@ -1,0 +1,101 @@
+// The explanation of the state in which a run has ended.
+ghost use Rattle.explain_deadlock.specs.Explanations.{Explains, IsExplanationAt};
+ghost use Rattle.std.specs.Prelude.{◌≡◌, IfOk, option_copied};
+ghost use Rattle.armus_base.specs.Finals.{final_of};
+ghost use Rattle.explain_deadlock.specs.RunEnds.{IsAccountOf};
+ghost use Rattle.explain_deadlock.specs.calls.RunEnds.{WaitersStay};
+ghost use Rattle.explain_tasks.specs.calls.Fitting.{FactsFitPlan};
+ghost use Rattle.explain_deadlock.specs.inside.Fitting.{WaitForSome};
+ghost use Rattle.pl_core.specs.calls.Worlds.{places_of, state_of};
+ghost use Rattle.explain_deadlock.specs.Verdicts.{shown_of, somebody_waits};
+
+use crate::outcome::WaitVerdict;
+use crate::paragraphs::put_paragraphs;
+use crate::verdict_line::put_verdict;
+use crate::walk::verdict_of;
+use explain_facts::Account;
+use armus_base::{Final, List, NoMemory, TaskId};
+use pl_core::World;
+use report::{Outline, outline_of};
+use std::alloc::Global;
+use explain_tasks::Facts;
+use source_map::TextPlaces;
+
+/// The explanation of a run, and whether somebody waits for ever.
+#[derive(Drop)]
+pub struct Explanation {
+    /// The lines of the explanation.
+    pub lines: List<u8>,
+    /// Whether a task waits.
+    pub has_waiting: bool,
+}
+
+// The shown tasks.
+fn shown_of(alloc: Global, verdict: &WaitVerdict) -> Result<Vec<TaskId>, NoMemory>
+    ensures { IfOk result (λ v. v.items ≡ shown_of verdict.now) }
+{
+    let mut shown = Vec::new(alloc);
+    match verdict {
+        WaitVerdict::Nobody => {}
+        WaitVerdict::Circle(tasks) => shown.extend_from_slice(tasks.as_slice())?,
+        WaitVerdict::Chain(held, last) => {
+            shown.push(*held)?;
+            shown.push(*last)?;
+        }
+    }
+    Ok(shown)
+}
+
+// Whether a task waits, by the verdict.
+fn has_waiting(verdict: &WaitVerdict) -> bool
+    ensures { result ≡ somebody_waits verdict.now }
+{
+    match verdict {
+        WaitVerdict::Nobody => false,
+        _ => true,
+    }
+}
+
+// Explains what is known, behind this line of counts.
+fn explain_facts(facts: &Facts, world: &World, counts: List<u8>) -> Result<Explanation, NoMemory>
+    requires fits { FactsFitPlan facts.now world.now.plan }
+    requires wait { WaitForSome facts.now (state_of world.now).phases }
+    ensures { IfOk result (λ e. Explains facts.now (state_of world.now).phases counts e.lines e.has_waiting) }
+{
+    let verdict = verdict_of(facts, world)?;
+    let shown = shown_of(facts.alloc(), &verdict)?;
+    let mut out = counts.into_vec();
+    put_verdict(facts, &mut out, &verdict)?;
+    put_paragraphs(facts, &mut out, world, &shown)?;
+    Ok(Explanation {
+        lines: List::from_vec(out),
+        has_waiting: has_waiting(&verdict),
+    })
+}
+
+/// Explains the state of a world in which no task that waits may go on. The world's plan is that of the text with these places, of which this is the account;
+/// `file` is the name of the text's file, if it comes from one, and `end` is the value of the state. The only error is want of memory.
+pub fn explanation_of(
+    alloc: Global,
+    places: &TextPlaces,
+    file: Option<&[u8]>,
+    account: &Account,
+    world: &World,
+    end: &Final,
+) -> Result<Explanation, NoMemory>
+    requires account { IsAccountOf places.now world.now.plan (places_of world.now) account.now }
+    requires rest { WaitersStay world.now.plan (places_of world.now) }
+    requires end { end.now ≡ final_of world.now.plan (state_of world.now) }
+    ensures { IfOk result (λ e. IsExplanationAt (option_copied file.entry) places.now world.now.plan (places_of world.now) e.lines e.has_waiting) }
+{
+    let _plan = world.plan();
+    let outline = outline_of(alloc, end)?;
+    let Outline {
+        standings,
+        counts,
+        cycle: _,
+        has_dead: _,
+    } = outline;
+    let facts = Facts::new(alloc, places, file, account, standings.as_slice());
+    explain_facts(&facts, world, counts)
+}

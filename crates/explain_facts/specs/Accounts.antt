@@ -1,0 +1,142 @@
+-- What is known of the tasks of a text where its run has come to given places.
+use Rattle.std.specs.Prelude.{◌≡◌, ℕ, zero, suc, ◌<◌, List, [], Option, Some, None, length, map, option_map, slice_index_or}
+use Rattle.std.specs.List.{slice_get}
+use Rattle.armus_base.specs.declared.ending.TaskEnd.{TaskEnd}
+use Rattle.armus_base.specs.declared.ending.TaskEnd.TheVariants.{Blocked, Done, Refused, Unforked}
+use Rattle.armus_base.specs.declared.event.Event.{Event}
+use Rattle.armus_base.specs.declared.ids.TaskId.{TaskId}
+use Rattle.armus_base.specs.Finals.{end_of}
+use Rattle.armus_base.specs.Places.{state_at}
+use Rattle.armus_base.specs.Plans.{Plan, code_of}
+use Rattle.armus_base.specs.Runs.{Place}
+use Rattle.pl_core.specs.Tasks.{IsAtOp}
+use Rattle.pl_plan.specs.Unfolding.{Coming, a_plain}
+use Rattle.pl_syntax.specs.BodyEnds.{AreEnds}
+use Rattle.pl_syntax.specs.Grammar.{IsText}
+use Rattle.pl_syntax.specs.StatementOffsets.{AreOffsets}
+use Rattle.pl_syntax.specs.Tree.{await, new_task}
+use Rattle.pl_syntax.specs.declared.tree.Program.{Program}
+use Rattle.source_map.specs.Origins.{fork_origin, last_origin, op_origin, phaser_origins, statement_in, task_origin, written_statements}
+use Rattle.source_map.specs.Turns.{op_turns}
+use Rattle.source_map.specs.declared.turns.LoopTurn.{LoopTurn}
+use Rattle.source_map.specs.TextPlaces.{text_place}
+use Rattle.source_map.specs.declared.place.TextPlace.{TextPlace}
+use Rattle.explain_facts.specs.AwaitWords.{await_text}
+use Rattle.explain_facts.specs.declared.account.Account.{Account}
+use Rattle.explain_facts.specs.declared.account.Drawn.{Drawn}
+use Rattle.explain_facts.specs.declared.account.Ended.{Ended}
+use Rattle.explain_facts.specs.declared.account.Forked.{Forked}
+use Rattle.explain_facts.specs.declared.account.TaskAccount.{TaskAccount}
+use Rattle.explain_facts.specs.declared.account.Turn.{Turn}
+use Rattle.explain_facts.specs.declared.account.Waiting.{Waiting}
+
+-- ---- places
+
+-- a text, the offsets of its statements, and those of the braces that close the bodies of these
+pub record Layout : Type 0 where
+  pub text : List ℕ
+  pub offsets : List ℕ
+  pub ends : List (Option ℕ)
+
+-- this is the layout of the text of this program
+pub record IsLayout (p : Program) (l : Layout) : Type 0 where
+  pub offsets : AreOffsets l.text p l.offsets
+  pub ends : AreEnds l.text p l.ends
+
+-- what has this number, from 1 on
+abbrev pub numbered : {A : Type 0} → List A → ℕ → Option A
+numbered xs zero = None
+numbered xs (suc i) = slice_get xs i
+
+-- the place of this byte, and the end of the text where there is none
+abbrev pub place_or_end : List ℕ → Option ℕ → TextPlace
+place_or_end text None = text_place text (length text)
+place_or_end text (Some offset) = text_place text offset
+
+-- the place of statement n
+abbrev pub statement_place : Layout → ℕ → TextPlace
+statement_place l n = place_or_end l.text (numbered l.offsets n)
+
+-- the brace, where there is a body and it has one
+abbrev pub brace_of : Option (Option ℕ) → Option ℕ
+brace_of None = None
+brace_of (Some end) = end
+
+-- the place at which the body of fork f ends; for 0 the end of the text
+abbrev pub end_place : Layout → ℕ → TextPlace
+end_place l f = place_or_end l.text (brace_of (numbered l.ends f))
+
+-- ---- tasks
+
+-- the name that stands before a `newTid`
+abbrev pub drawn_name : Option Coming → List ℕ
+drawn_name (Some (a_plain (new_task x))) = x
+drawn_name _ = []
+
+-- where task t is drawn, and the name there
+abbrev pub drawn_of : Layout → Program → ℕ → Option Drawn
+drawn_of l p t =
+    option_map (λ n. record { at = statement_place l n; name = drawn_name (statement_in (written_statements p.body) n) }) (task_origin p t)
+
+-- where a task is forked, by its fork and by the task that drew it, which forks it
+abbrev pub forked_by : Layout → Option ℕ → Option TaskId → Option Forked
+forked_by l (Some n) (Some u) = Some (record { at = statement_place l n; by = u })
+forked_by l _ _ = None
+
+-- the same of task t
+abbrev pub forked_of : Layout → Program → Plan → ℕ → Option Forked
+forked_of l p plan t = forked_by l (fork_origin p t) (slice_index_or plan.parents t None)
+
+-- where the code of task t ends, and the statement of its last visit
+abbrev pub ended_of : Layout → Program → ℕ → Option Ended
+ended_of l p t = option_map (λ f. record { at = end_place l f; last = option_map (statement_place l) (last_origin p t) }) (fork_origin p t)
+
+-- ---- tasks that wait
+
+-- the words of an await
+abbrev pub words_of : Option Coming → List ℕ
+words_of (Some (a_plain (await x off))) = await_text x off
+words_of _ = []
+
+-- turns with the places of their loops
+abbrev pub placed_turns : Layout → List LoopTurn → List Turn
+placed_turns l turns = map (λ (turn : LoopTurn). record { turn = turn.turn; at = statement_place l turn.statement }) turns
+
+-- where task t waits for the event: at the op of its code at which it stands, which comes from statement n
+pub record IsWaiting (l : Layout) (p : Program) (plan : Plan) (a : ℕ → Place) (t : ℕ) (e : Event) (w : Waiting) : Type 0 where
+  pub op : ℕ
+  pub stands : IsAtOp (code_of plan t) (a t).done op
+  pub n : ℕ
+  pub origin : op_origin p t op ≡ Some n
+  pub at : w.at ≡ statement_place l n
+  pub words : w.words ≡ words_of (statement_in (written_statements p.body) n)
+  pub event : w.event ≡ e
+  pub phase : (state_at plan a).phases t e.p.0 ≡ Some w.phase
+  pub turns : w.turns ≡ placed_turns l (op_turns p t op)
+
+-- a task has a wait just where it has ended so
+abbrev pub HasWait : Layout → Program → Plan → (ℕ → Place) → ℕ → TaskEnd → Option Waiting → Type 0
+HasWait l p plan a t (Blocked e) (Some w) = IsWaiting l p plan a t e w
+HasWait l p plan a t (Blocked e) None = ⊥
+HasWait l p plan a t Done w = w ≡ None
+HasWait l p plan a t (Refused e) w = w ≡ None
+HasWait l p plan a t Unforked w = w ≡ None
+
+-- ---- the account
+
+-- what is known of task t
+pub record IsTaskAccount (l : Layout) (p : Program) (plan : Plan) (a : ℕ → Place) (t : ℕ) (account : TaskAccount) : Type 0 where
+  pub drawn : account.drawn ≡ drawn_of l p t
+  pub fork : account.fork ≡ forked_of l p plan t
+  pub ended : account.ended ≡ ended_of l p t
+  pub wait : HasWait l p plan a t (end_of (state_at plan a) t) account.wait
+
+-- the account of the text, which is that of this program, whose plan has been run up to these places
+pub record IsAccount (text : List ℕ) (p : Program) (plan : Plan) (a : ℕ → Place) (account : Account) : Type 0 where
+  pub reads : IsText text p
+  pub layout : Layout
+  pub of_text : layout.text ≡ text
+  pub is_layout : IsLayout p layout
+  pub all_told : length account.tasks ≡ length plan.parents
+  pub each : (t : ℕ) (d : TaskAccount) → t < length plan.parents → IsTaskAccount layout p plan a t (slice_index_or account.tasks t d)
+  pub phasers : account.phasers ≡ map (statement_place layout) (phaser_origins p)

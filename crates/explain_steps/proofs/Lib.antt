@@ -1,0 +1,15 @@
+pub mod AtOp
+pub mod Ready
+pub mod Phases
+pub mod Pieces
+pub mod LineSaid
+pub mod GoingOn
+pub mod SerialIsPlain
+pub mod OneSerialRun
+pub mod Showing
+pub mod OneShowing
+pub mod ShowingExists
+pub mod SerialExists
+pub mod NotingParts
+pub mod OneClockShowing
+pub mod SteppedThrough

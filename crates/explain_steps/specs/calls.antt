@@ -1,0 +1,6 @@
+pub mod SerialRuns
+pub mod SteppedRuns
+pub mod Laws
+pub mod Known
+pub mod SteppedClocks
+pub mod ClockLaws

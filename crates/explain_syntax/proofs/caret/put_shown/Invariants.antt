@@ -1,0 +1,6 @@
+use Rattle.std.proofs.Common.{◌≡◌, ◌++◌, map, take}
+use Rattle.explain_syntax.specs.CaretLines.{shown_byte}
+use Rattle.explain_syntax.proofs.caret.put_shown.Given as goal
+
+abbrev pub invariant-loop-b : goal.invariant-loop-b
+invariant-loop-b l = l.out.items ≡ l.initial.out.items ++ map shown_byte (take l.b-index l.line)

@@ -1,0 +1,112 @@
+// The words for tasks and for where they stand.
+ghost use Rattle.std.specs.Prelude.{◌≡◌, ◌++◌, OnOk, codes, decimal};
+ghost use Rattle.explain_tasks.specs.TaskLists.{by_number};
+
+use crate::facts::Facts;
+use explain_facts::put_words;
+use armus_base::{NoMemory, TaskId};
+use std::alloc::Global;
+use source_map::TextPlace;
+
+/// Appends words that are kept.
+pub fn put_kept(out: &mut Vec<u8>, words: &Vec<u8>) -> Result<(), NoMemory>
+    ensures { OnOk result (out.new.items ≡ out.old.items ++ words.now.items) }
+{
+    put_words(out, words)
+}
+
+/// Appends the word for one, or the word for more.
+pub fn put_by_number(out: &mut Vec<u8>, n: usize, one: &[u8], more: &[u8]) -> Result<(), NoMemory>
+    ensures { OnOk result (out.new.items ≡ out.old.items ++ by_number n one.now more.now) }
+{
+    put_words(out, if n == 1 { one } else { more })
+}
+
+// Appends the number of a task.
+pub(crate) fn put_task(alloc: Global, out: &mut Vec<u8>, t: u32) -> Result<(), NoMemory>
+    ensures { OnOk result (out.new.items ≡ out.old.items ++ (codes "t" ++ decimal t)) }
+{
+    let text = format!(in alloc; "t{t}")?;
+    out.extend_from_slice(text.as_bytes())?;
+    Ok(())
+}
+
+impl<'a> Facts<'a> {
+    ghost use Rattle.explain_tasks.specs.Places.{drawn_place, end_words, fork_place, front_in, name_words, named_task, place_in_line, wait_place};
+
+    // Appends a place within a line.
+    pub(crate) fn put_place(&self, out: &mut Vec<u8>, at: TextPlace) -> Result<(), NoMemory>
+        ensures { OnOk result (out.new.items ≡ out.old.items ++ place_in_line self.now at) }
+    {
+        self.places.put(self.alloc, out, at)
+    }
+
+    // Appends a place with which a line begins.
+    pub(crate) fn put_front(&self, out: &mut Vec<u8>, at: TextPlace) -> Result<(), NoMemory>
+        ensures { OnOk result (out.new.items ≡ out.old.items ++ front_in self.now at) }
+    {
+        self.places.put_front(self.alloc, out, self.file, at)
+    }
+
+    // Appends the name behind the number of a task.
+    pub(crate) fn put_name(&self, out: &mut Vec<u8>, t: TaskId) -> Result<(), NoMemory>
+        ensures { OnOk result (out.new.items ≡ out.old.items ++ name_words self.now t.0) }
+    {
+        match self.drawn(t) {
+            Some(drawn) => {
+                put_words(out, b" (")?;
+                put_words(out, drawn.name.as_slice())?;
+                put_words(out, b")")
+            }
+            None => Ok(()),
+        }
+    }
+
+    /// Appends a task.
+    pub fn put_named(&self, out: &mut Vec<u8>, t: TaskId) -> Result<(), NoMemory>
+        ensures { OnOk result (out.new.items ≡ out.old.items ++ named_task self.now t.0) }
+    {
+        put_task(self.alloc, out, t.0)?;
+        self.put_name(out, t)
+    }
+
+    /// Appends the place where a task waits.
+    pub fn put_wait_place(&self, out: &mut Vec<u8>, t: TaskId) -> Result<(), NoMemory>
+        ensures { OnOk result (out.new.items ≡ out.old.items ++ wait_place self.now t.0) }
+    {
+        match self.wait(t) {
+            Some(wait) => self.put_place(out, wait.at),
+            None => Ok(()),
+        }
+    }
+
+    /// Appends the place where a task is forked.
+    pub fn put_fork_place(&self, out: &mut Vec<u8>, t: TaskId) -> Result<(), NoMemory>
+        ensures { OnOk result (out.new.items ≡ out.old.items ++ fork_place self.now t.0) }
+    {
+        match self.fork(t) {
+            Some(fork) => self.put_place(out, fork.at),
+            None => Ok(()),
+        }
+    }
+
+    // Appends the place where a task was drawn.
+    pub(crate) fn put_drawn_place(&self, out: &mut Vec<u8>, t: TaskId) -> Result<(), NoMemory>
+        ensures { OnOk result (out.new.items ≡ out.old.items ++ drawn_place self.now t.0) }
+    {
+        match self.drawn(t) {
+            Some(drawn) => self.put_place(out, drawn.at),
+            None => Ok(()),
+        }
+    }
+
+    /// Appends the place where the code of a task ends.
+    pub fn put_end_place(&self, out: &mut Vec<u8>, t: TaskId) -> Result<(), NoMemory>
+        ensures { OnOk result (out.new.items ≡ out.old.items ++ end_words self.now t.0) }
+    {
+        match self.end(t) {
+            Some(end) => self.put_place(out, end.at),
+            None => Ok(()),
+        }
+    }
+}

@@ -1,7 +1,0 @@
-use Rattle.std.proofs.Common.{◌≡◌, take}
-use Rattle.explained_tasks.specs.ImpederLines.{group_of}
-use Rattle.task_sayings.specs.Sayings.{impeder_said}
-use Rattle.explained_tasks.proofs.impeder_lines.group.Given as goal
-
-abbrev pub invariant-loop-impeder : goal.invariant-loop-impeder
-invariant-loop-impeder l = l.all.items ≡ group_of l.facts (take l.impeder-index l.impeders) (impeder_said l.facts l.first)

@@ -1,9 +1,0 @@
-use Rattle.std.proofs.lemmas.Result.{on_ok_weaker}
-use Rattle.explained_tasks.proofs.Pieces.{four_pieces}
-use Rattle.explained_tasks.proofs.impeder_lines.put_group.Goals as goal
-
-pub returns : goal.returns
-returns c =
-    on_ok_weaker c.put_words.result
-    (λ e. four_pieces _ _ _ _ _ _ _ _ _ c.in_ok-put_keeping.ensures c.in_ok-put_kept.ensures c.in_ok-put_forking.ensures e)
-    c.put_words.ensures

@@ -1,7 +1,0 @@
-use Rattle.std.proofs.Common.{◌≡◌, map, take}
-use Rattle.explained_tasks.specs.ImpederLines.{rest_of}
-use Rattle.task_sayings.specs.Sayings.{impeder_said}
-use Rattle.explained_tasks.proofs.impeder_lines.rest.Given as goal
-
-abbrev pub invariant-loop-impeder : goal.invariant-loop-impeder
-invariant-loop-impeder l = l.rest.items ≡ rest_of l.facts (take l.impeder-index l.impeders) (map (impeder_said l.facts) l.firsts)

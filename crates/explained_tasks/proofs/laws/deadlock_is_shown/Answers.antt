@@ -1,5 +1,0 @@
-use Rattle.explained_tasks.proofs.DeadlockShown.{deadlock_is_reported, shown_are_dead}
-use Rattle.explained_tasks.proofs.laws.deadlock_is_shown.Goals as goal
-
-pub returns : goal.returns
-returns c = record { reported = deadlock_is_reported; dead = shown_are_dead }

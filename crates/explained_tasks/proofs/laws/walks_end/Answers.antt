@@ -1,5 +1,0 @@
-use Rattle.explained_tasks.proofs.ForkersWait.{chains_end, forkers_to_come}
-use Rattle.explained_tasks.proofs.laws.walks_end.Goals as goal
-
-pub returns : goal.returns
-returns c = record { forkers = forkers_to_come; chains = chains_end }

@@ -1,7 +1,0 @@
-use Rattle.std.proofs.Common.{◌≡◌, ◌++◌}
-use Rattle.explained_tasks.specs.VerdictWords.{linked_words}
-use Rattle.report.proofs.Texts.{first_texts}
-use Rattle.explained_tasks.proofs.verdict_line.put_links.Given as goal
-
-abbrev pub invariant-loop-k : goal.invariant-loop-k
-invariant-loop-k l = l.out.items ≡ l.initial.out.items ++ first_texts (linked_words l.facts) l.k l.shown

@@ -1,9 +1,0 @@
--- What is known fits the state of the run.
-use Rattle.std.specs.Prelude.{◌≡◌, ℕ, true, IsSome}
-use Rattle.armus_base.specs.States.{Phases}
-use Rattle.task_sayings.specs.Facts.{FactsValue, is_waiting, situation_of}
-use Rattle.task_sayings.specs.Nexts.{next_of}
-
--- a task that waits has a next
-abbrev pub WaitForSome : FactsValue → (ℕ → Phases) → Type 0
-WaitForSome f phases = (t : ℕ) → is_waiting (situation_of f t) ≡ true → IsSome (next_of f phases t)

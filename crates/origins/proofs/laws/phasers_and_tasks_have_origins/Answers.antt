@@ -1,6 +1,0 @@
-use Rattle.origins.proofs.CodesOfVisits.{makers_are_of_visits, parents_are_of_visits}
-use Rattle.origins.proofs.MadeByVisits.{phasers_have_origins, tasks_have_origins}
-use Rattle.origins.proofs.laws.phasers_and_tasks_have_origins.Goals as goal
-
-pub returns : goal.returns
-returns c = record { makers = makers_are_of_visits; parents = parents_are_of_visits; phasers = phasers_have_origins; tasks = tasks_have_origins }

@@ -1,6 +1,0 @@
-use Rattle.std.proofs.Common.{◌≡◌, ◌++◌, map, take}
-use Rattle.refusals.specs.CaretLines.{shown_byte}
-use Rattle.refusals.proofs.caret.put_shown.Given as goal
-
-abbrev pub invariant-loop-b : goal.invariant-loop-b
-invariant-loop-b l = l.out.items ≡ l.initial.out.items ++ map shown_byte (take l.b-index l.line)

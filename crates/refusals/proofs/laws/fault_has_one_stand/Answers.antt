@@ -1,5 +1,0 @@
-use Rattle.refusals.proofs.OneStand.{one_stand}
-use Rattle.refusals.proofs.laws.fault_has_one_stand.Goals as goal
-
-pub returns : goal.returns
-returns c = one_stand

@@ -1,6 +1,0 @@
-use Rattle.refused_awaits.proofs.AvoidedExists.{avoided_explanation_exists}
-use Rattle.refused_awaits.proofs.OneAvoided.{one_avoided_explanation as one_proved}
-use Rattle.refused_awaits.proofs.laws.one_avoided_explanation.Goals as goal
-
-pub returns : goal.returns
-returns c = record { one = one_proved; exists = avoided_explanation_exists }

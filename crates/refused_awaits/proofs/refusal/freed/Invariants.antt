@@ -1,5 +1,0 @@
-use Rattle.refused_awaits.specs.inside.Freed.{AreThoseBelow, IsFreed}
-use Rattle.refused_awaits.proofs.refusal.freed.Given as goal
-
-abbrev pub invariant-loop-u : goal.invariant-loop-u
-invariant-loop-u l = AreThoseBelow (IsFreed l.world l.phases) l.u l.all.items

@@ -1,9 +1,0 @@
-use Rattle.std.proofs.Common.{◌+◌, refl}
-use Rattle.step_lines.proofs.GoingOn.{one_more}
-use Rattle.step_lines.proofs.stepping.Stepping.go_on.Goals as goal
-
-pub returns-in_ok-show-in-Some-clause-moved : goal.returns-in_ok-show-in-Some-clause-moved
-returns-in_ok-show-in-Some-clause-moved g c = λ on h so_far.
-    one_more (g.T.TellsSteps.words c.args.text.now) c.args.self.now
-    (record { world = c.step.new.self; lines = c.show.new.out; steps = c.args.self.now.steps + 1 }) c.in-Some.t.0 h so_far c.step.ensures
-    c.in-Some.ensures.2 refl c.in_ok-show-in-Some.ensures.shown c.in_ok-show-in-Some.ensures.rest

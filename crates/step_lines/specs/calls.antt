@@ -1,3 +1,0 @@
-pub mod SerialRuns
-pub mod SteppedRuns
-pub mod Laws

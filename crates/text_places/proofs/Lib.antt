@@ -1,6 +1,0 @@
-mod Lines
-mod Found
-mod Building
-mod Prefixes
-mod Comments
-mod Names

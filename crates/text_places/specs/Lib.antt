@@ -1,7 +1,0 @@
-pub mod NamedPlaces
-pub mod TextPlaces
-pub mod PlaceWords
--- How the program does it: private contracts alone cite these.
-pub mod inside
--- Words of contracts further down, which no promise of a program needs.
-pub mod calls
