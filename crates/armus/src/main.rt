@@ -2,7 +2,8 @@
 #![tactic(auto)]
 
 use armus_base::{NoMemory, StdSink, StdSource, Still};
-use armus_top::{armus, command_words};
+use armus_top::armus;
+use program_io::command_words;
 use std::process::ExitCode;
 
 fn main(rt: HostRuntime) -> ExitCode {

@@ -2,7 +2,7 @@
 #![tactic(auto)]
 
 use armus_base::{NoMemory, StdSink, StdSource};
-use armus_top::command_words;
+use program_io::command_words;
 use explain::{Request, explain, request_of};
 use std::fs::File;
 use std::io::{Eprint, ErrorKind, Read};

@@ -8,16 +8,18 @@ use Rattle.report.specs.declared.refusal.Refusal.TheVariants as refusal
 use Rattle.command_line.specs.declared.command.Command.{Command}
 use Rattle.command_line.specs.declared.command.Command.TheVariants as command
 use Rattle.command_line.specs.declared.command.Graph.{Graph}
-use Rattle.command_line.specs.Words.{Text}
+use Rattle.program_io.specs.Texts.{Text}
 use Rattle.armus_top.specs.declared.output.InputEnd.{InputEnd}
 use Rattle.armus_top.specs.declared.output.InputEnd.TheVariants.{Clock, NoMemory, Refused}
 use Rattle.armus_top.specs.declared.output.Output.{Output}
 use Rattle.armus_top.specs.Commands.{IsAnswered, IsRefusedInput, limit_of, writes_live}
-use Rattle.armus_top.specs.Headline.{Answers, Ends, EndsWith, GaveTooMuch, HasInput, IsSound, Passage, Permits, limit_for, writes_lines}
+use Rattle.program_io.specs.Passages.{EndsWith, GaveTooMuch, HasInput, IsSound, Passage}
+use Rattle.armus_top.specs.Headline.{Answers, Ends, Permits, limit_for, writes_lines}
 use Rattle.armus_top.specs.inside.Answers.{AnswersBy, IsClockInputEnd, IsEnd, IsEndOf}
 use Rattle.armus_top.specs.inside.Reading.{EndsUnread, IsReadFor}
-use Rattle.armus_top.specs.inside.Status.{number_of_status}
-use Rattle.armus_top.specs.inside.Writing.{Answered, Finished, LeavesNothing, LeavesOutput, Refuses, RefusesClocks, nothing, wrote}
+use Rattle.program_io.specs.calls.ExitNumbers.{number_of_status}
+use Rattle.program_io.specs.calls.Writing.{Finished}
+use Rattle.armus_top.specs.inside.Writing.{Answered, LeavesNothing, LeavesOutput, Refuses, RefusesClocks, nothing, wrote}
 use Rattle.armus_top.proofs.WaysToEnd.{ends_left, ends_without_input, leaves_one_of_more}
 
 -- why a text has no plan is why a command has no answer that refuses its input for the faults of a text

@@ -16,11 +16,11 @@ use Rattle.armus_base.proofs.StatusesAre.{statuses_are}
 use Rattle.adaptive.specs.declared.analysis.Wanted.{Wanted}
 use Rattle.report.specs.Reports.{IsReport}
 use Rattle.world_runs.specs.calls.AvoidedRuns.{IsAvoidedEnd, IsSerialEnd}
-use Rattle.command_line.specs.Words.{Text}
-use Rattle.armus_top.specs.Programs.{IsPlanOf}
+use Rattle.program_io.specs.Texts.{Text}
+use Rattle.program_io.specs.Programs.{IsPlanOf}
 use Rattle.armus_top.specs.Avoids.{IsAvoidOf, IsNeverDead, TellsRefused, ended_refused}
-use Rattle.armus_top.proofs.OnePlan.{checked_plan}
-use Rattle.armus_top.proofs.SomeBelow.{none_below, some_below}
+use Rattle.program_io.proofs.OnePlan.{checked_plan}
+use Rattle.program_io.proofs.SomeBelow.{none_below, some_below}
 
 pub avoided_end_in_order : (plan : Plan) (end : Final) → IsCheckedPlan plan → IsAvoidedEnd plan end → IsInOrder end.blocked
 avoided_end_in_order plan end checked is =

@@ -1,18 +1,18 @@
 -- Each call has an answer.
 use Rattle.std.proofs.Common.{◌≤◌, ℕ, List, inl, inr, refl}
 use Rattle.std.specs.Prelude.{Option, Some, None}
-use Rattle.command_line.specs.Commands.{IsGenerated}
+use Rattle.command_line.specs.Commands.{IsGenerated, Means}
 use Rattle.command_line.specs.declared.command.Command.{Command}
 use Rattle.command_line.specs.declared.command.Command.TheVariants.{Gen}
 use Rattle.command_line.specs.declared.table.TheConstants.{MAX_GENERATED}
 use Rattle.command_line.proofs.EachMeaning.{each_meaning}
-use Rattle.command_line.specs.Words.{Text}
+use Rattle.program_io.specs.Texts.{Text}
 use Rattle.armus_top.specs.Texts.{usage_line}
 use Rattle.armus_top.specs.Commands.{length_line, limit_of}
-use Rattle.armus_top.specs.Headline.{HasInput, Passage, Permits}
+use Rattle.program_io.specs.Passages.{HasInput, Passage}
+use Rattle.armus_top.specs.Headline.{Permits}
 use Rattle.armus_top.specs.Inputs.{EachCallIsMet, HasGiven}
 use Rattle.armus_top.specs.calls.Inputs.{FitsLimit, MayGenerate}
-use Rattle.command_line.specs.Commands.{Means}
 use Rattle.armus_top.proofs.InputsMet.{each_input_is_met}
 
 fits_of : (limit : Option ℕ) (src : Passage) (input : Text) → HasInput limit src input → FitsLimit limit input

@@ -8,11 +8,12 @@ use Rattle.armus_base.proofs.Fronts.{front_after}
 use Rattle.armus_base.specs.Causes.{Rose, counted}
 use Rattle.armus_top.specs.Commands.{limit_of, IsRefusedInput}
 use Rattle.armus_top.proofs.Inputs.{answered_small, never_both}
-use Rattle.armus_top.proofs.WaysToEnd.{ends_finished}
-use Rattle.command_line.specs.Words.{Text}
-use Rattle.armus_top.specs.inside.Writing.{Finished}
-use Rattle.armus_top.specs.Headline.{Passage, Completes, Ends, GaveTooMuch, IsAccepted, HasInput, IsCall, IsCalm}
-use Rattle.armus_top.specs.Headline.{IsServed, IsSound, Offers, OffersTooMuch, Permits, limit_for, writes_lines, whole, read_fault, write_fault, no_memory}
+use Rattle.program_io.proofs.EndsFinished.{ends_finished}
+use Rattle.program_io.specs.Texts.{Text}
+use Rattle.program_io.proofs.Inputs.{not_long, not_more, rose_from, same_input}
+use Rattle.program_io.specs.calls.Writing.{Finished}
+use Rattle.program_io.specs.Passages.{Passage, GaveTooMuch, HasInput, IsCalm, IsSound, Offers, OffersTooMuch, whole, read_fault, write_fault, no_memory}
+use Rattle.armus_top.specs.Headline.{Completes, Ends, IsAccepted, IsCall, IsServed, Permits, limit_for, writes_lines}
 use Rattle.command_line.specs.declared.command.Command.{Command}
 
 only : {d e : Command} → Some d ≡ Some e → d ≡ e
@@ -40,36 +41,6 @@ by_pieces out mid first text status number faults faults_after same took (inr (f
       subst (λ b. TookFront out.before b (first ++ text)) same
           (front_after out.before mid.before mid.after first text took rest),
     )
-
-known_whole : (a : Option Text) (b : Option Text) (xs input : Text) → a ≡ Some xs → Consumes a b input → IsAtEnd b → xs ≡ input
-known_whole None b xs input e p q = absurd (cc)
-known_whole (Some ys) None xs input e p q = absurd p
-known_whole (Some ys) (Some zs) xs input e p q =
-    let same : xs ≡ ys = cc in
-    same ∙ p ∙ ap (λ t. input ++ t) q ∙ append-nil input
-
-known_front : (a : Option Text) (b : Option Text) (xs front : Text) → a ≡ Some xs → Consumes a b front → length front ≤ length xs
-known_front None b xs front e p = absurd (cc)
-known_front (Some ys) None xs front e p = absurd p
-known_front (Some ys) (Some zs) xs front e p =
-    let same : xs ≡ ys = cc in
-    let joined : xs ≡ front ++ zs = same ∙ p in
-    rw joined (simp length-append (omega arith))
-
-pub same_input : (l : Option ℕ) (src : Passage) (input read : Text) → Offers l src input → HasInput l src read → input ≡ read
-same_input (Some limit) src input read offers has = known_whole src.before src.after input read offers.0 has.0 has.1
-same_input None src input read offers has = offers ∙ sym has
-
-pub not_more : (l : Option ℕ) (src : Passage) (input : Text) → Offers l src input → GaveTooMuch l src → ⊥
-not_more (Some limit) src input offers (front, gave, much) =
-    let more = known_front src.before src.after input front offers.0 gave in omega (arith, more, much, offers.1)
-not_more None src input offers much = much
-
-pub not_long : (l : Option ℕ) (src : Passage) (read : Text) → OffersTooMuch l src → HasInput l src read → ⊥
-not_long (Some limit) src read (bytes, known, more) has =
-    let same : bytes ≡ read = known_whole src.before src.after bytes read known has.0 has.1 in
-    omega (arith, ap length same, more, has.2)
-not_long None src read more has = more
 
 module _ (src : Passage) where
   -- what the words and the source permit has the status that the words and the input fix
@@ -107,9 +78,6 @@ module _ (src : Passage) where
     refused = λ command input line is offers other. three;
     long = λ command is more. three;
   }
-
-pub rose_from : (before now : ℕ) → now ≡ counted before → Rose before now
-rose_from before now e = omega arith
 
 pub completes : (c : Option Command) (src out : Passage) (number : ℕ) → Ends c src out number → IsCalm src out number → Completes c src number
 completes c src out number (whole text permits took still sound) calm = fixed src c number text permits

@@ -10,14 +10,14 @@ use Rattle.pl_generator.specs.Generated.{generated_text}
 use Rattle.report.specs.Reports.{IsReport}
 use Rattle.schedule.specs.Lines.{IsCut, IsFirstLine, a_line, no_line}
 use Rattle.schedule.proofs.LinesExist.{first_exists}
-use Rattle.command_line.specs.Words.{Text}
+use Rattle.program_io.specs.Texts.{Text}
 use Rattle.pl_syntax.specs.Printed.{line}
 use Rattle.armus_top.specs.Generated.{IsFirstAndLast}
 use Rattle.armus_top.specs.calls.Inputs.{MayGenerate}
-use Rattle.armus_top.specs.Programs.{IsChecked}
+use Rattle.program_io.specs.Programs.{IsChecked}
 use Rattle.armus_top.proofs.TwoLines.{more_lines, report_has_two}
 use Rattle.armus_top.proofs.WholeOutputs.{IsMet}
-use Rattle.armus_top.proofs.OnePlan.{checked_plan}
+use Rattle.program_io.proofs.OnePlan.{checked_plan}
 use Rattle.armus_top.proofs.RunsMet.{run_met}
 
 -- bytes that are some have a last line

@@ -8,12 +8,12 @@ use Rattle.command_line.specs.declared.command.Command.{Command}
 use Rattle.command_line.specs.declared.command.Command.TheVariants.{Check, Run, Avoid, Record, Replay, Gen, Clock, Pool}
 use Rattle.command_line.specs.declared.command.RunKind.{RunKind}
 use Rattle.command_line.specs.declared.command.RunKind.TheVariants.{Plain, Live, Sites}
-use Rattle.command_line.specs.Words.{Text}
+use Rattle.program_io.specs.Texts.{Text}
 use Rattle.armus_top.specs.Avoids.{TellsRefused}
-use Rattle.armus_top.specs.Programs.{TellsDead}
+use Rattle.armus_top.specs.DeadStatus.{TellsDead}
 use Rattle.armus_top.specs.Commands.{IsAnswered, IsRefusedInput}
 use Rattle.armus_top.specs.Runs.{IsRunOutput, kind_of}
-use Rattle.armus_top.proofs.OnePlan.{plan_or_fault}
+use Rattle.program_io.proofs.OnePlan.{plan_or_fault}
 use Rattle.armus_top.proofs.OneClockPlan.{clock_plan_or_refused}
 use Rattle.armus_top.proofs.ReplayInputs.{refused_or_replayed}
 

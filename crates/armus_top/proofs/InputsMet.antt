@@ -9,16 +9,17 @@ use Rattle.command_line.specs.declared.command.RunKind.TheVariants.{Plain}
 use Rattle.pl_syntax.specs.Printed.{printed_of}
 use Rattle.report.specs.Refusals.{refusal_text}
 use Rattle.report.specs.declared.refusal.Refusal.{Refusal}
-use Rattle.command_line.specs.Words.{Text}
+use Rattle.program_io.specs.Texts.{Text}
 use Rattle.armus_top.specs.Texts.{plan_line}
 use Rattle.armus_top.specs.Commands.{IsRefusedInput, limit_of, wanted_of}
 use Rattle.armus_top.specs.calls.Inputs.{EachInputIsMet, FitsLimit, MayGenerate}
-use Rattle.armus_top.specs.Programs.{IsFaultOf, IsPlanOf}
+use Rattle.program_io.specs.Programs.{IsFaultOf, IsPlanOf}
 use Rattle.armus_top.specs.Runs.{IsRunOutput, kind_of}
-use Rattle.armus_top.proofs.OnePlan.{checked_plan}
+use Rattle.program_io.proofs.OnePlan.{checked_plan}
 use Rattle.armus_top.proofs.TextEnds.{clock_run_of}
 use Rattle.armus_top.proofs.OneClockPlan.{checked_clock_plan, clock_plan_or_line}
-use Rattle.armus_top.proofs.WholeOutputs.{IsMet, refused, plan_or_refused}
+use Rattle.program_io.proofs.EachText.{plan_or_refused}
+use Rattle.armus_top.proofs.WholeOutputs.{IsMet, refused}
 use Rattle.armus_top.proofs.RunsMet.{avoid_met, output_met}
 use Rattle.armus_top.proofs.RecordsMet.{record_met}
 use Rattle.armus_top.proofs.ReplaysMet.{replay_met}

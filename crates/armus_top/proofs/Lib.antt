@@ -1,4 +1,3 @@
-pub mod OnePlan
 pub mod OneClockPlan
 pub mod OneRefusal
 pub mod TextEnds
@@ -23,4 +22,3 @@ pub mod GeneratedMet
 pub mod InputsMet
 pub mod CallsMet
 pub mod LiveRuns
-pub mod SomeBelow

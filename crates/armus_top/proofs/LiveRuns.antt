@@ -21,12 +21,13 @@ use Rattle.task_runner.specs.declared.ran.Ran.{Ran}
 use Rattle.task_runner.specs.declared.ran.RunEnd.TheVariants as ends
 use Rattle.adaptive.specs.declared.analysis.Wanted.{Wanted}
 use Rattle.armus_top.specs.declared.output.Output.{Output}
-use Rattle.armus_top.specs.Headline.{Passage}
+use Rattle.program_io.specs.Passages.{Passage}
 use Rattle.armus_top.specs.Runs.{IsLiveRunOf, IsRunOf}
-use Rattle.command_line.specs.Words.{Text}
+use Rattle.program_io.specs.Texts.{Text}
 use Rattle.armus_top.specs.inside.Answers.{ReportsEnd}
-use Rattle.armus_top.specs.inside.Status.{number_of_status}
-use Rattle.armus_top.specs.inside.Writing.{Finished, LeavesOutput, part, wrote}
+use Rattle.program_io.specs.calls.ExitNumbers.{number_of_status}
+use Rattle.program_io.specs.calls.Writing.{Finished}
+use Rattle.armus_top.specs.inside.Writing.{LeavesOutput, part, wrote}
 use Rattle.armus_top.proofs.Ending.{by_pieces}
 use Rattle.armus_top.proofs.RunsMet.{run_met}
 use Rattle.armus_top.proofs.Reporting.{run_of}

@@ -1,18 +1,19 @@
 -- What the words mean to the program is one command at most, and it tells whether the first word is `record` or `pool`.
 use Rattle.std.proofs.Common.{◌≡◌, ◌∙◌, ◌⊎◌, List, inl, inr, ap, sym, refl, subst, arith, Bool, true, false}
 use Rattle.std.specs.Prelude.{ℕ, ◌∷◌, Option, Some, None}
-use Rattle.command_line.specs.Commands.{AreWorkers, IsCommand, IsRunKind, first_of}
+use Rattle.command_line.specs.Commands.{AreWorkers, IsCommand, IsRunKind, first_of, Means}
 use Rattle.command_line.specs.inside.Form.{first_named}
 use Rattle.command_line.proofs.Meaning.{first_is, head_is, one_meaning}
 use Rattle.command_line.specs.declared.command.Command.{Command}
 use Rattle.command_line.specs.declared.command.Command.TheVariants.{Run, Avoid, Record, Clock, Pool}
 use Rattle.command_line.specs.declared.command.RunKind.{RunKind}
 use Rattle.command_line.specs.declared.table.FirstWord.TheVariants as first
-use Rattle.command_line.specs.Words.{HaveForm, Text}
-use Rattle.command_line.specs.Commands.{Means}
+use Rattle.program_io.specs.Texts.{Text}
+use Rattle.command_line.specs.Words.{HaveForm}
 use Rattle.armus_top.specs.calls.Meanings.{BeginsRecordOrPool}
 use Rattle.armus_top.specs.inside.Serving.{MayHaveSites, MayWork, WaitsForNoThread, WaitsForThreads}
-use Rattle.armus_top.specs.Headline.{Ends, IsCall, Passage, Serves, reads_input, writes_lines}
+use Rattle.program_io.specs.Passages.{Passage}
+use Rattle.armus_top.specs.Headline.{Ends, IsCall, Serves, reads_input, writes_lines}
 
 pub serves_by : (words : List Text) (src out : Passage) (number : ℕ) (meaning : Option Command) → Means words meaning → Ends meaning src out number
     → Serves words src out number

@@ -10,7 +10,7 @@ use Rattle.clock_syntax.proofs.ClockUnique.{not_both_clocks, one_clock_tree}
 use Rattle.clock_semantics.specs.Unfolding.{clock_plan_of}
 use Rattle.clock_semantics.proofs.ClockPlanIsChecked.{clock_plan_is_checked}
 use Rattle.pl_plan.specs.declared.fault.CheckFault.{CheckFault}
-use Rattle.command_line.specs.Words.{Text}
+use Rattle.program_io.specs.Texts.{Text}
 use Rattle.armus_top.specs.Clocks.{IsClockPlanOf, IsClockRefused}
 
 -- a clock text with a plan is not refused

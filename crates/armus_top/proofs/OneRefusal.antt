@@ -8,9 +8,10 @@ use Rattle.pl_syntax.specs.declared.tree.Program.{Program}
 use Rattle.pl_syntax.proofs.Unique.{one_fault, one_tree, text_or_fault}
 use Rattle.report.specs.declared.refusal.Refusal.{Refusal}
 use Rattle.report.specs.declared.refusal.Refusal.TheVariants.{Check, Syntax}
-use Rattle.command_line.specs.Words.{Text}
+use Rattle.program_io.specs.Texts.{Text}
 use Rattle.armus_top.specs.Avoids.{TellsRefused}
-use Rattle.armus_top.specs.Programs.{IsFaultOf, TellsDead}
+use Rattle.program_io.specs.Programs.{IsFaultOf}
+use Rattle.armus_top.specs.DeadStatus.{TellsDead}
 
 pub one_status : (state : State) (a b : ℕ) → TellsDead state a → TellsDead state b → a ≡ b
 one_status state a b (inl (x, some)) (inl (y, other)) = x ∙ sym y

@@ -12,8 +12,8 @@ use Rattle.armus_base.proofs.DeadByStatuses.{dead_by_final, run_is_of_plan}
 use Rattle.report.specs.Reports.{IsSomeDead}
 use Rattle.schedule.specs.Records.{IsRecord}
 use Rattle.world_runs.specs.calls.RecordedRuns.{IsRecordedRun}
-use Rattle.command_line.specs.Words.{Text}
-use Rattle.armus_top.specs.Programs.{IsPlanOf}
+use Rattle.program_io.specs.Texts.{Text}
+use Rattle.program_io.specs.Programs.{IsPlanOf}
 use Rattle.armus_top.specs.Records.{IsRecordOf}
 use Rattle.armus_top.proofs.Reporting.{tells}
 

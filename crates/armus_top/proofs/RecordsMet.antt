@@ -11,11 +11,11 @@ use Rattle.adaptive.specs.declared.analysis.Wanted.TheVariants as wanted
 use Rattle.locked_world.specs.Journals.{journal_of}
 use Rattle.report.proofs.ReportExists.{report_exists}
 use Rattle.schedule.specs.Records.{IsClosedText, IsEnded, recorded}
-use Rattle.command_line.specs.Words.{Text}
+use Rattle.program_io.specs.Texts.{Text}
 use Rattle.pl_syntax.specs.Printed.{line}
-use Rattle.armus_top.specs.Programs.{IsPlanOf}
+use Rattle.program_io.specs.Programs.{IsPlanOf}
 use Rattle.armus_top.specs.Records.{IsRecordOf}
-use Rattle.armus_top.proofs.OnePlan.{checked_plan}
+use Rattle.program_io.proofs.OnePlan.{checked_plan}
 use Rattle.armus_top.proofs.WholeOutputs.{status_by}
 
 by_rest :

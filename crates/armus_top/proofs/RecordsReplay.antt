@@ -24,20 +24,22 @@ use Rattle.schedule.proofs.JournalFits.{journal_fits_plan}
 use Rattle.schedule.proofs.JournalReplays.{journal_replays}
 use Rattle.schedule.proofs.OneSchedule.{one_reading, one_split}
 use Rattle.schedule.proofs.RecordIsRead.{record_is_read}
-use Rattle.command_line.specs.Words.{Text}
-use Rattle.armus_top.specs.Programs.{IsPlanOf, TellsDead}
+use Rattle.program_io.specs.Texts.{Text}
+use Rattle.program_io.specs.Programs.{IsPlanOf}
+use Rattle.armus_top.specs.DeadStatus.{TellsDead}
 use Rattle.armus_top.specs.Records.{IsRecordOf}
 use Rattle.armus_top.specs.Replayable.{IsReplayable, WritesReplayable}
 use Rattle.armus_top.specs.calls.Replayable.{RecordsReplay}
 use Rattle.armus_top.specs.Commands.{limit_of}
-use Rattle.armus_top.specs.Headline.{Ends, HasInput, Passage, Permits, Serves, no_memory, read_fault, whole, write_fault}
+use Rattle.program_io.specs.Passages.{HasInput, Passage, no_memory, read_fault, whole, write_fault}
+use Rattle.armus_top.specs.Headline.{Ends, Permits, Serves}
 use Rattle.command_line.specs.declared.command.Command.TheVariants.{Record}
 use Rattle.std.specs.Io.KnownBytes.{Appends}
 use Rattle.std.proofs.lemmas.List.{append_cancel_left}
 use Rattle.armus_top.specs.Replays.{IsReplayFault, IsReplayOf, IsReplayRefused, IsShort}
-use Rattle.armus_top.specs.declared.programs.TheConstants.{MAX_TEXT_BYTES}
+use Rattle.program_io.specs.declared.text_limit.TheConstants.{MAX_TEXT_BYTES}
 use Rattle.armus_top.specs.declared.replaying.TheConstants.{MAX_REPLAY_BYTES}
-use Rattle.armus_top.proofs.OnePlan.{checked_plan, one_plan, plan_or_fault}
+use Rattle.program_io.proofs.OnePlan.{checked_plan, one_plan, plan_or_fault}
 
 -- ---- the closed text
 

@@ -11,13 +11,14 @@ use Rattle.schedule.specs.Replays.{IsFirstFault}
 use Rattle.schedule.specs.Replaying.{AreDeadIn}
 use Rattle.schedule.proofs.OneSchedule.{one_reading, one_split}
 use Rattle.schedule.proofs.OneReplay.{never_both}
-use Rattle.command_line.specs.Words.{Text}
+use Rattle.program_io.specs.Texts.{Text}
 use Rattle.armus_top.specs.inside.Answers.{IsEnd}
-use Rattle.armus_top.specs.Programs.{IsFaultOf, TellsDead}
+use Rattle.program_io.specs.Programs.{IsFaultOf}
+use Rattle.armus_top.specs.DeadStatus.{TellsDead}
 use Rattle.armus_top.specs.Replays.{IsReplayedBy, IsReplayFault, IsReplayOf, IsReplayRefused, IsShort}
 use Rattle.armus_top.specs.declared.output.InputEnd.{InputEnd}
 use Rattle.armus_top.specs.declared.output.InputEnd.TheVariants.{Refused, NoMemory}
-use Rattle.armus_top.proofs.OnePlan.{checked_plan, one_plan, plan_or_fault}
+use Rattle.program_io.proofs.OnePlan.{checked_plan, one_plan, plan_or_fault}
 
 -- ---- no input is both refused and replayed
 

@@ -26,13 +26,15 @@ use Rattle.schedule.specs.Texts.{text_of}
 use Rattle.schedule.proofs.LinesExist.{bytes_have_lines, input_is_split}
 use Rattle.schedule.proofs.PassesNameTheDead.{passes_name_the_dead}
 use Rattle.schedule.proofs.LinesMet.{leads_run, lines_are_met}
-use Rattle.command_line.specs.Words.{Text}
+use Rattle.program_io.specs.Texts.{Text}
 use Rattle.pl_syntax.specs.Printed.{line}
-use Rattle.armus_top.specs.Programs.{IsFaultOf, TellsDead}
+use Rattle.program_io.specs.Programs.{IsFaultOf}
+use Rattle.armus_top.specs.DeadStatus.{TellsDead}
 use Rattle.armus_top.specs.Replays.{IsShort, ReadsAs}
-use Rattle.armus_top.specs.declared.programs.TheConstants.{MAX_TEXT_BYTES}
-use Rattle.armus_top.proofs.OnePlan.{checked_plan}
-use Rattle.armus_top.proofs.WholeOutputs.{IsMet, refused, plan_or_refused}
+use Rattle.program_io.specs.declared.text_limit.TheConstants.{MAX_TEXT_BYTES}
+use Rattle.program_io.proofs.OnePlan.{checked_plan}
+use Rattle.program_io.proofs.EachText.{plan_or_refused}
+use Rattle.armus_top.proofs.WholeOutputs.{IsMet, refused}
 use Rattle.armus_top.proofs.RecordsMet.{ends_or_not}
 
 verdicts_from :

@@ -15,11 +15,11 @@ use Rattle.armus_base.proofs.StatusesAre.{statuses_are}
 use Rattle.adaptive.specs.declared.analysis.Wanted.{Wanted}
 use Rattle.report.specs.Reports.{IsReport, IsSomeDead}
 use Rattle.world_runs.specs.calls.PlainRuns.{IsPlainEnd}
-use Rattle.command_line.specs.Words.{Text}
+use Rattle.program_io.specs.Texts.{Text}
 use Rattle.armus_top.specs.declared.output.Output.{Output}
 use Rattle.armus_top.specs.inside.Answers.{ReportsEnd}
-use Rattle.armus_top.specs.inside.Status.{number_of_status}
-use Rattle.armus_top.specs.Programs.{TellsDead}
+use Rattle.program_io.specs.calls.ExitNumbers.{number_of_status}
+use Rattle.armus_top.specs.DeadStatus.{TellsDead}
 use Rattle.armus_top.specs.Runs.{IsRunOf}
 
 pub plain_end_in_order : (plan : Plan) (end : Final) → IsCheckedPlan plan → IsPlainEnd plan end → IsInOrder end.blocked

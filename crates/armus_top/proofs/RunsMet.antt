@@ -19,11 +19,11 @@ use Rattle.report.proofs.ReportExists.{report_exists}
 use Rattle.world_runs.proofs.SerialExists.{serial_run_ends}
 use Rattle.command_line.specs.declared.command.RunKind.{RunKind}
 use Rattle.command_line.specs.declared.command.RunKind.TheVariants.{Plain, Live, Sites}
-use Rattle.command_line.specs.Words.{Text}
+use Rattle.program_io.specs.Texts.{Text}
 use Rattle.armus_top.specs.Avoids.{IsAvoidOf}
-use Rattle.armus_top.specs.Programs.{IsPlanOf}
+use Rattle.program_io.specs.Programs.{IsPlanOf}
 use Rattle.armus_top.specs.Runs.{IsLiveRunOf, IsRunOf, IsRunOutput}
-use Rattle.armus_top.proofs.OnePlan.{checked_plan}
+use Rattle.program_io.proofs.OnePlan.{checked_plan}
 use Rattle.armus_top.proofs.AvoidedReports.{never_dead}
 use Rattle.armus_top.proofs.WholeOutputs.{status_by, status_refused}
 

@@ -8,23 +8,24 @@ use Rattle.command_line.specs.declared.command.Command.TheVariants.{Clock, Run}
 use Rattle.command_line.specs.declared.command.Graph.{Graph}
 use Rattle.command_line.specs.declared.command.RunKind.{RunKind}
 use Rattle.command_line.specs.declared.command.RunKind.TheVariants.{Live, Plain, Sites}
-use Rattle.command_line.specs.Commands.{IsCommand}
-use Rattle.command_line.specs.Words.{Text}
+use Rattle.command_line.specs.Commands.{IsCommand, Means}
+use Rattle.program_io.specs.Texts.{Text}
 use Rattle.armus_top.specs.declared.output.InputEnd.{InputEnd}
 use Rattle.armus_top.specs.declared.output.Output.{Output}
-use Rattle.armus_top.specs.declared.output.ExitStatus.{ExitStatus}
+use Rattle.program_io.specs.declared.exit_status.ExitStatus.{ExitStatus}
 use Rattle.armus_top.specs.Clocks.{IsClockPlanOf}
 use Rattle.armus_top.specs.Commands.{IsAnswered, limit_of, wanted_of, writes_live}
-use Rattle.armus_top.specs.Headline.{Answers, Ends, HasInput, IsCall, IsSound, Passage, reads_input}
+use Rattle.program_io.specs.Passages.{HasInput, IsSound, Passage}
+use Rattle.armus_top.specs.Headline.{Answers, Ends, IsCall, reads_input}
 use Rattle.armus_top.specs.calls.Inputs.{FitsLimit}
-use Rattle.command_line.specs.Commands.{Means}
-use Rattle.armus_top.specs.Programs.{IsPlanOf}
+use Rattle.program_io.specs.Programs.{IsPlanOf}
 use Rattle.armus_top.specs.Runs.{IsLiveRunOf, IsRunOf}
 use Rattle.armus_top.specs.Texts.{usage_line}
 use Rattle.armus_top.specs.inside.Answers.{AnswersBy, IsEndOf}
 use Rattle.armus_top.specs.inside.Reading.{EndsUnread, IsReadFor}
-use Rattle.armus_top.specs.inside.Status.{number_of_status}
-use Rattle.armus_top.specs.inside.Writing.{Answered, Finished, LeavesOutput}
+use Rattle.program_io.specs.calls.ExitNumbers.{number_of_status}
+use Rattle.program_io.specs.calls.Writing.{Finished}
+use Rattle.armus_top.specs.inside.Writing.{Answered, LeavesOutput}
 use Rattle.armus_top.proofs.Answering.{ends_by_answer, ends_unread}
 use Rattle.armus_top.proofs.TextEnds.{clock_run_of}
 use Rattle.armus_top.proofs.Ending.{by_finish}

@@ -12,7 +12,7 @@ use Rattle.clock_semantics.specs.Unfolding.{ClockUnfolding, clock_plan_of, clock
 use Rattle.clock_laws.proofs.ClockEnds.{no_task_is_held}
 use Rattle.clock_laws.proofs.TextEndsTold.{text_ends_are_told}
 use Rattle.command_line.specs.declared.command.RunKind.{RunKind}
-use Rattle.command_line.specs.Words.{Text}
+use Rattle.program_io.specs.Texts.{Text}
 use Rattle.armus_top.specs.Clocks.{IsClockPlanOf}
 use Rattle.armus_top.specs.ClockRuns.{HasTextEnds, IsClockRunOf}
 use Rattle.armus_top.specs.Runs.{IsRunOutput}

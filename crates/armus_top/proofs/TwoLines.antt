@@ -11,7 +11,7 @@ use Rattle.report.specs.Reports.{IsReport}
 use Rattle.adaptive.specs.declared.analysis.Used.{Used}
 use Rattle.schedule.specs.Lines.{HasNoEnd, IsCut, IsFirstLine, a_line, ended, unended}
 use Rattle.schedule.proofs.OneSchedule.{no_end_inside}
-use Rattle.command_line.specs.Words.{Text}
+use Rattle.program_io.specs.Texts.{Text}
 use Rattle.pl_syntax.specs.Printed.{line}
 use Rattle.armus_top.specs.Generated.{IsFirstAndLast}
 use Rattle.armus_top.specs.inside.TwoLines.{HasTwoLines}

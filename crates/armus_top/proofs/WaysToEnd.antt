@@ -5,10 +5,12 @@ use Rattle.std.specs.Io.KnownBytes.{Keeps}
 use Rattle.armus_base.specs.ReadAll.{ReadFront}
 use Rattle.report.specs.Refusals.{refusal_text}
 use Rattle.report.specs.declared.refusal.Refusal.TheVariants.{Length}
-use Rattle.command_line.specs.Words.{Text}
-use Rattle.armus_top.specs.Headline.{EndsWith, GaveTooMuch, IsSound, Passage, ReadNoMore, no_memory, read_fault, whole, write_fault}
+use Rattle.program_io.specs.Texts.{Text}
+use Rattle.program_io.specs.Passages.{EndsWith, GaveTooMuch, IsSound, Passage, ReadNoMore, no_memory, read_fault, whole, write_fault}
+use Rattle.program_io.proofs.EndsFinished.{ends_finished}
 use Rattle.armus_top.specs.inside.Reading.{EndsUnread, memory_wanting, source_failed, too_long}
-use Rattle.armus_top.specs.inside.Writing.{Finished, LeavesOutput, nothing, part, wrote}
+use Rattle.program_io.specs.calls.Writing.{Finished}
+use Rattle.armus_top.specs.inside.Writing.{LeavesOutput, nothing, part, wrote}
 
 -- one of some of the outputs was to be written
 pub leaves_one_of_more : (lines : Bool) (some outputs : ℕ → Text → Type 0) (out : Passage) (number : ℕ)
@@ -22,15 +24,9 @@ pub gave_no_more : (limit : ℕ) (src : Passage) → GaveTooMuch (Some limit) sr
 gave_no_more limit src (bytes, consumed, is) = (bytes, consumed, omega (arith, is))
 
 module _ (outputs : ℕ → Text → Type 0) (limit : Option ℕ) (lines : Bool) (src out : Passage) where
-  -- an output was to be written whole
-  pub ends_finished : (text : Text) (status number : ℕ) → Finished out text status number → outputs status text → IsSound src
-      → EndsWith outputs limit lines src out number
-  ends_finished text status number (inl (same, took, sound)) is still = whole text (subst (λ n. outputs n text) (sym same) is) took still sound
-  ends_finished text status number (inr (five, failed, front)) is still = write_fault five still failed (status, text, is, front)
-
   -- one of the outputs was to be written
   pub ends_left : (number : ℕ) → LeavesOutput lines outputs out number → IsSound src → ReadNoMore limit src → EndsWith outputs limit lines src out number
-  ends_left number (wrote status text is done) still read = ends_finished text status number done is still
+  ends_left number (wrote status text is done) still read = ends_finished outputs limit lines src out text status number done is still
   ends_left number (nothing six sound kept) still read = no_memory six still read sound (inl kept)
   ends_left number (part live status text is six sound front) still read = no_memory six still read sound (inr (live, (status, text, is, front)))
 

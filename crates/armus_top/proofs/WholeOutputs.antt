@@ -17,11 +17,12 @@ use Rattle.pl_syntax.proofs.Whole.{one_of_both}
 use Rattle.report.specs.declared.refusal.Refusal.{Refusal}
 use Rattle.report.specs.declared.refusal.Refusal.TheVariants.{Syntax, Check as Checked}
 use Rattle.report.specs.Reports.{IsCycleText}
-use Rattle.command_line.specs.Words.{Text}
+use Rattle.program_io.specs.Texts.{Text}
 use Rattle.armus_top.specs.Avoids.{TellsRefused, ended_refused}
 use Rattle.armus_top.specs.Commands.{IsRefusedInput}
 use Rattle.armus_top.specs.Headline.{Answers}
-use Rattle.armus_top.specs.Programs.{IsFaultOf, IsPlanOf, TellsDead}
+use Rattle.program_io.specs.Programs.{IsFaultOf, IsPlanOf}
+use Rattle.armus_top.specs.DeadStatus.{TellsDead}
 
 -- a whole output of the command for the input
 abbrev pub IsMet : Command → Text → Type 0
@@ -29,20 +30,6 @@ IsMet c input = (status : ℕ) × (text : Text) × Answers c input status text
 
 pub refused : (c : Command) (input text : Text) → IsRefusedInput c input text → IsMet c input
 refused c input text is = (3, text, inr (refl, is))
-
-abbrev HasPlanOrFault : Text → Type 0
-HasPlanOrFault text = ((plan : Plan) × IsPlanOf text plan) ⊎ ((why : Refusal) × IsFaultOf text why)
-
-unfolds_or_not : (text : Text) (p : Program) → IsText text p → (r : Result Plan CheckFault) → plan_of p ≡ r → HasPlanOrFault text
-unfolds_or_not text p reads (Ok plan) e = inl (plan, (p, record { reads = reads; unfolds = e }))
-unfolds_or_not text p reads (Err fault) e = inr (Checked fault, (p, reads, e))
-
-pub plan_or_refused : (text : Text) → HasPlanOrFault text
-plan_or_refused text =
-    elim (one_of_both text) [
-      | inl one ↦ let (p, reads) = one in unfolds_or_not text p reads (plan_of p) refl
-      | inr one ↦ let (fault, is) = one in inr (Syntax fault, is)
-    ]
 
 -- the cycle's text tells whether a task is dead
 pub status_by : (state : State) (end : Final) (text : Text) → ((t : ℕ) → IsDeadBy end.blocked t ↔ IsDeadIn state t) → IsCycleText end.blocked text

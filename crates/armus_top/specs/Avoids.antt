@@ -11,8 +11,8 @@ use Rattle.armus_base.specs.Serial.{IsSerialAvoidedFinal}
 use Rattle.armus_base.specs.States.{State, Step}
 use Rattle.adaptive.specs.declared.analysis.Wanted.{Wanted}
 use Rattle.report.specs.Reports.{IsReport}
-use Rattle.command_line.specs.Words.{Text}
-use Rattle.armus_top.specs.Programs.{IsPlanOf}
+use Rattle.program_io.specs.Texts.{Text}
+use Rattle.program_io.specs.Programs.{IsPlanOf}
 
 -- a task has ended so that its await was refused
 abbrev pub ended_refused : TaskEnd → Bool

@@ -10,7 +10,7 @@ use Rattle.clock_syntax.specs.Grammar.{IsClockText}
 use Rattle.clock_semantics.specs.Unfolding.{ClockUnfolding, clock_unfolded}
 use Rattle.clock_laws.specs.TextLaws.{EndsAreTold}
 use Rattle.command_line.specs.declared.command.RunKind.{RunKind}
-use Rattle.command_line.specs.Words.{Text}
+use Rattle.program_io.specs.Texts.{Text}
 use Rattle.armus_top.specs.Clocks.{IsClockPlanOf}
 use Rattle.armus_top.specs.Runs.{IsRunOutput}
 

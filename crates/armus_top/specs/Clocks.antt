@@ -9,7 +9,7 @@ use Rattle.clock_semantics.specs.Unfolding.{clock_plan_of}
 use Rattle.clock_pl.specs.ClockLines.{clock_fault_line}
 use Rattle.report.specs.Refusals.{refusal_text}
 use Rattle.report.specs.declared.refusal.Refusal.TheVariants.{Syntax}
-use Rattle.command_line.specs.Words.{Text}
+use Rattle.program_io.specs.Texts.{Text}
 
 -- the text is a clock program that unfolds to this plan
 abbrev pub IsClockPlanOf : Text → Plan → Type 0

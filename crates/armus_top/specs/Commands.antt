@@ -15,9 +15,9 @@ use Rattle.command_line.specs.declared.command.Command.{Command}
 use Rattle.command_line.specs.declared.command.Command.TheVariants.{Check, Run, Avoid, Record, Replay, Gen, Clock, Pool}
 use Rattle.command_line.specs.declared.command.RunKind.{RunKind}
 use Rattle.command_line.specs.declared.command.RunKind.TheVariants.{Plain, Live, Sites}
-use Rattle.command_line.specs.Words.{Text}
+use Rattle.program_io.specs.Texts.{Text}
 use Rattle.armus_top.specs.Texts.{plan_line}
-use Rattle.armus_top.specs.Programs.{IsChecked, IsFaultOf, IsPlanOf}
+use Rattle.program_io.specs.Programs.{IsChecked, IsFaultOf, IsPlanOf}
 use Rattle.armus_top.specs.Clocks.{IsClockRefused}
 use Rattle.armus_top.specs.ClockRuns.{IsClockRunOf}
 use Rattle.armus_top.specs.Avoids.{IsAvoidOf}
@@ -25,7 +25,7 @@ use Rattle.armus_top.specs.Generated.{IsGenOf}
 use Rattle.armus_top.specs.Records.{IsRecordOf}
 use Rattle.armus_top.specs.Replays.{IsReplayOf, IsReplayRefused}
 use Rattle.armus_top.specs.Runs.{IsRunOf, IsRunOutput, kind_of}
-use Rattle.armus_top.specs.declared.programs.TheConstants.{MAX_TEXT_BYTES}
+use Rattle.program_io.specs.declared.text_limit.TheConstants.{MAX_TEXT_BYTES}
 use Rattle.armus_top.specs.declared.replaying.TheConstants.{MAX_REPLAY_BYTES}
 
 -- the most bytes of an input, where the command reads one

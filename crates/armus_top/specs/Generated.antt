@@ -4,9 +4,9 @@ use Rattle.armus_base.specs.Plans.{Plan}
 use Rattle.adaptive.specs.declared.analysis.Wanted.TheVariants as wanted
 use Rattle.pl_generator.specs.Generated.{generated_text}
 use Rattle.schedule.specs.Lines.{IsCut}
-use Rattle.command_line.specs.Words.{Text}
+use Rattle.program_io.specs.Texts.{Text}
 use Rattle.pl_syntax.specs.Printed.{line}
-use Rattle.armus_top.specs.Programs.{IsPlanOf}
+use Rattle.program_io.specs.Programs.{IsPlanOf}
 use Rattle.armus_top.specs.Runs.{IsRunOf}
 
 -- the text is the first and the last line of the report

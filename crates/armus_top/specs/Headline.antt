@@ -1,39 +1,13 @@
 -- What a call of the program leaves. The headline is `Serves`: what the words mean, and how the call may end.
 -- After it stands completeness: where nothing failed and memory sufficed, the words and the input fix whether the status is 2, 3, or one of 0 and 1.
 use Rattle.std.specs.Prelude.{◌≡◌, ◌≢◌, ◌≤◌, ◌<◌, ◌⊎◌, ℕ, ◌+◌, Bool, true, false, List, [], length, Option, Some, None, IsSome, is_some}
-use Rattle.std.specs.Io.KnownBytes.{Consumes, Appends, Keeps, IsAtEnd}
-use Rattle.armus_base.specs.Causes.{Rose, counted}
-use Rattle.armus_base.specs.ReadAll.{ReadFront, TookFront}
-use Rattle.command_line.specs.Words.{HaveForm, Text}
+use Rattle.program_io.specs.Texts.{Text}
+use Rattle.command_line.specs.Words.{HaveForm}
+use Rattle.program_io.specs.Passages.{EndsWith, GaveTooMuch, HasInput, IsCalm, Offers, OffersTooMuch, Passage}
 use Rattle.armus_top.specs.Texts.{usage_line}
 use Rattle.command_line.specs.Commands.{Means}
 use Rattle.armus_top.specs.Commands.{limit_of, length_line, writes_live, IsRefusedInput, IsAnswered}
 use Rattle.command_line.specs.declared.command.Command.{Command}
-
--- a source or a sink at the beginning and at the end of a call: the bytes left or taken, where it tells them, and its faults
-pub record Passage : Type 0 where
-  pub before : Option Text
-  pub after : Option Text
-  pub faults_before : ℕ
-  pub faults_after : ℕ
-
--- no fault was counted
-abbrev pub IsSound : Passage → Type 0
-IsSound d = d.faults_after ≡ d.faults_before
-
--- one fault was counted
-abbrev pub HasCountedFault : Passage → Type 0
-HasCountedFault d = d.faults_after ≡ counted d.faults_before
-
--- the input of a command: all that the source gave up to its end, not too long; or nothing, where the command does not read
-abbrev pub HasInput : Option ℕ → Passage → Text → Type 0
-HasInput (Some limit) src input = Consumes src.before src.after input × IsAtEnd src.after × (length input ≤ limit)
-HasInput None src input = input ≡ []
-
--- the source gave one byte more than an input may have
-abbrev pub GaveTooMuch : Option ℕ → Passage → Type 0
-GaveTooMuch (Some limit) src = ReadFront src.before src.after (λ bytes. length bytes ≡ limit + 1)
-GaveTooMuch None src = ⊥
 
 -- a whole output for this input: 0 or 1 with an answer, or 3 with the line of a refusal
 abbrev pub Answers : Command → Text → ℕ → Text → Type 0
@@ -59,32 +33,6 @@ abbrev pub writes_lines : Option Command → Bool
 writes_lines None = false
 writes_lines (Some c) = writes_live c
 
--- the whole text was taken
-abbrev pub Took : Passage → Text → Type 0
-Took out text = Appends out.before out.after text
-
--- some first bytes were taken of one of these outputs, each with its status
-abbrev pub TookPartOf : (ℕ → Text → Type 0) → Passage → Type 0
-TookPartOf outputs out = (status : ℕ) × (text : Text) × outputs status text × TookFront out.before out.after text
-
--- no more than one byte over the limit was read; where nothing is to be read, nothing was
-abbrev pub ReadNoMore : Option ℕ → Passage → Type 0
-ReadNoMore (Some limit) src = ReadFront src.before src.after (λ bytes. length bytes ≤ limit + 1)
-ReadNoMore None src = Keeps src.before src.after
-
--- nothing was taken; or, where lines are written while it runs, some first bytes of one of these outputs
-abbrev pub TookNothing : (ℕ → Text → Type 0) → Bool → Passage → Type 0
-TookNothing outputs lines out = Keeps out.before out.after ⊎ ((lines ≡ true) × TookPartOf outputs out)
-
--- How a call may end, and with which number, that may write one of these outputs, each with its status, reads an input with this limit, or none, and writes
--- lines while it runs or not: the whole output, a fault of the source, a fault of the sink, want of memory. The program that explains runs ends so too.
-pub data EndsWith (outputs : ℕ → Text → Type 0) (limit : Option ℕ) (lines : Bool) (src out : Passage) (number : ℕ) : Type 0 where
-  whole : (text : Text) → outputs number text → Took out text → IsSound src → IsSound out → EndsWith outputs limit lines src out number
-  read_fault : number ≡ 4 → IsSome limit → HasCountedFault src → ReadNoMore limit src → IsSound out → Keeps out.before out.after
-      → EndsWith outputs limit lines src out number
-  write_fault : number ≡ 5 → IsSound src → HasCountedFault out → TookPartOf outputs out → EndsWith outputs limit lines src out number
-  no_memory : number ≡ 6 → IsSound src → ReadNoMore limit src → IsSound out → TookNothing outputs lines out → EndsWith outputs limit lines src out number
-
 -- how a call may end whose words mean this, and with which number
 abbrev pub Ends : Option Command → Passage → Passage → ℕ → Type 0
 Ends c src out number = EndsWith (Permits c src) (limit_for c) (writes_lines c) src out number
@@ -102,25 +50,9 @@ pub record IsCall (words : List Text) (src out : Passage) (same_source same_sink
   pub unwritten : (c : Option Command) → Means words c → writes_lines c ≡ false → number ≡ 6 → same_sink
   pub formed : number ≡ 6 → HaveForm words
 
--- the source tells its bytes and has this input for the command
-abbrev pub Offers : Option ℕ → Passage → Text → Type 0
-Offers (Some limit) src input = (src.before ≡ Some input) × (length input ≤ limit)
-Offers None src input = input ≡ []
-
--- the source tells its bytes and has more than an input may have
-abbrev pub OffersTooMuch : Option ℕ → Passage → Type 0
-OffersTooMuch (Some limit) src = (bytes : Text) × (src.before ≡ Some bytes) × (limit < length bytes)
-OffersTooMuch None src = ⊥
-
 -- no case of a refusal holds of the input
 abbrev pub IsAccepted : Command → Text → Type 0
 IsAccepted c input = (text : Text) → IsRefusedInput c input text → ⊥
-
--- neither count of faults rose, and memory sufficed
-pub record IsCalm (src out : Passage) (number : ℕ) : Type 0 where
-  pub source : Rose src.faults_before src.faults_after → ⊥
-  pub sink : Rose out.faults_before out.faults_after → ⊥
-  pub memory : number ≢ 6
 
 -- completeness: 2 for no command, 0 or 1 for an accepted input, and 3 for a refused or a too long one
 pub record Completes (c : Option Command) (src : Passage) (number : ℕ) : Type 0 where

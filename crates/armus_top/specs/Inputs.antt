@@ -1,9 +1,10 @@
 -- Each call has an answer: words have a meaning, and each input of a command has a whole output.
 use Rattle.std.specs.Prelude.{◌⊎◌, ℕ, List, Option, Some, None, []}
 use Rattle.command_line.specs.declared.command.Command.{Command}
-use Rattle.command_line.specs.Words.{Text}
+use Rattle.program_io.specs.Texts.{Text}
 use Rattle.armus_top.specs.Commands.{limit_of}
-use Rattle.armus_top.specs.Headline.{GaveTooMuch, HasInput, Passage, Permits}
+use Rattle.program_io.specs.Passages.{GaveTooMuch, HasInput, Passage}
+use Rattle.armus_top.specs.Headline.{Permits}
 use Rattle.command_line.specs.Commands.{Means}
 
 -- the source has given all that the command reads: its whole input, or more than it takes

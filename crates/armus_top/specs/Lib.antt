@@ -1,5 +1,5 @@
 pub mod Texts
-pub mod Programs
+pub mod DeadStatus
 pub mod Clocks
 pub mod Replays
 pub mod Runs

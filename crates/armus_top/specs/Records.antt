@@ -6,8 +6,9 @@ use Rattle.armus_base.specs.Runs.{IsMaximal, state_after}
 use Rattle.armus_base.specs.States.{Step}
 use Rattle.locked_world.specs.Journals.{IsJournalOf}
 use Rattle.schedule.specs.Records.{IsRecord}
-use Rattle.command_line.specs.Words.{Text}
-use Rattle.armus_top.specs.Programs.{IsPlanOf, TellsDead}
+use Rattle.program_io.specs.Texts.{Text}
+use Rattle.program_io.specs.Programs.{IsPlanOf}
+use Rattle.armus_top.specs.DeadStatus.{TellsDead}
 
 -- the text with the journal of a maximal plain run of its plan, and the status that tells whether a task is dead in the state in which the run ends
 pub record IsRecordOf (input : Text) (status : ℕ) (text : Text) : Type 0 where

@@ -4,8 +4,9 @@ use Rattle.armus_base.specs.declared.ids.TaskId.{TaskId}
 use Rattle.armus_base.specs.Deadlocks.{IsDeadIn}
 use Rattle.armus_base.specs.Runs.{state_after}
 use Rattle.command_line.specs.declared.command.Command.TheVariants.{Record, Replay}
-use Rattle.command_line.specs.Words.{Text}
-use Rattle.armus_top.specs.Headline.{HasInput, IsAccepted, Passage}
+use Rattle.program_io.specs.Texts.{Text}
+use Rattle.program_io.specs.Passages.{HasInput, Passage}
+use Rattle.armus_top.specs.Headline.{IsAccepted}
 use Rattle.armus_top.specs.Commands.{limit_of}
 use Rattle.command_line.specs.Commands.{Means}
 use Rattle.armus_top.specs.Records.{IsRecordOf}

@@ -13,10 +13,11 @@ use Rattle.schedule.specs.Passes.{Loads}
 use Rattle.schedule.specs.Replays.{IsFirstFault}
 use Rattle.schedule.specs.Replaying.{IsReplayed}
 use Rattle.schedule.specs.Texts.{text_of}
-use Rattle.command_line.specs.Words.{Text}
+use Rattle.program_io.specs.Texts.{Text}
 use Rattle.pl_syntax.specs.Printed.{line}
-use Rattle.armus_top.specs.Programs.{IsFaultOf, IsPlanOf, TellsDead}
-use Rattle.armus_top.specs.declared.programs.TheConstants.{MAX_TEXT_BYTES}
+use Rattle.program_io.specs.Programs.{IsFaultOf, IsPlanOf}
+use Rattle.armus_top.specs.DeadStatus.{TellsDead}
+use Rattle.program_io.specs.declared.text_limit.TheConstants.{MAX_TEXT_BYTES}
 
 -- the text is no longer than a text may be, where one last LF is not counted
 abbrev pub IsShort : Text → Type 0

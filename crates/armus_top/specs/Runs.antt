@@ -11,8 +11,8 @@ use Rattle.report.specs.NamedDead.{AreTheDead}
 use Rattle.report.specs.Reports.{IsReport}
 use Rattle.command_line.specs.declared.command.RunKind.{RunKind}
 use Rattle.command_line.specs.declared.command.RunKind.TheVariants.{Plain, Live, Sites}
-use Rattle.command_line.specs.Words.{Text}
-use Rattle.armus_top.specs.Programs.{TellsDead}
+use Rattle.program_io.specs.Texts.{Text}
+use Rattle.armus_top.specs.DeadStatus.{TellsDead}
 
 -- the report of the state in which every maximal plain run of the plan ends, and there is one; and the status that tells whether a task is dead in it
 pub record IsRunOf (plan : Plan) (g : Wanted) (status : ℕ) (report : Text) : Type 0 where

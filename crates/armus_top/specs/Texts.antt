@@ -2,7 +2,7 @@
 use Rattle.std.specs.Prelude.{ℕ, [], ◌++◌, length, codes, decimal, sum_by}
 use Rattle.armus_base.specs.Plans.{Plan}
 use Rattle.pl_syntax.specs.Printed.{line}
-use Rattle.command_line.specs.Words.{Text}
+use Rattle.program_io.specs.Texts.{Text}
 
 -- what is written where the words are no command
 abbrev pub usage_line : Text

@@ -1,4 +1,3 @@
 pub mod Meanings
-pub mod Headline
 pub mod Replayable
 pub mod Inputs

@@ -6,15 +6,16 @@ ghost use Rattle.pl_syntax.specs.Tree.{height};
 ghost use Rattle.pl_syntax.specs.declared.limits.TheConstants.{MAX_OPEN_BRACES};
 ghost use Rattle.armus_top.specs.Commands.{IsAnswered};
 ghost use Rattle.armus_top.specs.Texts.{plan_line};
-ghost use Rattle.armus_top.specs.declared.programs.TheConstants.{MAX_TEXT_BYTES};
+ghost use Rattle.program_io.specs.declared.text_limit.TheConstants.{MAX_TEXT_BYTES};
 ghost use Rattle.armus_top.specs.inside.Answers.{IsEndOf};
-ghost use Rattle.armus_top.specs.inside.Status.{number_of_status};
+ghost use Rattle.program_io.specs.calls.ExitNumbers.{number_of_status};
 ghost use Rattle.command_line.specs.declared.command.Command.TheVariants.{Check};
 
-use crate::output::{ExitStatus, InputEnd, Output};
-use crate::programs::{Checked, MAX_TEXT_BYTES, checked_in};
+use crate::output::{InputEnd, Output};
+use crate::programs::{Checked, checked_in};
 use armus_base::{List, NoMemory, Plan};
 use pl_syntax::print;
+use program_io::ExitStatus;
 use std::alloc::Global;
 
 // The counts of a plan, as a line.

@@ -5,10 +5,10 @@ ghost use Rattle.adaptive.specs.declared.analysis.Wanted.{Wanted};
 ghost use Rattle.pl_generator.specs.Generated.{generated_text};
 ghost use Rattle.schedule.specs.Lines.{IsCut};
 ghost use Rattle.pl_syntax.specs.Printed.{line};
-ghost use Rattle.armus_top.specs.Programs.{IsPlanOf};
+ghost use Rattle.program_io.specs.Programs.{IsPlanOf};
 ghost use Rattle.armus_top.specs.Runs.{IsRunOf};
 ghost use Rattle.armus_top.specs.Generated.{IsFirstAndLast, IsGenOf};
-ghost use Rattle.armus_top.specs.inside.Status.{number_of_status};
+ghost use Rattle.program_io.specs.calls.ExitNumbers.{number_of_status};
 ghost use Rattle.armus_top.specs.inside.TwoLines.{HasTwoLines};
 
 use crate::output::Output;

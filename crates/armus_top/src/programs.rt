@@ -3,7 +3,8 @@ ghost use Rattle.std.specs.Prelude.{◌≡◌, ◌≤◌, false, length, IfOk, I
 ghost use Rattle.pl_syntax.specs.calls.Tree.{AllHere};
 ghost use Rattle.pl_syntax.specs.declared.limits.TheConstants.{MAX_PARSED_BYTES};
 ghost use Rattle.armus_top.specs.Clocks.{IsClockPlanOf};
-ghost use Rattle.armus_top.specs.Programs.{IsChecked, IsFaultOf, IsPlanOf};
+ghost use Rattle.program_io.specs.Programs.{IsChecked, IsFaultOf, IsPlanOf};
+ghost use Rattle.program_io.specs.declared.text_limit.TheConstants.{MAX_TEXT_BYTES};
 ghost use Rattle.armus_top.specs.inside.Answers.{IsClockInputEnd, IsEnd};
 
 use crate::output::InputEnd;
@@ -14,9 +15,6 @@ use pl_plan::{PlanEnd, plan};
 use pl_syntax::{ParseEnd, Program, parse};
 use report::Refusal;
 use std::alloc::Global;
-
-/// The most bytes of a text.
-pub const MAX_TEXT_BYTES: usize = 1_048_576;
 
 /// The program of a text, and the plan to which it unfolds.
 #[derive(Drop)]

@@ -4,11 +4,12 @@ ghost use Rattle.armus_top.specs.Replays.{IsReplayFault, IsReplayOf, IsReplayedB
 ghost use Rattle.armus_top.specs.declared.replaying.TheConstants.{MAX_REPLAY_BYTES};
 ghost use Rattle.armus_top.specs.inside.Answers.{IsEnd, IsEndOf};
 ghost use Rattle.command_line.specs.declared.command.Command.TheVariants.{Replay};
-ghost use Rattle.armus_top.specs.inside.Status.{number_of_status};
+ghost use Rattle.program_io.specs.calls.ExitNumbers.{number_of_status};
 
-use crate::output::{InputEnd, Output, status_of};
-use crate::programs::{MAX_TEXT_BYTES, checked_in};
+use crate::output::{InputEnd, Output};
+use crate::programs::checked_in;
 use pl_syntax::MAX_PARSED_BYTES;
+use program_io::{MAX_TEXT_BYTES, status_of};
 use report::Refusal;
 use schedule::{ReplayEnd, Replayed, ScheduleFault, read_lines, replay_text, split_input};
 use std::alloc::Global;

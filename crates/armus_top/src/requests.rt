@@ -2,17 +2,16 @@
 ghost use Rattle.std.specs.Prelude.{◌≡◌, IfErr, IfOk, None, Some, map, string_bytes};
 ghost use Rattle.armus_top.specs.Commands.{limit_of};
 ghost use Rattle.armus_top.specs.Headline.{Ends, IsCall};
-ghost use Rattle.armus_top.specs.calls.Headline.{passage};
+ghost use Rattle.program_io.specs.calls.Passages.{passage};
 ghost use Rattle.command_line.specs.Commands.{Means};
 ghost use Rattle.armus_top.specs.inside.Reading.{EndsUnread, IsRead, IsReadFor};
-ghost use Rattle.armus_top.specs.inside.Status.{number_of_status};
+ghost use Rattle.program_io.specs.calls.ExitNumbers.{number_of_status};
 
-use crate::output::ExitStatus;
-use crate::programs::MAX_TEXT_BYTES;
 use crate::replaying::MAX_REPLAY_BYTES;
-use crate::writing::{finish, refuse};
+use crate::writing::refuse;
 use armus_base::{List, ReadEnd, Sink, Source, read_all};
 use command_line::{Command, command_in};
+use program_io::{ExitStatus, MAX_TEXT_BYTES, finish};
 use report::Refusal;
 use std::alloc::Global;
 

@@ -3,22 +3,22 @@ ghost use Rattle.std.specs.Prelude.{◌≡◌, ◌≢◌, ◌≤◌, IfOk, false
 ghost use Rattle.std.specs.List.{list_any};
 ghost use Rattle.armus_base.specs.CheckedPlans.{IsCheckedPlan};
 ghost use Rattle.armus_base.specs.calls.Limits.{max_sites};
-ghost use Rattle.command_line.specs.Words.{Text};
+ghost use Rattle.program_io.specs.Texts.{Text};
 ghost use Rattle.armus_top.specs.Avoids.{IsAvoidOf, ended_refused};
-ghost use Rattle.armus_top.specs.Programs.{IsPlanOf};
+ghost use Rattle.program_io.specs.Programs.{IsPlanOf};
 ghost use Rattle.armus_top.specs.Records.{IsRecordOf};
 ghost use Rattle.armus_top.specs.Runs.{IsLiveRunOf, IsRunOf};
-ghost use Rattle.armus_top.specs.calls.Headline.{passage};
+ghost use Rattle.program_io.specs.calls.Passages.{passage};
 ghost use Rattle.armus_top.specs.inside.Serving.{MayHaveSites, MayWork};
-ghost use Rattle.armus_top.specs.inside.Status.{number_of_status};
+ghost use Rattle.program_io.specs.calls.ExitNumbers.{number_of_status};
 ghost use Rattle.armus_top.specs.inside.Writing.{LeavesOutput};
 ghost use Rattle.world_runs.specs.calls.AvoidedRuns.{IsAvoidedEnd, IsSerialEnd};
 ghost use Rattle.world_runs.specs.calls.PlainRuns.{IsPlainEnd};
 
-use crate::output::{ExitStatus, Output, reported, status_of};
-use crate::writing::finish;
+use crate::output::{Output, reported};
 use armus_base::{Final, Gate, List, MemSink, NoMemory, Plan, Sink, TaskEnd};
 use command_line::RunKind;
+use program_io::{ExitStatus, finish, status_of};
 use report::{any_dead, report};
 use schedule::recorded_text;
 use sites::{KeepEnd, SafeKeeper};

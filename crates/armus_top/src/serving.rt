@@ -1,15 +1,15 @@
 // Serving a command on its input.
 ghost use Rattle.std.specs.Prelude.{◌≡◌, ◌≢◌, IfErr, IfOk, false, true};
 ghost use Rattle.armus_top.specs.Commands.{IsAnswered, limit_of, wanted_of, writes_live};
-ghost use Rattle.armus_top.specs.calls.Headline.{passage};
+ghost use Rattle.program_io.specs.calls.Passages.{passage};
 ghost use Rattle.armus_top.specs.calls.Inputs.{FitsLimit};
 ghost use Rattle.armus_top.specs.inside.Answers.{IsEndOf};
 ghost use Rattle.armus_top.specs.inside.Serving.{WaitsForNoThread, WaitsForThreads};
-ghost use Rattle.armus_top.specs.inside.Status.{number_of_status};
+ghost use Rattle.program_io.specs.calls.ExitNumbers.{number_of_status};
 ghost use Rattle.armus_top.specs.inside.Writing.{Answered};
 
 use crate::checking::check;
-use crate::output::{ExitStatus, InputEnd, Output};
+use crate::output::{InputEnd, Output};
 use crate::programs::{clock_plan_in, text_plan_in};
 use crate::replaying::replay;
 use crate::running::CallSetting;
@@ -17,6 +17,7 @@ use crate::writing::write_answer;
 use adaptive::Wanted;
 use armus_base::{Gate, Sink};
 use command_line::{Command, Graph, RunKind};
+use program_io::ExitStatus;
 use std::sync::Wait;
 use std::thread::Threads;
 use task_runner::RunOptions;

@@ -5,7 +5,7 @@ ghost use Rattle.command_line.specs.declared.table.TheConstants.{POOL, RECORD};
 ghost use Rattle.armus_top.specs.calls.Meanings.{BeginsRecordOrPool};
 ghost use Rattle.armus_top.specs.Replayable.{WritesReplayable};
 ghost use Rattle.armus_top.specs.Headline.{IsServed};
-ghost use Rattle.armus_top.specs.calls.Headline.{passage};
+ghost use Rattle.program_io.specs.calls.Passages.{passage};
 
 use crate::requests::{CommandInput, request_of};
 use crate::running::CallSetting;

@@ -1,29 +1,18 @@
 // Writing what a command answers.
 ghost use Rattle.std.specs.Prelude.{◌≡◌, ◌≢◌};
 ghost use Rattle.command_line.specs.declared.command.Command.{Command as Asked};
-ghost use Rattle.command_line.specs.Words.{Text};
-ghost use Rattle.armus_top.specs.calls.Headline.{passage};
+ghost use Rattle.program_io.specs.Texts.{Text};
+ghost use Rattle.program_io.specs.calls.Passages.{passage};
 ghost use Rattle.armus_top.specs.inside.Answers.{AnswersBy, IsEndOf};
-ghost use Rattle.armus_top.specs.inside.Status.{number_of_status};
-ghost use Rattle.armus_top.specs.inside.Writing.{Answered, Finished, Refuses, RefusesClocks};
+ghost use Rattle.program_io.specs.calls.ExitNumbers.{number_of_status};
+ghost use Rattle.armus_top.specs.inside.Writing.{Answered, Refuses, RefusesClocks};
 
-use crate::output::{ExitStatus, InputEnd, Output};
-use armus_base::{Sink, write_text};
+use crate::output::{InputEnd, Output};
+use armus_base::Sink;
 use clock_pl::{ClockFault, clock_line};
+use program_io::{ExitStatus, finish};
 use report::{Refusal, refusal_line};
 use std::alloc::Global;
-
-/// Writes the text and answers the status, or `WriteFailed` where a write failed.
-pub fn finish<K: Sink>(out: &mut K, text: &[u8], status: ExitStatus) -> ExitStatus
-    ensures done { Finished (passage K.taken K.faults out.old out.new) text.now (number_of_status status) (number_of_status result) }
-    ensures status { number_of_status result ≡ 4 → number_of_status status ≡ 4 }
-    ensures memory { number_of_status result ≡ 6 → number_of_status status ≡ 6 }
-{
-    match write_text(out, text) {
-        Ok(()) => status,
-        Err(_) => ExitStatus::WriteFailed,
-    }
-}
 
 /// Writes the line that says why an input is refused.
 pub(crate) fn refuse<K: Sink>(alloc: Global, why: &Refusal, out: &mut K) -> ExitStatus

@@ -2,7 +2,8 @@
 use Rattle.std.proofs.Common.{◌≡◌, ◌++◌, List, [], ◌∷◌, sym, refl, subst, true, false, append-nil}
 use Rattle.std.specs.Prelude.{Option, Some, None}
 use Rattle.clap.specs.Words.{matches_of, takes}
-use Rattle.command_line.specs.Words.{Text, AreUses, AreWords, Use, StandsAlone, all_words, first_word, has_option, has_value_alone, options_of}
+use Rattle.program_io.specs.Texts.{Text}
+use Rattle.command_line.specs.Words.{AreUses, AreWords, Use, StandsAlone, all_words, first_word, has_option, has_value_alone, options_of}
 use Rattle.command_line.specs.Commands.{given_by}
 use Rattle.command_line.specs.inside.Rules.{app_for}
 use Rattle.command_line.specs.declared.table.FirstWord.{FirstWord}

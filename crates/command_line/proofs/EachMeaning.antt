@@ -7,7 +7,8 @@ use Rattle.std.specs.Str.Parse.{AllDigits, IsNumeral, digits_value}
 use Rattle.std.proofs.lemmas.Bool.{cases_lt}
 use Rattle.std.proofs.lemmas.Slice.Eq.{bytes_eq-Decides}
 use Rattle.armus_base.specs.declared.run_limits.TheConstants.{MAX_SITES, MAX_WORKERS}
-use Rattle.command_line.specs.Words.{Text, Use, AreWords, has_value_alone}
+use Rattle.program_io.specs.Texts.{Text}
+use Rattle.command_line.specs.Words.{Use, AreWords, has_value_alone}
 use Rattle.command_line.specs.Commands.{AreWorkers, Given, IsCommand, IsGenerated, IsRunKind, IsWantedGraph, IsNumber, Means, Reads, first_of, given_by, graph_word}
 use Rattle.command_line.specs.calls.Commands.{EachMeaning}
 use Rattle.command_line.specs.inside.Form.{first_named, fits, free_at}

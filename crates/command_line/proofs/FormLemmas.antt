@@ -8,7 +8,8 @@ use Rattle.std.proofs.lemmas.Slice.Eq.{bytes_eq-Decides}
 use Rattle.std.proofs.lemmas.Grind.{common_steps}
 use Rattle.std.proofs.lemmas.Bool.{and_parts, and_from}
 use Rattle.command_line.proofs.Meaning.{first_is, head_is, named_is, no_option, tail_is}
-use Rattle.command_line.specs.Words.{Text, Use, valued, flag, AreUses, AreWords, IsValue, StandsAlone, all_words}
+use Rattle.program_io.specs.Texts.{Text}
+use Rattle.command_line.specs.Words.{Use, valued, flag, AreUses, AreWords, IsValue, StandsAlone, all_words}
 use Rattle.command_line.specs.Words.{dashed, first_word, has_option, has_value_alone, is_value_byte, option_of, options_of, wants_value, without}
 use Rattle.command_line.specs.inside.Form.{first_named, fits, free_at, is_free, is_value, option_named, taken_off}
 use Rattle.command_line.specs.declared.forms.Free.{Free}

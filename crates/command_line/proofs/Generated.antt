@@ -8,7 +8,8 @@ use Rattle.clap.specs.Lexer.{long_of}
 use Rattle.clap.specs.Simple.{Shape, built, entered, filled_from, help_rule}
 use Rattle.clap.specs.Takes.{bundle_passes, default_passes, entered_passes, flag_word_passes, is_valid, settle_passes, step_passes, turn_passes, walk_passes, word_passes}
 use Rattle.clap.specs.Walk.{Held, Step, Walk, after_step, finished, idle, long_or_other, nothing_held, one_of, short_or_plain, trailing, value, walk, walk_from, walked, word_met}
-use Rattle.command_line.specs.Words.{Text, IsValue, first_word}
+use Rattle.program_io.specs.Texts.{Text}
+use Rattle.command_line.specs.Words.{IsValue, first_word}
 use Rattle.command_line.specs.Commands.{given_by}
 use Rattle.command_line.specs.inside.Rules.{app_for}
 use Rattle.command_line.specs.declared.table.FirstWord.TheVariants.{Gen}

@@ -7,7 +7,8 @@ use Rattle.clap.specs.Words.{Row, Rule, first_of, is_simple, matches_of, takes}
 use Rattle.clap.specs.Simple.{built, entered}
 use Rattle.clap.specs.Takes.{default_passes, entered_passes, is_valid, settle_passes, walk_passes}
 use Rattle.clap.specs.Walk.{Held, Walk, finished, has_row, nothing_held, one_of, row_text, walk, walk_from}
-use Rattle.command_line.specs.Words.{Text, AreUses, Use, valued, flag, all_words, first_word, has_option}
+use Rattle.program_io.specs.Texts.{Text}
+use Rattle.command_line.specs.Words.{AreUses, Use, valued, flag, all_words, first_word, has_option}
 use Rattle.command_line.specs.Words.{has_value_alone, is_used, name_of, options_of, same_option, value_of, wants_value, without}
 use Rattle.command_line.specs.inside.Rules.{app_for}
 use Rattle.command_line.specs.Commands.{Given, given_by}

@@ -6,7 +6,8 @@ use Rattle.std.specs.Str.{bytes_eq}
 use Rattle.std.proofs.lemmas.Bool.{and_parts, cases_Bool}
 use Rattle.std.proofs.lemmas.Slice.Eq.{bytes_eq-Decides}
 use Rattle.std.proofs.lemmas.Grind.{common_steps}
-use Rattle.command_line.specs.Words.{Text, Use, valued, flag, AreUses, AreWords, IsValue, StandsAlone}
+use Rattle.program_io.specs.Texts.{Text}
+use Rattle.command_line.specs.Words.{Use, valued, flag, AreUses, AreWords, IsValue, StandsAlone}
 use Rattle.command_line.specs.Words.{all_words, dashed, first_word, has_value_alone, is_value_byte, name_of, use_words, wants_value, without}
 use Rattle.command_line.specs.inside.Form.{first_named, option_named}
 use Rattle.command_line.specs.Commands.{AreWorkers, Given, IsCommand, IsGenerated, IsRunKind, IsWantedGraph, IsNumber, Reads, first_of, given_by, graph_word}

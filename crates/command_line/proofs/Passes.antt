@@ -7,7 +7,8 @@ use Rattle.clap.specs.Lexer.{long_of}
 use Rattle.clap.specs.Simple.{Shape, built}
 use Rattle.clap.specs.Takes.{bundle_passes, flag_word_passes, long_passes, settle_passes, step_passes, turn_passes, use_passes, walk_passes, word_passes}
 use Rattle.clap.specs.Walk.{Held, Step, Walk, after_flag, arg_by_long, has_row, idle, long_met, option, walked}
-use Rattle.command_line.specs.Words.{Text, dashed, Use, HasWantedValue, valued, flag, option_of, use_words, name_of, wants_value}
+use Rattle.program_io.specs.Texts.{Text}
+use Rattle.command_line.specs.Words.{dashed, Use, HasWantedValue, valued, flag, option_of, use_words, name_of, wants_value}
 use Rattle.command_line.specs.declared.table.OptionWord.{OptionWord}
 use Rattle.command_line.specs.declared.table.OptionWord.TheVariants.{Print, Workers, Graph, Live, Kept, Sites}
 use Rattle.command_line.proofs.Steps.{Knows, at, flag_walked, held_after, made, no_dashes, no_long, no_short}

@@ -1,5 +1,5 @@
 -- One use of an option, as clap walks over it, for every list of rules that knows the option.
-use Rattle.std.proofs.Common.{◌≡◌, ◌∙◌, ◌++◌, List, [], ◌∷◌, ap, sym, refl, subst, Bool, true, false, codes, if◌then◌else◌, fold, map}
+use Rattle.std.proofs.Common.{◌≡◌, ◌∙◌, ◌++◌, List, [], ◌∷◌, ap, sym, refl, subst, Bool, true, false, codes, if◌then◌else◌, fold, map, arith}
 use Rattle.std.specs.Prelude.{Option, Some, None, ◌==◌, ◌||◌}
 use Rattle.std.specs.Str.{bytes_eq}
 use Rattle.clap.specs.Words.{Row, Rule}
@@ -8,7 +8,6 @@ use Rattle.clap.specs.Simple.{filled, filled_from, help_rule, with_index}
 use Rattle.clap.specs.Walk.{Held, Step, Walk, after_flag, after_step, arg_by_id, arg_by_long, has_row, long_met, long_or_other, next}
 use Rattle.clap.specs.Walk.{idle, option, plain_word, reacted, settled, short_or_plain, trailing, used, walk_from, walked, word_met}
 use Rattle.std.specs.List.{list_all}
-use Rattle.std.proofs.Common.{arith}
 use Rattle.std.proofs.lemmas.Bool.{and_parts}
 use Rattle.clap.specs.Walk.{finished, more_values, option_word, used_by_id, with_default, with_values}
 use Rattle.clap.specs.declared.parser.matches.ValueSource.TheVariants.{CommandLine, DefaultValue}
@@ -16,7 +15,8 @@ use Rattle.clap.specs.declared.builder.value_parser.Reading.TheVariants.{AsWritt
 use Rattle.command_line.proofs.Rows.{at_row_missing, fresh_row, or_true}
 use Rattle.command_line.proofs.Meaning.{no_hyphen, one_name}
 use Rattle.command_line.specs.inside.Rules.{rule_for}
-use Rattle.command_line.specs.Words.{Text, dashed, has_option, Use, HasWantedValue, valued, flag, option_of, use_words, is_value_byte, name_of, same_option, wants_value, IsValue}
+use Rattle.program_io.specs.Texts.{Text}
+use Rattle.command_line.specs.Words.{dashed, has_option, Use, HasWantedValue, valued, flag, option_of, use_words, is_value_byte, name_of, same_option, wants_value, IsValue}
 use Rattle.command_line.specs.declared.table.OptionWord.{OptionWord}
 use Rattle.command_line.specs.declared.table.OptionWord.TheVariants.{Print, Workers, Graph, Live, Kept, Sites}
 

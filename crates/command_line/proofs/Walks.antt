@@ -3,7 +3,8 @@ use Rattle.std.proofs.Common.{◌≡◌, ◌∙◌, ◌++◌, List, [], ◌∷�
 use Rattle.clap.specs.Words.{Row, Rule}
 use Rattle.clap.specs.Takes.{walk_passes}
 use Rattle.clap.specs.Walk.{Held, has_row, walked}
-use Rattle.command_line.specs.Words.{Text, AreUses, Use, valued, flag, all_words, name_of, option_of, same_option, without}
+use Rattle.program_io.specs.Texts.{Text}
+use Rattle.command_line.specs.Words.{AreUses, Use, valued, flag, all_words, name_of, option_of, same_option, without}
 use Rattle.command_line.specs.declared.table.OptionWord.{OptionWord}
 use Rattle.command_line.proofs.Rows.{has_row_pushed}
 use Rattle.command_line.proofs.Steps.{Knows, at, held_after, rows_at, use_row, use_settled, use_walked}

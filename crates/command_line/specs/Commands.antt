@@ -2,7 +2,8 @@
 use Rattle.std.specs.Prelude.{◌≡◌, ◌≤◌, ℕ, Bool, true, false, List, Option, Some, None, codes}
 use Rattle.std.specs.Str.Parse.{IsNumeral, digits_value}
 use Rattle.armus_base.specs.declared.run_limits.TheConstants.{MAX_SITES, MAX_WORKERS}
-use Rattle.command_line.specs.Words.{Text, Use, AreWords, is_used, value_of}
+use Rattle.program_io.specs.Texts.{Text}
+use Rattle.command_line.specs.Words.{Use, AreWords, is_used, value_of}
 use Rattle.command_line.specs.declared.table.FirstWord.{FirstWord}
 use Rattle.command_line.specs.declared.table.FirstWord.TheVariants as first
 use Rattle.command_line.specs.declared.table.OptionWord.TheVariants as option

@@ -2,15 +2,12 @@
 use Rattle.std.specs.Prelude.{◌≡◌, ◌≤◌, ℕ, Bool, true, false, ◌&&◌, ◌||◌, nat_le, if◌then◌else◌, List, [], ◌∷◌, ◌++◌, map, length, Option, Some, None, option_to_list}
 use Rattle.std.specs.List.{list_all, list_any}
 use Rattle.std.specs.Str.{bytes_eq}
+use Rattle.program_io.specs.Texts.{Text}
 use Rattle.command_line.specs.declared.table.FirstWord.{FirstWord}
 use Rattle.command_line.specs.declared.table.FirstWord.TheVariants.{Check, Run, Avoid, Record, Replay, Gen, Clock, Pool}
 use Rattle.command_line.specs.declared.table.OptionWord.{OptionWord}
 use Rattle.command_line.specs.declared.table.OptionWord.TheVariants.{Print, Workers, Graph, Live, Kept, Sites}
 use Rattle.command_line.specs.declared.table.TheConstants.{CHECK, RUN, AVOID, RECORD, REPLAY, GEN, CLOCK, POOL, PRINT, WORKERS, GRAPH, LIVE, KEPT, SITES, MAX_VALUE_BYTES}
-
--- a text is the list of its bytes
-abbrev pub Text : Type 0
-Text = List ℕ
 
 -- ---- the table: a command or an option joins by a line of each of these
 

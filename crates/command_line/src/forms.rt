@@ -2,7 +2,8 @@
 ghost use Rattle.std.specs.Prelude.{◌≡◌, List, Option, Some, IfSome, map, string_bytes};
 ghost use Rattle.std.specs.List.{list_all};
 ghost use Rattle.std.specs.Str.{bytes_eq};
-ghost use Rattle.command_line.specs.Words.{AreWords, Text, Use, dashed, is_value_byte};
+ghost use Rattle.program_io.specs.Texts.{Text};
+ghost use Rattle.command_line.specs.Words.{AreWords, Use, dashed, is_value_byte};
 ghost use Rattle.command_line.specs.inside.Form.{first_named, fits, free_at, is_free, is_value, option_named, taken_off};
 ghost use Rattle.command_line.specs.declared.table.FirstWord.{FirstWord};
 

@@ -1,7 +1,8 @@
 // The values of the options, read by `clap`.
 ghost use Rattle.std.specs.Prelude.{◌≡◌, IfOk, IfErr, List, Option, false, map, string_bytes};
 ghost use Rattle.clap.specs.Words.{app_of, kind_of, rule_of};
-ghost use Rattle.command_line.specs.Words.{AreWords, Text, Use};
+ghost use Rattle.program_io.specs.Texts.{Text};
+ghost use Rattle.command_line.specs.Words.{AreWords, Use};
 ghost use Rattle.command_line.specs.Commands.{given_by};
 ghost use Rattle.command_line.specs.inside.Rules.{app_for, given_of, rule_for};
 

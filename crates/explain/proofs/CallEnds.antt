@@ -2,12 +2,12 @@
 use Rattle.std.proofs.Common.{◌≡◌, ◌∙◌, ◌≤◌, ◌⊎◌, ℕ, Bool, true, false, Option, arith, inl, inr, refl, subst, sym}
 use Rattle.std.specs.Prelude.{None, Some, if◌then◌else◌}
 use Rattle.std.proofs.KnownBytes.{Keeps-refl}
-use Rattle.command_line.specs.Words.{Text}
-use Rattle.armus_top.specs.Headline.{EndsWith, HasCountedFault, IsSound, Passage, ReadNoMore, no_memory, read_fault}
-use Rattle.armus_top.specs.declared.programs.TheConstants.{MAX_TEXT_BYTES}
-use Rattle.armus_top.specs.inside.Writing.{Finished}
-use Rattle.armus_top.proofs.WaysToEnd.{ends_finished}
-use Rattle.armus_top.specs.inside.Status.{number_of_status}
+use Rattle.program_io.specs.Texts.{Text}
+use Rattle.program_io.specs.Passages.{EndsWith, HasCountedFault, IsSound, Passage, ReadNoMore, no_memory, read_fault}
+use Rattle.program_io.specs.declared.text_limit.TheConstants.{MAX_TEXT_BYTES}
+use Rattle.program_io.specs.calls.Writing.{Finished}
+use Rattle.program_io.proofs.EndsFinished.{ends_finished}
+use Rattle.program_io.specs.calls.ExitNumbers.{number_of_status}
 use Rattle.explain.specs.declared.answer.Answer.{Answer}
 use Rattle.explain.specs.Languages.{is_of_clocks}
 use Rattle.explain.specs.Outputs.{AnswersStepsIn, IsExplainCall, MayWrite, text_limit}

@@ -24,8 +24,8 @@ use Rattle.clock_semantics.proofs.ClockPlanIsChecked.{clock_plan_is_checked}
 use Rattle.clock_laws.proofs.TextEndsTold.{text_ends_are_told}
 use Rattle.clock_source_map.proofs.Walked.{same_unfolding}
 use Rattle.explain_clock.specs.ClockExplanations.{ExplainsActivities, waits_there}
-use Rattle.command_line.specs.Words.{Text}
-use Rattle.armus_top.proofs.SomeBelow.{any_below, some_below}
+use Rattle.program_io.specs.Texts.{Text}
+use Rattle.program_io.proofs.SomeBelow.{any_below, some_below}
 use Rattle.explain.specs.ClockExplained.{HasSomeClockFault, IsMaximalClockRun}
 use Rattle.explain.specs.Explained.{WaitsIn}
 

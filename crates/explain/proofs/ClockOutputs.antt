@@ -16,7 +16,7 @@ use Rattle.clock_source_map.specs.ClockOffsets.{clock_offsets}
 use Rattle.explain_clock.specs.ClockExplanations.{ExplainsActivities}
 use Rattle.explain_clock.specs.ClockRefusals.{clock_fault_lines, clock_syntax_lines}
 use Rattle.explain_clock.proofs.OneExplanation.{clock_explanation_exists, one_clock_explanation}
-use Rattle.command_line.specs.Words.{Text}
+use Rattle.program_io.specs.Texts.{Text}
 use Rattle.explain.specs.ClockExplained.{AnswersClock, ClockEndsSo, HasSomeClockFault, IsClockExplanationOf, IsClockRefusedWith, IsMaximalClockRun, IsClockStatusOf}
 use Rattle.explain.specs.Explained.{SomeWaits}
 use Rattle.explain.specs.calls.Laws.{EachHasOutput, IsOneOutput}

@@ -14,7 +14,7 @@ use Rattle.explain_steps.proofs.SerialExists.{serial_run_exists}
 use Rattle.explain_steps.proofs.SerialIsPlain.{serial_is_plain}
 use Rattle.explain_steps.specs.ShownClockSteps.{AreClockShown}
 use Rattle.explain_steps.proofs.OneClockShowing.{clock_showing_exists, one_clock_showing}
-use Rattle.command_line.specs.Words.{Text}
+use Rattle.program_io.specs.Texts.{Text}
 use Rattle.explain.specs.ClockExplained.{IsClockExplanationOf, IsClockRefusedWith, IsClockStatusOf}
 use Rattle.explain.specs.ClockStepped.{AreClockStepsOf}
 use Rattle.explain.specs.Outputs.{AnswersStepsIn}

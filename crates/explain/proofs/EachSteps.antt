@@ -6,9 +6,9 @@ use Rattle.explain_deadlock.proofs.ExplanationExists.{explanation_exists}
 use Rattle.explain_steps.proofs.SerialExists.{serial_run_exists}
 use Rattle.explain_steps.proofs.SerialIsPlain.{serial_is_plain}
 use Rattle.explain_steps.proofs.ShowingExists.{showing_exists}
-use Rattle.command_line.specs.Words.{Text}
-use Rattle.armus_top.specs.Programs.{IsPlanOf}
-use Rattle.armus_top.proofs.OnePlan.{checked_plan}
+use Rattle.program_io.specs.Texts.{Text}
+use Rattle.program_io.specs.Programs.{IsPlanOf}
+use Rattle.program_io.proofs.OnePlan.{checked_plan}
 use Rattle.explain.specs.calls.Laws.{EachHasOutput}
 use Rattle.explain.specs.Languages.{is_of_clocks}
 use Rattle.explain.specs.Outputs.{AnswersStepsIn, AnswersStepsOf}

@@ -9,10 +9,10 @@ use Rattle.report.specs.declared.refusal.Refusal.TheVariants.{Check, Length, Sch
 use Rattle.explain_check.proofs.TextRefusals.{has_refusal}
 use Rattle.explain_deadlock.proofs.ExplanationExists.{explanation_exists}
 use Rattle.explain_syntax.proofs.SomeStand.{some_refusal}
-use Rattle.command_line.specs.Words.{Text}
-use Rattle.armus_top.specs.Programs.{IsFaultOf, IsPlanOf}
-use Rattle.armus_top.proofs.OnePlan.{checked_plan}
-use Rattle.armus_top.proofs.WholeOutputs.{plan_or_refused}
+use Rattle.program_io.specs.Texts.{Text}
+use Rattle.program_io.specs.Programs.{IsFaultOf, IsPlanOf}
+use Rattle.program_io.proofs.OnePlan.{checked_plan}
+use Rattle.program_io.proofs.EachText.{plan_or_refused}
 use Rattle.explain.specs.calls.Laws.{EachHasOutput}
 use Rattle.explain.specs.Explained.{IsExplanationOf}
 use Rattle.explain.specs.Outputs.{AnswersText}

@@ -12,7 +12,7 @@ use Rattle.explain_avoid.specs.calls.AvoidedRuns.{IsRunWithRefusals, IsExplained
 use Rattle.explain_avoid.specs.declared.avoiding.AvoidedRun.{AvoidedRun}
 use Rattle.explain_avoid.specs.declared.explaining.AvoidedExplanation.{AvoidedExplanation}
 use Rattle.explain_avoid.proofs.Explained.{avoided_explained}
-use Rattle.command_line.specs.Words.{Text}
+use Rattle.program_io.specs.Texts.{Text}
 use Rattle.explain.specs.Avoided.{IsAvoidedOf}
 
 pub end_avoided : (file : Option Text) (text : Text) (p : Program) (plan : Plan) (r : AvoidedRun) (run : IsRunWithRefusals file text p plan r) → IsText text p

@@ -15,12 +15,12 @@ use Rattle.explain_clock.specs.declared.explaining.ClockExplanation.{ClockExplan
 use Rattle.explain_steps.specs.ShownClockSteps.{AreClockShown}
 use Rattle.explain_steps.specs.calls.SteppedClocks.{IsSteppedClockRun}
 use Rattle.world_runs.specs.calls.EndWorlds.{IsEndWorld}
-use Rattle.command_line.specs.Words.{Text}
+use Rattle.program_io.specs.Texts.{Text}
 use Rattle.explain.specs.ClockExplained.{IsClockExplanationOf, IsMaximalClockRun}
 use Rattle.explain.specs.ClockStepped.{AreClockStepsOf}
 use Rattle.explain.proofs.ClockEnds.{clock_run}
 use Rattle.explain.proofs.EndExplained.{serial_world}
-use Rattle.armus_top.proofs.TextEnds.{unfolding_of}
+use Rattle.clock_source_map.proofs.AllOrigins.{unfolding_of_plan}
 
 module _ (file : Option Text) (text : Text) (p : ClockTree) (plan : Plan) (reads : IsClockText text p) (unfolds : clock_plan_of p ≡ Ok plan) where
   module _ (u : ClockUnfolding) (opens : clock_unfolded p ≡ Ok u) (same : plan_of_moves u ≡ plan) (w : WorldValue) (end : IsEndWorld plan w) where
@@ -42,7 +42,7 @@ module _ (file : Option Text) (text : Text) (p : ClockTree) (plan : Plan) (reads
       → ((u : ClockUnfolding) → clock_unfolded p ≡ Ok u → ExplainsActivities file text p u w.plan (places_of w) x.lines x.has_waiting)
       → status ≡ (if x.has_waiting then 1 else 0) → IsClockExplanationOf file text status x.lines
   clock_end_explained w end x status explains status_is =
-      let (u, opens, same) = unfolding_of p plan unfolds in
+      let (u, opens, same) = unfolding_of_plan p plan unfolds in
       record {
         program = p;
         unfolded = u;
@@ -56,13 +56,13 @@ module _ (file : Option Text) (text : Text) (p : ClockTree) (plan : Plan) (reads
   module _ (s : SteppedRun) (stepped : (u : ClockUnfolding) → clock_unfolded p ≡ Ok u → IsSteppedClockRun text p u plan s) where
     -- what is known of the run by its text's unfolding
     pub stepped_run : (u : ClockUnfolding) × IsSteppedClockRun text p u plan s
-    stepped_run = (let (u, opens, same) = unfolding_of p plan unfolds in (u, stepped u opens))
+    stepped_run = (let (u, opens, same) = unfolding_of_plan p plan unfolds in (u, stepped u opens))
 
     pub clock_steps_explained : (x : ClockExplanation) (status : ℕ) (lines : Text)
         → ((u : ClockUnfolding) → clock_unfolded p ≡ Ok u → ExplainsActivities file text p u s.world.plan (places_of s.world) x.lines x.has_waiting)
         → status ≡ (if x.has_waiting then 1 else 0) → lines ≡ s.lines ++ x.lines → AreClockStepsOf file text status lines
     clock_steps_explained x status lines explains status_is lines_are =
-        let (u, opens, same) = unfolding_of p plan unfolds in
+        let (u, opens, same) = unfolding_of_plan p plan unfolds in
         let run = stepped u opens in
         let end = serial_world plan s.world run.steps run.plan_is run.whole run.there in
         record {

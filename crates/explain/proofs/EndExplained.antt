@@ -18,9 +18,9 @@ use Rattle.explain_steps.specs.calls.SteppedRuns.{IsSteppedRun}
 use Rattle.explain_steps.specs.declared.stepping.SteppedRun.{SteppedRun}
 use Rattle.explain_steps.proofs.SerialIsPlain.{serial_is_plain}
 use Rattle.world_runs.specs.calls.EndWorlds.{IsEndWorld}
-use Rattle.command_line.specs.Words.{Text}
-use Rattle.armus_top.specs.Programs.{IsPlanOf}
-use Rattle.armus_top.proofs.OnePlan.{checked_plan}
+use Rattle.program_io.specs.Texts.{Text}
+use Rattle.program_io.specs.Programs.{IsPlanOf}
+use Rattle.program_io.proofs.OnePlan.{checked_plan}
 use Rattle.explain.specs.Explained.{IsEndedRunOf, IsExplanationOf}
 use Rattle.explain.specs.Stepped.{AreStepsOf}
 

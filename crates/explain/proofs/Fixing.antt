@@ -9,12 +9,12 @@ use Rattle.armus_base.proofs.OneEnd.{one_end}
 use Rattle.armus_base.proofs.OneSerialEnd.{one_serial_end}
 use Rattle.pl_plan.proofs.Unfolds.{fault_is_first}
 use Rattle.report.specs.declared.refusal.Refusal.TheVariants.{Check, Syntax}
-use Rattle.command_line.specs.Words.{Text}
-use Rattle.armus_top.specs.Programs.{IsPlanOf}
-use Rattle.armus_top.specs.Headline.{EndsWith, IsCalm, Passage, no_memory, read_fault, whole, write_fault}
-use Rattle.armus_top.specs.declared.programs.TheConstants.{MAX_TEXT_BYTES}
-use Rattle.armus_top.proofs.Ending.{not_long, not_more, rose_from, same_input}
-use Rattle.armus_top.proofs.OnePlan.{checked_plan, one_plan, plan_or_fault}
+use Rattle.program_io.specs.Texts.{Text}
+use Rattle.program_io.specs.Programs.{IsPlanOf}
+use Rattle.program_io.specs.Passages.{EndsWith, IsCalm, Passage, no_memory, read_fault, whole, write_fault}
+use Rattle.program_io.specs.declared.text_limit.TheConstants.{MAX_TEXT_BYTES}
+use Rattle.program_io.proofs.Inputs.{not_long, not_more, rose_from, same_input}
+use Rattle.program_io.proofs.OnePlan.{checked_plan, one_plan, plan_or_fault}
 use Rattle.explain.specs.Explained.{EndsSo, IsExplanationOf, IsEndedRunOf, SomeWaits}
 use Rattle.explain.specs.Outputs.{AnswersAvoided, AnswersStepsIn, AnswersStepsOf, AnswersText, FixesStatus, FixesTextStatus, IsAvoidedStatusOf, IsStatusIn, IsStatusOf, MayAnswer, MayWrite, text_limit}
 use Rattle.explain.specs.ClockExplained.{AnswersClock, IsClockStatusOf}

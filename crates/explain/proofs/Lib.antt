@@ -9,7 +9,6 @@ pub mod Fixing
 pub mod CallEnds
 pub mod OneOutput
 pub mod EachText
-pub mod Agreement
 pub mod SourceAnswers
 pub mod OneStepsOutput
 pub mod EachSteps

@@ -9,9 +9,9 @@ use Rattle.world_runs.proofs.SerialExists.{serial_run_ends}
 use Rattle.explain_avoid.specs.AvoidedExplanations.{IsAvoidedExplanation}
 use Rattle.explain_avoid.proofs.AvoidedExists.{avoided_explanation_exists}
 use Rattle.explain_avoid.proofs.OneAvoided.{one_avoided_explanation}
-use Rattle.command_line.specs.Words.{Text}
-use Rattle.armus_top.specs.Programs.{IsPlanOf}
-use Rattle.armus_top.proofs.OnePlan.{checked_plan, one_plan}
+use Rattle.program_io.specs.Texts.{Text}
+use Rattle.program_io.specs.Programs.{IsPlanOf}
+use Rattle.program_io.proofs.OnePlan.{checked_plan, one_plan}
 use Rattle.explain.specs.Avoided.{IsAvoidedOf}
 use Rattle.explain.specs.Outputs.{AnswersAvoided}
 use Rattle.explain.specs.Refused.{IsRefusedWith}

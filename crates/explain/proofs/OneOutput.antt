@@ -9,8 +9,8 @@ use Rattle.explain_deadlock.specs.Explanations.{IsExplanationAt}
 use Rattle.explain_deadlock.proofs.OneExplanation.{one_explanation}
 use Rattle.explain_syntax.proofs.SomeStand.{one_refusal as one_syntax_refusal}
 use Rattle.explain_check.proofs.OneRefusal.{one_refusal as one_check_refusal}
-use Rattle.command_line.specs.Words.{Text}
-use Rattle.armus_top.proofs.OnePlan.{checked_plan, one_plan}
+use Rattle.program_io.specs.Texts.{Text}
+use Rattle.program_io.proofs.OnePlan.{checked_plan, one_plan}
 use Rattle.explain.specs.Explained.{IsExplanationOf}
 use Rattle.explain.specs.Outputs.{AnswersText}
 use Rattle.explain.specs.calls.Laws.{IsOneOutput}

@@ -8,8 +8,8 @@ use Rattle.explain_steps.specs.calls.SerialRuns.{IsWholeSerialRun}
 use Rattle.explain_steps.specs.ShownSteps.{AreShown}
 use Rattle.explain_steps.proofs.OneSerialRun.{one_serial_run}
 use Rattle.explain_steps.proofs.OneShowing.{one_showing}
-use Rattle.command_line.specs.Words.{Text}
-use Rattle.armus_top.proofs.OnePlan.{checked_plan, one_plan}
+use Rattle.program_io.specs.Texts.{Text}
+use Rattle.program_io.proofs.OnePlan.{checked_plan, one_plan}
 use Rattle.explain.specs.calls.Laws.{IsOneOutput}
 use Rattle.explain.specs.Languages.{is_of_clocks}
 use Rattle.explain.specs.Outputs.{AnswersStepsIn, AnswersStepsOf}

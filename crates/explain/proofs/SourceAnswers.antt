@@ -4,10 +4,10 @@ use Rattle.std.specs.Prelude.{IfOk, Result}
 use Rattle.std.proofs.lemmas.Result.{IfOk-weaker}
 use Rattle.armus_base.specs.declared.errors.NoMemory.{NoMemory}
 use Rattle.explain_syntax.specs.LengthRefusals.{length_refusal}
-use Rattle.command_line.specs.Words.{Text}
-use Rattle.armus_top.specs.Headline.{GaveTooMuch, HasInput, IsSound, Passage}
-use Rattle.armus_top.specs.declared.programs.TheConstants.{MAX_TEXT_BYTES}
-use Rattle.armus_top.specs.inside.Status.{number_of_status}
+use Rattle.program_io.specs.Texts.{Text}
+use Rattle.program_io.specs.Passages.{GaveTooMuch, HasInput, IsSound, Passage}
+use Rattle.program_io.specs.declared.text_limit.TheConstants.{MAX_TEXT_BYTES}
+use Rattle.program_io.specs.calls.ExitNumbers.{number_of_status}
 use Rattle.explain.specs.declared.answer.Answer.{Answer}
 use Rattle.explain.specs.declared.answer.WantedOutput.{WantedOutput}
 use Rattle.explain.specs.declared.answer.WantedOutput.TheVariants.{Avoided, Clocks, Explanation, Steps}

@@ -26,9 +26,9 @@ use Rattle.explain_avoid.specs.AvoidedExplanations.{IsAvoidedExplanation}
 use Rattle.explain_avoid.specs.AvoidedWords.{was_refused, waits_at_the_end, somebody_stays}
 use Rattle.explain_avoid.proofs.StaysTold.{stays_by_standing, standing_stays}
 use Rattle.explain_avoid.proofs.ToldOnce.{refused_end}
-use Rattle.command_line.specs.Words.{Text}
-use Rattle.armus_top.specs.Programs.{IsPlanOf}
-use Rattle.armus_top.proofs.OnePlan.{checked_plan}
+use Rattle.program_io.specs.Texts.{Text}
+use Rattle.program_io.specs.Programs.{IsPlanOf}
+use Rattle.program_io.proofs.OnePlan.{checked_plan}
 use Rattle.explain.specs.Avoided.{SomeStays}
 use Rattle.explain.proofs.Waiting.{sized, stands}
 

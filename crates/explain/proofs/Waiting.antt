@@ -27,8 +27,8 @@ use Rattle.explain_tasks.proofs.Filters.{passed_from}
 use Rattle.explain_deadlock.proofs.SomebodyWaits.{waits}
 use Rattle.explain_deadlock.proofs.Starts.{that_is}
 use Rattle.explain_deadlock.proofs.TasksThat.{task_below}
-use Rattle.command_line.specs.Words.{Text}
-use Rattle.armus_top.proofs.OnePlan.{checked_plan}
+use Rattle.program_io.specs.Texts.{Text}
+use Rattle.program_io.proofs.OnePlan.{checked_plan}
 use Rattle.explain.specs.Explained.{IsEndedRunOf, WaitsIn}
 
 -- a task that waits by its standing is blocked

@@ -11,7 +11,7 @@ use Rattle.clock_laws.specs.TextLaws.{EndsAreTold}
 use Rattle.clock_source_map.specs.ClockOffsets.{clock_offsets}
 use Rattle.explain_clock.specs.ClockExplanations.{ExplainsActivities}
 use Rattle.explain_clock.specs.ClockRefusals.{clock_fault_lines, clock_syntax_lines}
-use Rattle.command_line.specs.Words.{Text}
+use Rattle.program_io.specs.Texts.{Text}
 use Rattle.explain.specs.Explained.{IsStatusBy, SomeWaits}
 
 -- The text is this clock program, which has this unfolding, and these steps are a run of the unfolding's plan up to its end. Where it ends, each task has

@@ -7,7 +7,7 @@ use Rattle.clock_semantics.specs.Unfolding.{ClockUnfolding, plan_of_moves}
 use Rattle.explain_clock.specs.ClockExplanations.{ExplainsActivities}
 use Rattle.explain_steps.specs.SerialRuns.{IsSerialRun}
 use Rattle.explain_steps.specs.ShownClockSteps.{AreClockShown}
-use Rattle.command_line.specs.Words.{Text}
+use Rattle.program_io.specs.Texts.{Text}
 use Rattle.explain.specs.ClockExplained.{IsMaximalClockRun}
 
 -- The lines show the steps of the serial plain run of a clock text, of the file with this name or of none, and then explain how its activities stand where this

@@ -5,8 +5,8 @@ use Rattle.armus_base.specs.Plans.{Plan}
 use Rattle.armus_base.specs.Runs.{IsMaximal, IsPlainRun, places, state_after}
 use Rattle.armus_base.specs.States.{State, Step}
 use Rattle.explain_deadlock.specs.Explanations.{IsExplanationAt}
-use Rattle.command_line.specs.Words.{Text}
-use Rattle.armus_top.specs.Programs.{IsPlanOf}
+use Rattle.program_io.specs.Texts.{Text}
+use Rattle.program_io.specs.Programs.{IsPlanOf}
 
 -- these steps are a run of the text's plan up to its end: a plain one that is maximal
 pub record IsEndedRunOf (text : Text) (plan : Plan) (steps : List Step) : Type 0 where

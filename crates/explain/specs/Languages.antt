@@ -7,7 +7,7 @@ use Rattle.pl_syntax.specs.declared.token.Keyword.TheVariants.{Clock, Async, Fin
 use Rattle.pl_syntax.specs.declared.token.Sign.TheVariants.{Equals}
 use Rattle.pl_syntax.specs.Tokens.{Front, front, sign, word}
 use Rattle.clock_syntax.specs.Grammar.{clock_scan}
-use Rattle.command_line.specs.Words.{Text}
+use Rattle.program_io.specs.Texts.{Text}
 
 -- the word is one with which the statements of clocks begin that PL has not
 abbrev pub is_word_of_clocks : Keyword → Bool

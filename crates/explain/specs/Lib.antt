@@ -8,8 +8,6 @@ pub mod ClockExplained
 pub mod ClockStepped
 pub mod Languages
 pub mod Outputs
--- What is proved of it.
-pub mod Agreement
 -- How the program does it.
 pub mod inside
 -- Words of contracts further down, which no promise of a program needs.

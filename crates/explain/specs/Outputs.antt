@@ -2,9 +2,9 @@
 use Rattle.std.specs.Prelude.{◌≡◌, ◌⊎◌, ℕ, Bool, true, false, Some, Option, None}
 use Rattle.std.specs.Io.KnownBytes.{Keeps}
 use Rattle.explain_syntax.specs.LengthRefusals.{length_refusal}
-use Rattle.command_line.specs.Words.{Text}
-use Rattle.armus_top.specs.Headline.{EndsWith, GaveTooMuch, HasInput, IsCalm, Offers, OffersTooMuch, Passage}
-use Rattle.armus_top.specs.declared.programs.TheConstants.{MAX_TEXT_BYTES}
+use Rattle.program_io.specs.Texts.{Text}
+use Rattle.program_io.specs.Passages.{EndsWith, GaveTooMuch, HasInput, IsCalm, Offers, OffersTooMuch, Passage}
+use Rattle.program_io.specs.declared.text_limit.TheConstants.{MAX_TEXT_BYTES}
 use Rattle.explain.specs.ClockExplained.{AnswersClock, IsClockRefusedWith, IsClockStatusOf}
 use Rattle.explain.specs.ClockStepped.{AreClockStepsOf}
 use Rattle.explain.specs.Languages.{is_of_clocks}

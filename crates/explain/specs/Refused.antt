@@ -5,8 +5,8 @@ use Rattle.pl_syntax.specs.declared.tree.Program.{Program}
 use Rattle.report.specs.declared.refusal.Refusal.{Refusal}
 use Rattle.explain_syntax.specs.SyntaxRefusals.{IsSyntaxRefusal}
 use Rattle.explain_check.specs.CheckRefusals.{IsCheckRefusal}
-use Rattle.command_line.specs.Words.{Text}
-use Rattle.armus_top.specs.Programs.{IsFaultOf}
+use Rattle.program_io.specs.Texts.{Text}
+use Rattle.program_io.specs.Programs.{IsFaultOf}
 
 -- the lines of a text, of the file with this name or of none, that is not too long and is refused: for its first syntax fault, or else its first check fault
 abbrev pub IsRefusedWith : Option Text → Text → Text → Type 0

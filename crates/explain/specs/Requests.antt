@@ -2,7 +2,7 @@
 use Rattle.std.specs.Prelude.{Bool, false, not, ◌==◌, if◌then◌else◌, List, [], ◌∷◌, ◌++◌, codes, Option, Some, None}
 use Rattle.std.specs.Str.{bytes_eq}
 use Rattle.pl_syntax.specs.Printed.{line}
-use Rattle.command_line.specs.Words.{Text}
+use Rattle.program_io.specs.Texts.{Text}
 
 -- what may be asked for: to explain a text, of the file with this name or of standard input; to show the steps of its run before; to explain its run that avoids
 -- deadlock; to explain a clock text; the lines of help; the line of the version; or nothing

@@ -7,7 +7,7 @@ use Rattle.explain_deadlock.specs.Explanations.{IsExplanationAt}
 use Rattle.pl_syntax.specs.declared.tree.Program.{Program}
 use Rattle.explain_steps.specs.SerialRuns.{IsSerialRun}
 use Rattle.explain_steps.specs.ShownSteps.{AreShown}
-use Rattle.command_line.specs.Words.{Text}
+use Rattle.program_io.specs.Texts.{Text}
 use Rattle.explain.specs.Explained.{IsEndedRunOf}
 
 -- The lines show the steps of the serial plain run of a text, of the file with this name or of none, and then explain how its tasks stand where this run has

@@ -1,9 +1,9 @@
 // A whole output, or why there is none.
 ghost use Rattle.std.specs.Prelude.{◌≡◌, ◌++◌, IfOk, if◌then◌else◌};
-ghost use Rattle.armus_top.specs.inside.Status.{number_of_status};
+ghost use Rattle.program_io.specs.calls.ExitNumbers.{number_of_status};
 
 use armus_base::{List, NoMemory};
-use armus_top::{ExitStatus, status_of};
+use program_io::{ExitStatus, status_of};
 
 /// A whole output, and its status.
 #[derive(Drop)]

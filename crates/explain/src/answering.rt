@@ -2,8 +2,8 @@
 ghost use Rattle.std.specs.Prelude.{◌≡◌, ◌≤◌, IfErr, IfOk, length};
 ghost use Rattle.pl_syntax.specs.Grammar.{IsText};
 ghost use Rattle.pl_syntax.specs.Tree.{count};
-ghost use Rattle.armus_top.specs.calls.Headline.{passage};
-ghost use Rattle.armus_top.specs.declared.programs.TheConstants.{MAX_TEXT_BYTES};
+ghost use Rattle.program_io.specs.calls.Passages.{passage};
+ghost use Rattle.program_io.specs.declared.text_limit.TheConstants.{MAX_TEXT_BYTES};
 ghost use Rattle.explain.specs.inside.Ending.{AnswersSource, EndsUnanswered, IsAnswerTo, IsPlAnswerTo};
 ghost use Rattle.explain.specs.calls.Requested.{file_bytes};
 
@@ -13,7 +13,7 @@ use crate::clocks::answer_clocks;
 use crate::language::is_of_clocks;
 use crate::refusing::{refuse_check, refuse_length, refuse_syntax};
 use armus_base::{NoMemory, ReadEnd, Source, read_all};
-use armus_top::MAX_TEXT_BYTES;
+use program_io::MAX_TEXT_BYTES;
 use pl_plan::{PlanEnd, unfold};
 use pl_syntax::{ParseEnd, Program, parse};
 use std::alloc::Global;

@@ -4,7 +4,7 @@ ghost use Rattle.armus_base.specs.Finals.{final_of};
 ghost use Rattle.clock_semantics.specs.Unfolding.{ClockUnfolding, clock_unfolded};
 ghost use Rattle.explain_clock.specs.ClockExplanations.{ExplainsActivities};
 ghost use Rattle.pl_core.specs.calls.Worlds.{places_of, state_of};
-ghost use Rattle.armus_top.specs.inside.Status.{number_of_status};
+ghost use Rattle.program_io.specs.calls.ExitNumbers.{number_of_status};
 ghost use Rattle.explain.specs.ClockExplained.{IsClockExplanationOf};
 ghost use Rattle.explain.specs.ClockStepped.{AreClockStepsOf};
 ghost use Rattle.explain.specs.calls.Requested.{file_bytes};
@@ -13,7 +13,7 @@ ghost use Rattle.explain.specs.inside.Ending.{IsClockAnswerTo};
 
 use crate::answer::{Answer, ClockWanted, with_steps};
 use armus_base::{Final, NoMemory, Plan};
-use armus_top::status_of;
+use program_io::status_of;
 use clock_pl::ClockProgram;
 use explain_clock::{ClockExplanation, clock_explanation_of};
 use explain_steps::clock_steps_through;

@@ -3,7 +3,7 @@ ghost use Rattle.std.specs.Prelude.{◌≡◌, ◌≤◌, Err, IfOk, length};
 ghost use Rattle.clock_syntax.specs.Grammar.{IsClockText};
 ghost use Rattle.clock_syntax.specs.Trees.{clock_count};
 ghost use Rattle.clock_semantics.specs.Unfolding.{clock_plan_of};
-ghost use Rattle.armus_top.specs.declared.programs.TheConstants.{MAX_TEXT_BYTES};
+ghost use Rattle.program_io.specs.declared.text_limit.TheConstants.{MAX_TEXT_BYTES};
 ghost use Rattle.clock_pl.specs.calls.ClockPlanning.{as_fault};
 ghost use Rattle.explain.specs.inside.Ending.{IsClockAnswerTo, IsClockRefusalOf};
 ghost use Rattle.explain.specs.calls.Requested.{file_bytes};

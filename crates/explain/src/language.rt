@@ -1,7 +1,7 @@
 // In which language a text is, where a text of either is read.
 ghost use Rattle.std.specs.Prelude.{◌≡◌, ◌≤◌, length};
 ghost use Rattle.pl_syntax.specs.inside.Seen.{front_seen};
-ghost use Rattle.armus_top.specs.declared.programs.TheConstants.{MAX_TEXT_BYTES};
+ghost use Rattle.program_io.specs.declared.text_limit.TheConstants.{MAX_TEXT_BYTES};
 ghost use Rattle.explain.specs.Languages.{begins_with_clocks, is_clock_name, is_equals, is_of_clocks, is_word_of_clocks};
 ghost use Rattle.explain.specs.calls.Requested.{file_bytes};
 

@@ -1,5 +1,4 @@
 // Laws of the outputs of a text, as contracts of functions with an empty body.
-ghost use Rattle.explain.specs.Agreement.{ExplainsAsRun};
 ghost use Rattle.explain.specs.ClockExplained.{AnswersClock};
 ghost use Rattle.explain.specs.Outputs.{AnswersAvoided, AnswersStepsOf, AnswersText};
 ghost use Rattle.explain.specs.calls.Laws.{EachHasOutput, IsOneOutput};
@@ -8,12 +7,6 @@ ghost use Rattle.explain.specs.calls.Laws.{EachHasOutput, IsOneOutput};
 pub fn one_output()
     ensures one { IsOneOutput AnswersText }
     ensures exists { EachHasOutput AnswersText }
-{}
-
-/// The explanation of a text begins with the first line of the report of its run, which counts how the tasks stand; and where the report has status 1, so has
-/// the explanation, whose verdict shows the tasks of the report's cycle.
-pub fn explains_as_run()
-    ensures { ExplainsAsRun }
 {}
 
 /// A text has one whole output at most, with one status, where the steps of its run are shown; and it has one: these and its explanation, or its refusal.

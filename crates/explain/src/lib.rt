@@ -13,8 +13,6 @@ mod request;
 mod top;
 
 pub use answer::WantedOutput;
-pub use laws::{
-    explains_as_run, one_avoided_output, one_clock_output, one_output, one_steps_output,
-};
+pub use laws::{one_avoided_output, one_clock_output, one_output, one_steps_output};
 pub use request::{Request, request_of};
 pub use top::explain;

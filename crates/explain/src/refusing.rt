@@ -6,14 +6,14 @@ ghost use Rattle.pl_plan.specs.declared.fault.CheckFault.{CheckFault as Fault};
 ghost use Rattle.pl_syntax.specs.Grammar.{HasFault, IsText};
 ghost use Rattle.pl_syntax.specs.Tree.{count};
 ghost use Rattle.explain_syntax.specs.LengthRefusals.{length_refusal};
-ghost use Rattle.armus_top.specs.declared.programs.TheConstants.{MAX_TEXT_BYTES};
-ghost use Rattle.armus_top.specs.inside.Status.{number_of_status};
+ghost use Rattle.program_io.specs.declared.text_limit.TheConstants.{MAX_TEXT_BYTES};
+ghost use Rattle.program_io.specs.calls.ExitNumbers.{number_of_status};
 ghost use Rattle.explain.specs.inside.Ending.{IsRefusalOf};
 ghost use Rattle.explain.specs.calls.Requested.{file_bytes};
 
 use crate::answer::Answer;
 use armus_base::{List, NoMemory};
-use armus_top::ExitStatus;
+use program_io::ExitStatus;
 use explain_check::{Statements, check_refusal};
 use explain_check::{Scene, scene_of};
 use pl_syntax::{Program, SyntaxFault, statement_offsets};

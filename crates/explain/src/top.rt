@@ -1,7 +1,7 @@
 // The top call.
 ghost use Rattle.std.specs.Prelude.{◌≡◌, map, string_bytes};
-ghost use Rattle.armus_top.specs.calls.Headline.{passage};
-ghost use Rattle.armus_top.specs.inside.Status.{number_of_status};
+ghost use Rattle.program_io.specs.calls.Passages.{passage};
+ghost use Rattle.program_io.specs.calls.ExitNumbers.{number_of_status};
 ghost use Rattle.explain.specs.Outputs.{IsExplainCall};
 ghost use Rattle.explain.specs.Requests.{asked};
 ghost use Rattle.explain.specs.calls.Requested.{asked_for, file_bytes};
@@ -10,7 +10,7 @@ use crate::answer::{AnswerEnd, WantedOutput};
 use crate::answering::answer_source;
 use crate::request::{Request, request_of};
 use armus_base::{Sink, Source};
-use armus_top::{ExitStatus, finish};
+use program_io::{ExitStatus, finish};
 use std::alloc::Global;
 
 const USAGE: &str = "usage: armus_explain [run|steps|avoid|clock] [FILE]\n";

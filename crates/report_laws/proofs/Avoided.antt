@@ -25,14 +25,15 @@ use Rattle.report.proofs.OneReport.{one_report}
 use Rattle.command_line.specs.declared.command.Command.TheVariants.{Avoid, Run}
 use Rattle.command_line.specs.declared.command.Graph.{Graph}
 use Rattle.command_line.specs.declared.command.RunKind.TheVariants.{Plain}
-use Rattle.command_line.specs.Words.{Text}
+use Rattle.program_io.specs.Texts.{Text}
 use Rattle.armus_top.specs.Avoids.{IsAvoidOf, TellsRefused, ended_refused}
 use Rattle.armus_top.specs.Commands.{wanted_of}
 use Rattle.armus_top.specs.Headline.{Answers}
-use Rattle.armus_top.specs.Programs.{IsPlanOf, TellsDead}
+use Rattle.program_io.specs.Programs.{IsPlanOf}
+use Rattle.armus_top.specs.DeadStatus.{TellsDead}
 use Rattle.armus_top.specs.Runs.{IsRunOf}
 use Rattle.armus_top.proofs.Inputs.{never_both}
-use Rattle.armus_top.proofs.OnePlan.{checked_plan, one_plan}
+use Rattle.program_io.proofs.OnePlan.{checked_plan, one_plan}
 use Rattle.report_laws.specs.Avoided.{AvoidTellsAsRun}
 use Rattle.report_laws.specs.calls.Avoided.{LeavesNobodyUnforked, WhoGainsAndPays}
 use Rattle.report_laws.proofs.OneAnswer.{tells_run}

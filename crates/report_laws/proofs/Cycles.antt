@@ -21,11 +21,11 @@ use Rattle.report.specs.Reports.{IsCycleText, IsReport, IsReportedCycle}
 use Rattle.report.specs.declared.standing.Standing.{Standing}
 use Rattle.report.proofs.OneReport.{one_cycle_text, one_standings}
 use Rattle.verdict.specs.Cycles.{IsDeadStep}
-use Rattle.command_line.specs.Words.{Text}
+use Rattle.program_io.specs.Texts.{Text}
 use Rattle.adaptive.specs.declared.analysis.Wanted.{Wanted}
 use Rattle.armus_top.specs.Avoids.{TellsRefused}
-use Rattle.armus_top.specs.Programs.{TellsDead}
-use Rattle.armus_top.proofs.OnePlan.{checked_plan, one_plan}
+use Rattle.armus_top.specs.DeadStatus.{TellsDead}
+use Rattle.program_io.proofs.OnePlan.{checked_plan, one_plan}
 use Rattle.armus_top.proofs.OneRefusal.{one_refused_status, one_status}
 use Rattle.report_laws.specs.Cycles.{CycleIsProof, ShowsDeadlock, by_cycle, by_none}
 use Rattle.report_laws.specs.calls.Cycles.{DifferInGraph, GraphChangesLastLine, GraphChangesNoRefusal}

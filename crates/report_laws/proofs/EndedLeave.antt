@@ -24,10 +24,10 @@ use Rattle.armus_base.proofs.Stepping.{places_fix}
 use Rattle.pl_syntax.specs.declared.tree.Program.{Program}
 use Rattle.pl_plan.proofs.Growth.{last_phases}
 use Rattle.pl_plan.proofs.Sound.{is_begun}
-use Rattle.command_line.specs.Words.{Text}
-use Rattle.armus_top.specs.Programs.{IsChecked}
+use Rattle.program_io.specs.Texts.{Text}
+use Rattle.program_io.specs.Programs.{IsChecked}
 use Rattle.pl_plan.proofs.TextsAreNear.{text_is_near}
-use Rattle.armus_top.proofs.OnePlan.{checked_plan}
+use Rattle.program_io.proofs.OnePlan.{checked_plan}
 use Rattle.report_laws.specs.Held.{EndedHaveLeft, HeldWaitForUnforked, WaitsForUnforked, at_unforked, by_held}
 use Rattle.report_laws.proofs.TasksLeft.{IsEndInTwo, end_in_two}
 

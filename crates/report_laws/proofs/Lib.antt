@@ -10,3 +10,4 @@ pub mod Printed
 pub mod LiveLines
 pub mod TasksLeft
 pub mod EndedLeave
+pub mod Explained

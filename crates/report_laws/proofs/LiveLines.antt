@@ -6,12 +6,12 @@ use Rattle.adaptive.specs.declared.analysis.Wanted.{Wanted}
 use Rattle.report.specs.Live.{live_text}
 use Rattle.command_line.specs.declared.command.Command.TheVariants.{Run, Clock}
 use Rattle.command_line.specs.declared.command.RunKind.TheVariants.{Plain, Live}
-use Rattle.command_line.specs.Words.{Text}
+use Rattle.program_io.specs.Texts.{Text}
 use Rattle.armus_top.specs.Commands.{wanted_of}
 use Rattle.armus_top.specs.Runs.{IsLiveRunOf, IsRunOf}
 use Rattle.armus_top.proofs.Inputs.{never_both}
 use Rattle.armus_top.proofs.OneClockPlan.{checked_clock_plan}
-use Rattle.armus_top.proofs.OnePlan.{checked_plan, one_plan}
+use Rattle.program_io.proofs.OnePlan.{checked_plan, one_plan}
 use Rattle.report_laws.specs.calls.LiveLines.{LiveClockTellsAsClock, LiveRunTellsAsRun, StandsBehindLines}
 use Rattle.report_laws.proofs.OneAnswer.{one_clock_plan}
 use Rattle.report_laws.proofs.OneRefused.{one_refused}

@@ -21,10 +21,10 @@ use Rattle.schedule.specs.Passes.{Loads, loads_of, statuses_found}
 use Rattle.schedule.specs.Replaying.{AreVerdicts, no_pass, one_pass}
 use Rattle.schedule.specs.Replays.{LinesLead, Progress, Takes, at_start, no_line, one_more}
 use Rattle.schedule.proofs.PassesNameTheDead.{passes_name_the_dead}
-use Rattle.command_line.specs.Words.{Text}
-use Rattle.armus_top.specs.Programs.{TellsDead}
+use Rattle.program_io.specs.Texts.{Text}
+use Rattle.armus_top.specs.DeadStatus.{TellsDead}
 use Rattle.armus_top.specs.Replays.{IsReplayOf}
-use Rattle.armus_top.proofs.OnePlan.{checked_plan}
+use Rattle.program_io.proofs.OnePlan.{checked_plan}
 use Rattle.report_laws.specs.calls.Replayed.{IsNamedInReplay, ReplayTellsAsRun, at_end, by_pass}
 
 module _ (plan : Plan) (checked : IsCheckedPlan plan) where

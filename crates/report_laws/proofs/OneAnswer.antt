@@ -16,18 +16,18 @@ use Rattle.command_line.specs.declared.command.Command.TheVariants.{Check, Run, 
 use Rattle.command_line.specs.declared.command.Graph.{Graph}
 use Rattle.command_line.specs.declared.command.RunKind.{RunKind}
 use Rattle.command_line.specs.declared.command.RunKind.TheVariants.{Plain, Live, Sites}
-use Rattle.command_line.specs.Words.{Text}
+use Rattle.program_io.specs.Texts.{Text}
 use Rattle.armus_top.specs.Avoids.{IsAvoidOf, TellsRefused}
 use Rattle.armus_top.specs.Clocks.{IsClockPlanOf}
 use Rattle.armus_top.specs.Commands.{IsAnswered, wanted_of}
 use Rattle.armus_top.specs.Generated.{IsFirstAndLast}
 use Rattle.armus_top.specs.Headline.{Answers}
-use Rattle.armus_top.specs.Programs.{IsPlanOf}
+use Rattle.program_io.specs.Programs.{IsPlanOf}
 use Rattle.armus_top.specs.Runs.{IsRunOf, IsRunOutput, kind_of}
 use Rattle.armus_top.specs.Texts.{plan_line}
 use Rattle.armus_top.proofs.Inputs.{never_both}
 use Rattle.armus_top.proofs.OneClockPlan.{checked_clock_plan}
-use Rattle.armus_top.proofs.OnePlan.{checked_plan, one_plan}
+use Rattle.program_io.proofs.OnePlan.{checked_plan, one_plan}
 use Rattle.armus_top.proofs.OneRefusal.{one_refused_status}
 use Rattle.schedule.proofs.OneSchedule.{one_cut}
 use Rattle.clock_syntax.specs.Trees.{ClockTree}

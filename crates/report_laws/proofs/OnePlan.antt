@@ -6,8 +6,8 @@ use Rattle.schedule.specs.Records.{recorded}
 use Rattle.schedule.specs.Split.{IsSplit, at_mark, mark, more_text, no_text}
 use Rattle.schedule.proofs.LinesExist.{input_is_split}
 use Rattle.schedule.proofs.OneSchedule.{one_split}
-use Rattle.command_line.specs.Words.{Text}
-use Rattle.armus_top.specs.Programs.{IsPlanOf}
+use Rattle.program_io.specs.Texts.{Text}
+use Rattle.program_io.specs.Programs.{IsPlanOf}
 use Rattle.armus_top.specs.Replays.{IsReplayOf, IsReplayedBy, IsShort}
 use Rattle.armus_top.proofs.RecordsMet.{closed_exists}
 use Rattle.armus_top.proofs.RecordsReplay.{unmarked}

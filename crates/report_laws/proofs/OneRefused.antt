@@ -15,12 +15,12 @@ use Rattle.schedule.proofs.OneReplay.{one_first_fault}
 use Rattle.schedule.proofs.OneSchedule.{one_reading, one_split}
 use Rattle.command_line.specs.declared.command.Command.{Command}
 use Rattle.command_line.specs.declared.command.Command.TheVariants.{Check, Replay, Gen, Clock}
-use Rattle.command_line.specs.Words.{Text}
+use Rattle.program_io.specs.Texts.{Text}
 use Rattle.armus_top.specs.Clocks.{IsClockRefused}
 use Rattle.armus_top.specs.Commands.{IsRefusedFor, IsRefusedInput}
-use Rattle.armus_top.specs.Programs.{IsFaultOf}
+use Rattle.program_io.specs.Programs.{IsFaultOf}
 use Rattle.armus_top.specs.Replays.{IsReplayFault, IsReplayRefused}
-use Rattle.armus_top.proofs.OnePlan.{checked_plan, one_plan, plan_or_fault}
+use Rattle.program_io.proofs.OnePlan.{checked_plan, one_plan, plan_or_fault}
 use Rattle.armus_top.proofs.OneRefusal.{one_refusal}
 
 one_line : (why other : Refusal) (p q : Text) → why ≡ other → p ≡ refusal_text why → q ≡ refusal_text other → p ≡ q

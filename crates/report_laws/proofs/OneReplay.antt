@@ -17,10 +17,10 @@ use Rattle.schedule.specs.Replays.{LinesLead, Progress}
 use Rattle.schedule.specs.Texts.{text_of}
 use Rattle.schedule.proofs.OneReplay.{one_progress}
 use Rattle.schedule.proofs.OneSchedule.{one_reading, one_split}
-use Rattle.command_line.specs.Words.{Text}
-use Rattle.armus_top.specs.Programs.{TellsDead}
+use Rattle.program_io.specs.Texts.{Text}
+use Rattle.armus_top.specs.DeadStatus.{TellsDead}
 use Rattle.armus_top.specs.Replays.{IsReplayOf, IsReplayedBy}
-use Rattle.armus_top.proofs.OnePlan.{one_plan}
+use Rattle.program_io.proofs.OnePlan.{one_plan}
 use Rattle.armus_top.proofs.OneRefusal.{one_status}
 
 -- ---- verdicts

@@ -21,8 +21,8 @@ use Rattle.report.specs.Live.{live_text}
 use Rattle.report.specs.NamedDead.{AreTheDead}
 use Rattle.report.specs.Reports.{IsReport}
 use Rattle.report.proofs.OneReport.{one_report}
-use Rattle.command_line.specs.Words.{Text}
-use Rattle.armus_top.specs.Programs.{TellsDead}
+use Rattle.program_io.specs.Texts.{Text}
+use Rattle.armus_top.specs.DeadStatus.{TellsDead}
 use Rattle.armus_top.specs.Runs.{IsLiveRunOf, IsRunOf}
 use Rattle.armus_top.proofs.OneRefusal as told
 use Rattle.report_laws.specs.Outputs.{HaveSameLines}

@@ -9,9 +9,9 @@ use Rattle.pl_syntax.proofs.Unique.{one_tree}
 use Rattle.pl_syntax.proofs.Writable.{text_is_writable}
 use Rattle.command_line.specs.declared.command.Command.{Command}
 use Rattle.command_line.specs.declared.command.Command.TheVariants.{Check, Run, Avoid, Pool}
-use Rattle.command_line.specs.Words.{Text}
+use Rattle.program_io.specs.Texts.{Text}
 use Rattle.armus_top.specs.Commands.{IsAnswered}
-use Rattle.armus_top.specs.Programs.{IsChecked, IsPlanOf}
+use Rattle.program_io.specs.Programs.{IsChecked, IsPlanOf}
 use Rattle.armus_top.proofs.Inputs.{never_both}
 use Rattle.report_laws.specs.calls.Printed.{GoesByProgram, PrintingKeepsMeaning}
 use Rattle.report_laws.proofs.OnePlan.{record_goes_by_plan, replay_goes_by_plan, texts_have_no_schedule}

@@ -8,7 +8,7 @@ use Rattle.armus_base.specs.Plans.{Plan}
 use Rattle.armus_base.specs.States.{State}
 use Rattle.adaptive.specs.declared.analysis.Wanted.{Wanted}
 use Rattle.report.specs.Lines.{cycle_line}
-use Rattle.command_line.specs.Words.{Text}
+use Rattle.program_io.specs.Texts.{Text}
 use Rattle.armus_top.specs.Runs.{IsRunOf}
 
 -- the cycle line of the report of a state: it names tasks that are a deadlocked set of the state; or there is none

@@ -10,8 +10,8 @@ use Rattle.armus_base.specs.Runs.{IsFinal}
 use Rattle.armus_base.specs.States.{State}
 use Rattle.adaptive.specs.declared.analysis.Wanted.{Wanted}
 use Rattle.pl_syntax.specs.declared.tree.Program.{Program}
-use Rattle.command_line.specs.Words.{Text}
-use Rattle.armus_top.specs.Programs.{IsChecked}
+use Rattle.program_io.specs.Texts.{Text}
+use Rattle.program_io.specs.Programs.{IsChecked}
 use Rattle.armus_top.specs.Runs.{IsRunOf}
 
 -- so does each task that a run reports as held

@@ -4,5 +4,6 @@ pub mod OneAnswer
 pub mod Avoided
 pub mod Cycles
 pub mod Held
+pub mod Explained
 -- Words of contracts further down, which no promise of a program needs.
 pub mod calls

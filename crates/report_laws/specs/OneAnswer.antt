@@ -3,7 +3,7 @@ use Rattle.std.specs.Prelude.{◌≡◌, ℕ}
 use Rattle.command_line.specs.declared.command.Command.{Command}
 use Rattle.command_line.specs.declared.command.Command.TheVariants.{Check, Run, Avoid, Record, Replay, Gen, Clock, Pool}
 use Rattle.command_line.specs.declared.command.Graph.{Graph}
-use Rattle.command_line.specs.Words.{Text}
+use Rattle.program_io.specs.Texts.{Text}
 use Rattle.armus_top.specs.Headline.{Answers}
 use Rattle.report_laws.specs.Outputs.{AreAlike}
 use Rattle.report_laws.specs.ReportedRuns.{ReportsRun}

@@ -5,7 +5,7 @@ use Rattle.report.specs.Live.{live_text}
 use Rattle.command_line.specs.declared.command.Command.{Command}
 use Rattle.command_line.specs.declared.command.Command.TheVariants.{Check, Run, Avoid, Record, Replay, Gen, Clock, Pool}
 use Rattle.command_line.specs.declared.command.RunKind.TheVariants.{Plain, Live, Sites}
-use Rattle.command_line.specs.Words.{Text}
+use Rattle.program_io.specs.Texts.{Text}
 
 -- no two of them name one task
 abbrev pub NameEachOnce : List Dead → Type 0

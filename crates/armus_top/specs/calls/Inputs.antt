@@ -3,7 +3,7 @@ use Rattle.std.specs.Prelude.{◌≤◌, ℕ, Option, Some, None, [], ◌≡◌,
 use Rattle.command_line.specs.declared.command.Command.{Command}
 use Rattle.command_line.specs.declared.command.Command.TheVariants.{Gen}
 use Rattle.command_line.specs.declared.table.TheConstants.{MAX_GENERATED}
-use Rattle.command_line.specs.Words.{Text}
+use Rattle.program_io.specs.Texts.{Text}
 use Rattle.armus_top.specs.Commands.{limit_of}
 use Rattle.armus_top.specs.Headline.{Answers}
 

@@ -1,7 +1,7 @@
 -- Which commands wait for threads.
 use Rattle.std.specs.Prelude.{◌≡◌, ◌⊎◌, ◌∷◌, List}
 use Rattle.command_line.specs.declared.table.TheConstants.{POOL, RECORD}
-use Rattle.command_line.specs.Words.{Text}
+use Rattle.program_io.specs.Texts.{Text}
 
 -- the first word is `record` or `pool`, whose commands wait for threads
 abbrev pub BeginsRecordOrPool : List Text → Type 0

@@ -2,9 +2,9 @@
 use Rattle.std.specs.Prelude.{◌≤◌, ℕ, length}
 use Rattle.armus_base.specs.Deadlocks.{IsDeadIn}
 use Rattle.armus_base.specs.Runs.{state_after}
-use Rattle.command_line.specs.Words.{Text}
+use Rattle.program_io.specs.Texts.{Text}
 use Rattle.armus_top.specs.Records.{IsRecordOf}
-use Rattle.armus_top.specs.declared.programs.TheConstants.{MAX_TEXT_BYTES}
+use Rattle.program_io.specs.declared.text_limit.TheConstants.{MAX_TEXT_BYTES}
 use Rattle.armus_top.specs.Replayable.{IsReplayable}
 
 -- so is each record of a text that is no longer than a text may be

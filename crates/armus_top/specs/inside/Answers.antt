@@ -12,12 +12,12 @@ use Rattle.report.specs.Reports.{IsReport, IsSomeDead}
 use Rattle.report.specs.declared.refusal.Refusal.{Refusal}
 use Rattle.report.specs.declared.refusal.Refusal.TheVariants as refusal
 use Rattle.command_line.specs.declared.command.Command.{Command}
-use Rattle.command_line.specs.Words.{Text}
+use Rattle.program_io.specs.Texts.{Text}
 use Rattle.armus_top.specs.Commands.{IsAnswered, IsRefusedInput}
 use Rattle.armus_top.specs.declared.output.InputEnd.{InputEnd}
 use Rattle.armus_top.specs.declared.output.InputEnd.TheVariants.{Refused, Clock, NoMemory}
 use Rattle.armus_top.specs.declared.output.Output.{Output}
-use Rattle.armus_top.specs.inside.Status.{number_of_status}
+use Rattle.program_io.specs.calls.ExitNumbers.{number_of_status}
 
 -- why there is no answer: the input is refused for one of these causes, or memory ran out
 abbrev pub IsEnd : (Refusal → Type 0) → InputEnd → Type 0

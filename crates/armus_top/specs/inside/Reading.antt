@@ -3,9 +3,9 @@ use Rattle.std.specs.Prelude.{◌≡◌, ◌≤◌, ◌+◌, ℕ, Some, length}
 use Rattle.std.specs.Io.KnownBytes.{Keeps}
 use Rattle.report.specs.declared.refusal.Refusal.TheVariants.{Length}
 use Rattle.command_line.specs.declared.command.Command.{Command}
-use Rattle.command_line.specs.Words.{Text}
+use Rattle.program_io.specs.Texts.{Text}
 use Rattle.armus_top.specs.Commands.{limit_of}
-use Rattle.armus_top.specs.Headline.{GaveTooMuch, HasCountedFault, HasInput, IsSound, Passage, ReadNoMore}
+use Rattle.program_io.specs.Passages.{GaveTooMuch, HasCountedFault, HasInput, IsSound, Passage, ReadNoMore}
 use Rattle.armus_top.specs.inside.Writing.{Refuses}
 
 -- the input was read to its end, and is not too long

@@ -1,6 +1,6 @@
 -- Texts of two lines and more.
 use Rattle.std.specs.Prelude.{◌≡◌, ◌∷◌, ◌++◌}
-use Rattle.command_line.specs.Words.{Text}
+use Rattle.program_io.specs.Texts.{Text}
 use Rattle.pl_syntax.specs.Printed.{line}
 
 -- the text has an LF, and more behind it, which ends with LF

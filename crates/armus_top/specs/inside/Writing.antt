@@ -7,14 +7,11 @@ use Rattle.clock_pl.specs.declared.fault.ClockFault.{ClockFault}
 use Rattle.report.specs.Refusals.{refusal_text}
 use Rattle.report.specs.declared.refusal.Refusal.{Refusal}
 use Rattle.command_line.specs.declared.command.Command.{Command}
-use Rattle.command_line.specs.Words.{Text}
+use Rattle.program_io.specs.Texts.{Text}
+use Rattle.program_io.specs.calls.Writing.{Finished}
 use Rattle.armus_top.specs.Commands.{writes_live}
-use Rattle.armus_top.specs.Headline.{Answers, Passage, HasCountedFault, IsSound, Took}
-
--- the status after a whole output, or a write that failed
-abbrev pub Finished : Passage → Text → ℕ → ℕ → Type 0
-Finished out text status number = ((number ≡ status) × Took out text × IsSound out)
-    ⊎ ((number ≡ 5) × HasCountedFault out × TookFront out.before out.after text)
+use Rattle.program_io.specs.Passages.{Passage, HasCountedFault, IsSound, Took}
+use Rattle.armus_top.specs.Headline.{Answers}
 
 -- memory was wanting, and nothing was written
 abbrev pub LeavesNothing : Passage → ℕ → Type 0

@@ -1,6 +1,6 @@
 -- The command that words mean.
 use Rattle.std.specs.Prelude.{◌≡◌, List, Option}
-use Rattle.command_line.specs.Words.{Text}
+use Rattle.program_io.specs.Texts.{Text}
 use Rattle.command_line.specs.declared.command.Command.{Command}
 use Rattle.command_line.specs.Commands.{Means}
 

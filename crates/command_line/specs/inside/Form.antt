@@ -3,7 +3,8 @@ use Rattle.std.specs.Prelude.{Bool, true, false, not, ◌&&◌, nat_le, List, []
 use Rattle.std.specs.List.{list_all}
 use Rattle.std.specs.Option.{option_map_or}
 use Rattle.std.specs.Str.{bytes_eq}
-use Rattle.command_line.specs.Words.{Text, dashed, first_word, has_option, is_value_byte, options_of, wants_value}
+use Rattle.program_io.specs.Texts.{Text}
+use Rattle.command_line.specs.Words.{dashed, first_word, has_option, is_value_byte, options_of, wants_value}
 use Rattle.command_line.specs.declared.forms.Free.{Free}
 use Rattle.command_line.specs.declared.table.FirstWord.{FirstWord}
 use Rattle.command_line.specs.declared.table.OptionWord.{OptionWord}

@@ -1,6 +1,6 @@
 -- What is proved of the outputs of a text.
 use Rattle.std.specs.Prelude.{◌≡◌, ℕ, Option}
-use Rattle.command_line.specs.Words.{Text}
+use Rattle.program_io.specs.Texts.{Text}
 
 -- a text, of a file or not, has one output of this kind at most, with one status
 abbrev pub IsOneOutput : (Option Text → Text → ℕ → Text → Type 0) → Type 0

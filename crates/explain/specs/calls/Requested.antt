@@ -2,7 +2,7 @@
 use Rattle.std.specs.Prelude.{None, Option, Some, codes, if◌then◌else◌, option_map}
 use Rattle.std.specs.Borrow.{Bor}
 use Rattle.std.specs.Str.{bytes_eq}
-use Rattle.command_line.specs.Words.{Text}
+use Rattle.program_io.specs.Texts.{Text}
 use Rattle.explain.specs.Requests.{Asked, avoided, clocks, explanation, help, nothing, steps, version}
 use Rattle.explain.specs.declared.answer.WantedOutput.{WantedOutput}
 use Rattle.explain.specs.declared.answer.WantedOutput.TheVariants.{Avoided, Clocks, Explanation, Steps}

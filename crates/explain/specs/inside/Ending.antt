@@ -1,9 +1,9 @@
 -- What the program has before it writes.
 use Rattle.std.specs.Prelude.{◌≡◌, true, false, Option, Some}
-use Rattle.command_line.specs.Words.{Text}
-use Rattle.armus_top.specs.Headline.{HasCountedFault, IsSound, Passage, ReadNoMore}
-use Rattle.armus_top.specs.declared.programs.TheConstants.{MAX_TEXT_BYTES}
-use Rattle.armus_top.specs.inside.Status.{number_of_status}
+use Rattle.program_io.specs.Texts.{Text}
+use Rattle.program_io.specs.Passages.{HasCountedFault, IsSound, Passage, ReadNoMore}
+use Rattle.program_io.specs.declared.text_limit.TheConstants.{MAX_TEXT_BYTES}
+use Rattle.program_io.specs.calls.ExitNumbers.{number_of_status}
 use Rattle.explain.specs.declared.answer.Answer.{Answer}
 use Rattle.explain.specs.declared.answer.AnswerEnd.{AnswerEnd}
 use Rattle.explain.specs.declared.answer.AnswerEnd.TheVariants.{Fault, NoMemory}

@@ -7,7 +7,7 @@ use Rattle.armus_base.specs.Finals.{end_of}
 use Rattle.armus_base.specs.Plans.{Plan}
 use Rattle.armus_base.specs.States.{State}
 use Rattle.adaptive.specs.declared.analysis.Wanted.{Wanted}
-use Rattle.command_line.specs.Words.{Text}
+use Rattle.program_io.specs.Texts.{Text}
 use Rattle.armus_top.specs.Avoids.{IsAvoidOf}
 use Rattle.armus_top.specs.Runs.{IsRunOf}
 

@@ -5,7 +5,7 @@ use Rattle.report.specs.Live.{live_text}
 use Rattle.command_line.specs.declared.command.Command.TheVariants.{Run, Clock}
 use Rattle.command_line.specs.declared.command.Graph.{Graph}
 use Rattle.command_line.specs.declared.command.RunKind.TheVariants.{Plain, Live}
-use Rattle.command_line.specs.Words.{Text}
+use Rattle.program_io.specs.Texts.{Text}
 use Rattle.armus_top.specs.Headline.{Answers}
 use Rattle.report_laws.specs.Outputs.{NameEachOnce}
 

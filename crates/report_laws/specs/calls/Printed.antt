@@ -2,7 +2,7 @@
 use Rattle.std.specs.Prelude.{◌≡◌, ◌↔◌, ℕ, true}
 use Rattle.command_line.specs.declared.command.Command.{Command}
 use Rattle.command_line.specs.declared.command.Command.TheVariants.{Check, Run, Avoid, Record, Replay, Gen, Clock, Pool}
-use Rattle.command_line.specs.Words.{Text}
+use Rattle.program_io.specs.Texts.{Text}
 use Rattle.armus_top.specs.Commands.{IsAnswered}
 use Rattle.armus_top.specs.Headline.{IsAccepted}
 use Rattle.armus_top.specs.Records.{IsRecordOf}

@@ -5,7 +5,7 @@ use Rattle.armus_base.specs.Deadlocks.{IsDeadIn}
 use Rattle.adaptive.specs.declared.analysis.Wanted.{Wanted}
 use Rattle.schedule.specs.declared.verdict.Replayed.{Replayed}
 use Rattle.schedule.specs.declared.verdict.PassVerdict.{PassVerdict}
-use Rattle.command_line.specs.Words.{Text}
+use Rattle.program_io.specs.Texts.{Text}
 use Rattle.armus_top.specs.Replays.{IsReplayOf}
 use Rattle.armus_top.specs.Runs.{IsRunOf}
 

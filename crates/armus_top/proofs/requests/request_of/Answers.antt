@@ -1,8 +1,8 @@
 use Rattle.std.proofs.Common.{map, string_bytes, subst, refl}
-use Rattle.armus_top.specs.calls.Headline.{passage}
+use Rattle.program_io.specs.calls.Passages.{passage}
 use Rattle.command_line.specs.Commands.{Means}
 use Rattle.armus_top.specs.Texts.{usage_line}
-use Rattle.armus_top.specs.inside.Status.{number_of_status}
+use Rattle.program_io.specs.calls.ExitNumbers.{number_of_status}
 use Rattle.armus_top.proofs.Ending.{finished_as}
 use Rattle.armus_top.proofs.Served.{call_of_usage, call_served}
 use Rattle.armus_top.proofs.requests.request_of.Goals as goal

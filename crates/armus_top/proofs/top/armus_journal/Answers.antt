@@ -1,7 +1,7 @@
 use Rattle.std.proofs.Common.{◌∙◌, map, string_bytes}
 use Rattle.std.specs.Prelude.{Some}
-use Rattle.armus_top.specs.calls.Headline.{passage}
-use Rattle.armus_top.specs.inside.Status.{number_of_status}
+use Rattle.program_io.specs.calls.Passages.{passage}
+use Rattle.program_io.specs.calls.ExitNumbers.{number_of_status}
 use Rattle.armus_top.proofs.Answering.{ends_by_answer}
 use Rattle.armus_top.proofs.Ending.{served_by}
 use Rattle.armus_top.proofs.Meaning.{means_waiting, serves_by}

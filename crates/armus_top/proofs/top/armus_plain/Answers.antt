@@ -1,5 +1,5 @@
 use Rattle.std.proofs.Common.{◌∙◌, map, string_bytes}
-use Rattle.armus_top.specs.inside.Status.{number_of_status}
+use Rattle.program_io.specs.calls.ExitNumbers.{number_of_status}
 use Rattle.armus_top.proofs.Answering.{ends_by_answer}
 use Rattle.armus_top.proofs.Ending.{served_by}
 use Rattle.armus_top.proofs.Meaning.{means_plain}

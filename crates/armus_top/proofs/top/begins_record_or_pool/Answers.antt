@@ -4,7 +4,7 @@ use Rattle.std.proofs.lemmas.Slice.Eq.{bytes_eq-Decides}
 use Rattle.std.proofs.lemmas.Bool.{or_cases, or_left, or_right}
 use Rattle.armus_base.proofs.Lists.{headed}
 use Rattle.command_line.specs.declared.table.TheConstants.{POOL, RECORD}
-use Rattle.command_line.specs.Words.{Text}
+use Rattle.program_io.specs.Texts.{Text}
 use Rattle.command_line.proofs.Meaning.{head_is}
 use Rattle.armus_top.proofs.top.begins_record_or_pool.Goals as goal
 

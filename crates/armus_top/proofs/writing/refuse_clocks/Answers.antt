@@ -1,7 +1,7 @@
 use Rattle.std.proofs.Common.{◌∙◌, inl}
 use Rattle.clock_pl.specs.ClockLines.{clock_fault_line}
-use Rattle.armus_top.specs.calls.Headline.{passage}
-use Rattle.armus_top.specs.inside.Status.{number_of_status}
+use Rattle.program_io.specs.calls.Passages.{passage}
+use Rattle.program_io.specs.calls.ExitNumbers.{number_of_status}
 use Rattle.armus_top.proofs.Ending.{finished_as}
 use Rattle.armus_top.proofs.writing.refuse_clocks.Goals as goal
 

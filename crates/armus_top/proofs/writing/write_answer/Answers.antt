@@ -1,7 +1,7 @@
 use Rattle.std.proofs.Common.{arith, subst}
-use Rattle.armus_top.specs.calls.Headline.{passage}
+use Rattle.program_io.specs.calls.Passages.{passage}
 use Rattle.armus_top.specs.inside.Answers.{AnswersBy}
-use Rattle.armus_top.specs.inside.Status.{number_of_status}
+use Rattle.program_io.specs.calls.ExitNumbers.{number_of_status}
 use Rattle.armus_top.proofs.Answering.{by_output}
 use Rattle.armus_top.proofs.Ending.{finished_as}
 use Rattle.armus_top.proofs.Inputs.{answered_small}

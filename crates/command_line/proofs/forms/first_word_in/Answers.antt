@@ -2,7 +2,8 @@ use Rattle.std.proofs.Common.{◌≡◌, ◌∙◌, Bool, true, false, List, ◌
 use Rattle.std.specs.Prelude.{Option, Some}
 use Rattle.std.proofs.lemmas.List.{take_rest}
 use Rattle.armus_base.proofs.Lists.{headed}
-use Rattle.command_line.specs.Words.{Text, Use, AreWords, has_value_alone}
+use Rattle.program_io.specs.Texts.{Text}
+use Rattle.command_line.specs.Words.{Use, AreWords, has_value_alone}
 use Rattle.command_line.specs.inside.Form.{first_named, fits, free_at}
 use Rattle.command_line.specs.declared.forms.Free.{Free}
 use Rattle.command_line.specs.declared.table.FirstWord.{FirstWord}

@@ -1,6 +1,6 @@
 use Rattle.std.proofs.Common.{subst, sym}
 use Rattle.armus_top.specs.Records.{IsRecordOf}
-use Rattle.armus_top.proofs.OnePlan.{checked_plan}
+use Rattle.program_io.proofs.OnePlan.{checked_plan}
 use Rattle.armus_top.proofs.Reporting.{plain_end_in_order}
 use Rattle.armus_top.proofs.RecordedTexts.{record_of}
 use Rattle.armus_top.proofs.running.CallSetting.record.Goals as goal

@@ -1,7 +1,7 @@
 use Rattle.std.proofs.Common.{◌∙◌, subst}
 use Rattle.pl_generator.specs.Generated.{generated_text}
 use Rattle.adaptive.specs.declared.analysis.Wanted.TheVariants as wanted
-use Rattle.armus_top.specs.Programs.{IsPlanOf}
+use Rattle.program_io.specs.Programs.{IsPlanOf}
 use Rattle.armus_top.proofs.GeneratedRuns.{with_plan}
 use Rattle.armus_top.proofs.running.CallSetting.run_generated.Goals as goal
 

@@ -1,5 +1,5 @@
 use Rattle.task_runner.specs.calls.DetectRuns.{told}
-use Rattle.armus_top.specs.inside.Status.{number_of_status}
+use Rattle.program_io.specs.calls.ExitNumbers.{number_of_status}
 use Rattle.armus_top.proofs.Ending.{finished_as}
 use Rattle.armus_top.proofs.LiveRuns.{between, reported, unreported, unwritten, wanted_memory}
 use Rattle.armus_top.proofs.Reporting.{plain_end_in_order}

@@ -1,6 +1,6 @@
 use Rattle.std.proofs.Common.{refl, subst, sym}
 use Rattle.command_line.specs.declared.command.Command.TheVariants.{Clock, Run}
-use Rattle.armus_top.specs.Programs.{IsFaultOf}
+use Rattle.program_io.specs.Programs.{IsFaultOf}
 use Rattle.armus_top.specs.inside.Answers.{IsEndOf}
 use Rattle.armus_top.proofs.Answering.{end_of_clocks, end_of_text}
 use Rattle.armus_top.proofs.Served.{live_clock, live_run}

@@ -1,4 +1,4 @@
-use Rattle.armus_top.specs.inside.Status.{number_of_status}
+use Rattle.program_io.specs.calls.ExitNumbers.{number_of_status}
 use Rattle.explain.specs.calls.Requested.{file_bytes}
 use Rattle.explain.proofs.EndAvoided.{end_avoided}
 use Rattle.explain.proofs.checked_text.CheckedText.avoid.Goals as goal

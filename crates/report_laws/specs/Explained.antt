@@ -6,7 +6,7 @@ use Rattle.explain_deadlock.specs.declared.outcome.WaitVerdict.TheVariants.{Circ
 use Rattle.report.specs.Counts.{counts_of}
 use Rattle.report.specs.declared.standing.Standing.{Standing}
 use Rattle.report.specs.Lines.{counts_line, cycle_line}
-use Rattle.command_line.specs.Words.{Text}
+use Rattle.program_io.specs.Texts.{Text}
 use Rattle.armus_top.specs.Runs.{IsRunOf as IsReportedRun}
 use Rattle.explain.specs.Explained.{IsExplanationOf}
 

@@ -25,11 +25,11 @@ use Rattle.report.specs.Reports.{IsCycleText, IsSomeDead}
 use Rattle.report.specs.Standings.{AreStandings}
 use Rattle.report.proofs.OneReport.{one_cycle_text, one_standings}
 use Rattle.explain_tasks.specs.Facts.{FactsValue, facts_of}
-use Rattle.command_line.specs.Words.{Text}
-use Rattle.armus_top.specs.Programs.{TellsDead}
+use Rattle.program_io.specs.Texts.{Text}
+use Rattle.armus_top.specs.DeadStatus.{TellsDead}
 use Rattle.armus_top.specs.Runs.{IsRunOf as IsReportedRun}
-use Rattle.armus_top.proofs.OnePlan.{checked_plan}
-use Rattle.explain.specs.Agreement.{BeginAlike, ExplainsAsRun}
+use Rattle.program_io.proofs.OnePlan.{checked_plan}
+use Rattle.report_laws.specs.Explained.{BeginAlike, ExplainsAsRun}
 use Rattle.explain.specs.Explained.{IsExplanationOf}
 
 some_dead : (state : State) (number : ℕ) → TellsDead state number → number ≡ 1 → (t : ℕ) × IsDeadIn state t

@@ -9,8 +9,8 @@ use Rattle.pl_plan.specs.Unfolding.{plan_of}
 use Rattle.pl_plan.proofs.TextsAreNear.{text_is_checked}
 use Rattle.report.specs.declared.refusal.Refusal.{Refusal}
 use Rattle.report.specs.declared.refusal.Refusal.TheVariants as refusal
-use Rattle.command_line.specs.Words.{Text}
-use Rattle.armus_top.specs.Programs.{IsChecked, IsFaultOf, IsPlanOf}
+use Rattle.program_io.specs.Texts.{Text}
+use Rattle.program_io.specs.Programs.{IsChecked, IsFaultOf, IsPlanOf}
 
 -- a text with a plan is not refused
 pub plan_or_fault : (text : Text) (why : Refusal) (program : Program) (plan : Plan) → IsFaultOf text why → IsChecked text program plan → ⊥

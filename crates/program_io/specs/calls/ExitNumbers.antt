@@ -1,7 +1,7 @@
 -- The numbers with which the program ends.
 use Rattle.std.specs.Prelude.{ℕ}
-use Rattle.armus_top.specs.declared.output.ExitStatus.{ExitStatus}
-use Rattle.armus_top.specs.declared.output.ExitStatus.TheVariants.{NoDeadlock, Deadlock, Usage, Refused, ReadFailed, WriteFailed, OutOfMemory}
+use Rattle.program_io.specs.declared.exit_status.ExitStatus.{ExitStatus}
+use Rattle.program_io.specs.declared.exit_status.ExitStatus.TheVariants.{NoDeadlock, Deadlock, Usage, Refused, ReadFailed, WriteFailed, OutOfMemory}
 
 -- the number of a status
 abbrev pub number_of_status : ExitStatus → ℕ

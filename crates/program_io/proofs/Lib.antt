@@ -1,0 +1,5 @@
+pub mod OnePlan
+pub mod EachText
+pub mod EndsFinished
+pub mod Inputs
+pub mod SomeBelow

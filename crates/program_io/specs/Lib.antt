@@ -1,0 +1,6 @@
+-- What a reader of the repository has to believe.
+pub mod Texts
+pub mod Passages
+pub mod Programs
+-- Words of contracts further down, which no promise of a program needs.
+pub mod calls

@@ -1,0 +1,6 @@
+-- Texts of the outside.
+use Rattle.std.specs.Prelude.{ℕ, List}
+
+-- a text is the list of its bytes
+abbrev pub Text : Type 0
+Text = List ℕ

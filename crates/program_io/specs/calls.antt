@@ -1,0 +1,3 @@
+pub mod Passages
+pub mod ExitNumbers
+pub mod Writing
