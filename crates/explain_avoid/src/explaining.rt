@@ -151,12 +151,7 @@ pub fn avoided_explanation_of(
 {
     let _plan = run.world.plan();
     let outline = outline_of(alloc, &run.end)?;
-    let Outline {
-        standings,
-        counts,
-        cycle: _,
-        has_dead: _,
-    } = outline;
+    let Outline { standings, counts } = outline;
     let stand = standings.as_slice();
     let facts = Facts::new(alloc, places, file, account, stand);
     let explanation = explain_standings(&facts, run, counts, stand)?;

@@ -90,12 +90,7 @@ pub fn explanation_of(
 {
     let _plan = world.plan();
     let outline = outline_of(alloc, end)?;
-    let Outline {
-        standings,
-        counts,
-        cycle: _,
-        has_dead: _,
-    } = outline;
+    let Outline { standings, counts } = outline;
     let facts = Facts::new(alloc, places, file, account, standings.as_slice());
     explain_facts(&facts, world, counts)
 }

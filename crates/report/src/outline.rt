@@ -1,27 +1,22 @@
-// The outline of a final state: what a report says of it without its tasks' lines and its graph.
+// The outline of a final state: how its tasks stand, and the line that counts them.
 ghost use Rattle.std.specs.Prelude.{IfOk};
 ghost use Rattle.armus_base.specs.calls.Statuses.{IsInOrder};
 ghost use Rattle.report.specs.calls.Outlines.{IsOutline};
 
 use crate::counts::counts_of;
 use crate::lines::put_counts;
-use crate::reports::put_found_cycle;
 use crate::standing::{Standing, standings};
 use adaptive::dead_of;
 use armus_base::{Final, List, NoMemory};
 use std::alloc::Global;
 
-/// How the tasks of a final state stand, and why some of them are dead.
+/// How the tasks of a final state stand.
 #[derive(Drop)]
 pub struct Outline {
     /// How each task stands, in order of number.
     pub standings: List<Standing>,
     /// The line that counts how the tasks stand.
     pub counts: List<u8>,
-    /// The line of the cycle, where a task is dead; else nothing.
-    pub cycle: List<u8>,
-    /// Whether a task is dead.
-    pub has_dead: bool,
 }
 
 /// The outline of a final state, for other texts than a report.
@@ -35,12 +30,8 @@ pub fn outline_of(alloc: Global, end: &Final) -> Result<Outline, NoMemory>
     let standings = standings(alloc, end.ends.as_slice(), dead)?;
     let mut counts = Vec::new(alloc);
     put_counts(alloc, &mut counts, &counts_of(&standings))?;
-    let mut cycle = Vec::new(alloc);
-    put_found_cycle(alloc, &mut cycle, blocked, dead)?;
     Ok(Outline {
         standings: List::from_vec(standings),
         counts: List::from_vec(counts),
-        cycle: List::from_vec(cycle),
-        has_dead: !dead.is_empty(),
     })
 }

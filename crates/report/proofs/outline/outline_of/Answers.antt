@@ -1,14 +1,11 @@
-use Rattle.std.proofs.Common.{◌∙◌, ◌++◌, ap, subst, sym, length}
-use Rattle.std.specs.Prelude.{◌==◌}
+use Rattle.std.proofs.Common.{◌∙◌, ◌++◌, ap, subst, sym}
 use Rattle.armus_base.specs.DeadLists.{IsDeadList}
 use Rattle.armus_base.specs.Deadlocks.{IsDeadBy}
 use Rattle.report.specs.Counts.{counts_of}
 use Rattle.report.specs.Lines.{counts_line}
-use Rattle.report.specs.Reports.{IsCycleText}
-use Rattle.report.specs.inside.Appending.{AppendsCycle}
 use Rattle.report.specs.Standings.{AreStandings}
 use Rattle.report.specs.inside.Merging.{IsIn}
-use Rattle.report.proofs.DeadTasks.{dead_in, some_dead}
+use Rattle.report.proofs.DeadTasks.{dead_in}
 use Rattle.report.proofs.Passing.{standings_same}
 use Rattle.report.proofs.outline.outline_of.Goals as goal
 
@@ -21,14 +18,10 @@ returns c =
     let listed : AreStandings (IsIn dead) c.args.end.now.ends all =
     subst (λ ts. AreStandings (IsIn ts) c.args.end.now.ends all) c.as_slice-dead.ensures.items
     (subst (λ es. AreStandings (IsIn c.as_slice-dead.result.now) es all) c.as_slice.ensures.items c.in_ok-standings.ensures) in
-    let cycle : AppendsCycle blocked c.new-cycle.result.items c.put_found_cycle.new.out.items =
-    subst (λ ss. AppendsCycle ss c.new-cycle.result.items c.put_found_cycle.new.out.items) c.as_slice-blocked.ensures.items c.in_ok-put_found_cycle.ensures in
     record {
       stand = subst (λ xs. AreStandings (IsDeadBy blocked) c.args.end.now.ends xs) (sym c.from_vec.ensures.items)
           (standings_same (IsIn dead) (IsDeadBy blocked) (dead_in blocked dead h) c.args.end.now.ends all listed);
       counts =
-          c.from_vec-2.ensures.items ∙ c.in_ok-put_counts.ensures ∙ ap (λ o. o ++ counts_line c.counts_of.result) c.new-counts.ensures.items
+          c.from_vec-2.ensures.items ∙ c.in_ok-put_counts.ensures ∙ ap (λ o. o ++ counts_line c.counts_of.result) c.new.ensures.items
           ∙ ap (λ k. counts_line k) (c.counts_of.ensures ∙ ap counts_of (c.deref.ensures.value ∙ sym c.from_vec.ensures.items));
-      cycle = subst (IsCycleText blocked) (sym (c.from_vec-3.ensures.items ∙ cycle.2 ∙ ap (λ o. o ++ cycle.0) c.new-cycle.ensures.items)) cycle.1;
-      dead = some_dead blocked dead c.is_empty.result h (c.is_empty.ensures ∙ ap (λ ts. length ts == 0) c.as_slice-dead.ensures.items);
     }
