@@ -1,4 +1,6 @@
 //! The analysis of a list of statuses by the graph that is wanted, or by that of the adaptive choice.
+//!
+//! It stands on `dep_state`, `state_graph` and `resource_graph`. Its rows are in `tests_graphs`.
 #![tactic(auto)]
 
 mod analysis;

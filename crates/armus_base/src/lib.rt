@@ -1,5 +1,7 @@
 //! The types that every other crate names, the definitions of plans, runs and deadlock with the laws over them, and the outside of the program: sources,
 //! sinks and the gate.
+//!
+//! It stands on std alone, and every other crate on it. Its rows are in `tests_text` (`outside`), and worked runs are laws here.
 #![tactic(auto)]
 
 mod code;

@@ -2,8 +2,8 @@
 #![tactic(auto)]
 
 use armus_base::{NoMemory, StdSink, StdSource};
-use program_io::command_words;
 use explain::{Request, explain, request_of};
+use program_io::command_words;
 use std::fs::File;
 use std::io::{Eprint, ErrorKind, Read};
 use std::process::ExitCode;

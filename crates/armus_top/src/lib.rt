@@ -1,4 +1,6 @@
 //! The top call: from words, a source and a sink to a status.
+//!
+//! It stands on all crates of `armus` but its main. Its rows are in `tests_programs`, and kernels of the gallery.
 #![tactic(auto)]
 
 mod checking;

@@ -1,4 +1,6 @@
 //! Decisions of the runs that avoid deadlock: whether an await is published or refused, in a world and on a board.
+//!
+//! It stands on `pl_core`, `phase_scan`, `order_graph`, `adaptive` and `verdict`. Its rows are in `tests_board`.
 #![tactic(auto)]
 
 mod concluding;

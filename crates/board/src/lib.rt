@@ -1,4 +1,6 @@
 //! The words that running tasks share without a lock, and what each seat has seen of them.
+//!
+//! It stands on `armus_base` and `atomic_table`. Its rows are in `tests_board`.
 #![tactic(auto)]
 
 mod board;

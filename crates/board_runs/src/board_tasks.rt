@@ -76,13 +76,6 @@ impl<'p> BoardTasks<'p> {
         })
     }
 
-    /// How many tasks live.
-    pub fn len(&self) -> usize
-        ensures { result ≡ length self.now.live }
-    {
-        self.live.len()
-    }
-
     /// One round: each task that lives has one turn, by so many workers. What a worker judges by is kept from its first round on. After the round the children
     /// whom they forked live too, and whoever acts no more lives no more. Where nobody was forked, as where no event happened, each task stands at the end of
     /// its turn in this round, or had ended before; a turn may be cut short only where the tasks have made more loads in the round than the bound.

@@ -1,4 +1,6 @@
 //! Tasks that take turns on a board, by rounds of several workers.
+//!
+//! It stands on `avoider` and `board`. Its rows are in `tests_board` (`rounds`, `counting`).
 #![tactic(auto)]
 
 mod beginning;

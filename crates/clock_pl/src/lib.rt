@@ -1,4 +1,6 @@
 //! Clock programs: their trees, and the plan of one, in which each activity is a task, and each clock and each finish a phaser.
+//!
+//! It stands on `clock_semantics`. Its rows are in `tests_text` (`clock_plans`).
 #![tactic(auto)]
 
 mod activities;

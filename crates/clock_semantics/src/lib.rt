@@ -1,4 +1,6 @@
 //! The unfolding of a clock program: the moves of each activity, and the plan that stands for them, or the first fault.
+//!
+//! It has definitions and laws, and no code that runs; it stands on `clock_syntax` and `pl_plan`. Its worked programs are laws here.
 #![tactic(auto)]
 
 mod laws;

@@ -1,4 +1,6 @@
 //! From which statements of a clock text its activities, its clocks, its finishes and its ops come, where each activity waits, and where statements begin.
+//!
+//! It stands on `clock_semantics`. Its rows are kernels of the gallery (`armus_explain clock`, `armus_explain steps`).
 #![tactic(auto)]
 
 mod laws;

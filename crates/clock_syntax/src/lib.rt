@@ -10,6 +10,8 @@
 //! | `drop(x);` | leaves clock x |
 //! | `loop k { .. }` | runs this body k times |
 //! | `skip;` | does nothing |
+//!
+//! It stands on `pl_syntax`. Its rows are in `tests_text` (`clock_texts`).
 #![tactic(auto)]
 
 mod laws;

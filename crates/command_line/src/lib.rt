@@ -1,4 +1,6 @@
 //! The words of the command line: their form, the values of their options by `clap`, and the command that they mean.
+//!
+//! It stands on `clap`. Its rows are in `tests_text` (`words`).
 #![tactic(auto)]
 
 mod command;

@@ -1,4 +1,6 @@
 //! The relations of a list of statuses: which event each task awaits, and which tasks impede each event.
+//!
+//! It stands on `armus_base`. Its rows are in `tests_graphs`.
 #![tactic(auto)]
 
 mod dep_state;

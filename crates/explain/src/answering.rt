@@ -13,11 +13,11 @@ use crate::clocks::answer_clocks;
 use crate::language::is_of_clocks;
 use crate::refusing::{refuse_check, refuse_length, refuse_syntax};
 use armus_base::{NoMemory, ReadEnd, Source, read_all};
-use program_io::MAX_TEXT_BYTES;
 use pl_plan::{PlanEnd, unfold};
 use pl_syntax::{ParseEnd, Program, parse};
-use std::alloc::Global;
+use program_io::MAX_TEXT_BYTES;
 use source_map::TextPlaces;
+use std::alloc::Global;
 
 // The whole output for the text with these places, which is this program.
 fn answer_program(

@@ -13,13 +13,13 @@ ghost use Rattle.explain.specs.inside.Ending.{IsClockAnswerTo};
 
 use crate::answer::{Answer, ClockWanted, with_steps};
 use armus_base::{Final, NoMemory, Plan};
-use program_io::status_of;
 use clock_pl::ClockProgram;
 use explain_clock::{ClockExplanation, clock_explanation_of};
 use explain_steps::clock_steps_through;
 use pl_core::World;
-use std::alloc::Global;
+use program_io::status_of;
 use source_map::TextPlaces;
+use std::alloc::Global;
 use world_runs::run_to_world;
 
 /// What is known of a clock text that is not refused.

@@ -15,17 +15,17 @@ ghost use Rattle.explain.specs.inside.Checked.{IsCheckedText};
 ghost use Rattle.explain.specs.inside.Ending.{IsPlAnswerTo};
 
 use crate::answer::{Answer, PlWanted, with_steps};
-use explain_facts::{Account, account_of};
 use armus_base::{Final, NoMemory};
-use program_io::status_of;
+use explain_avoid::{avoid_through, avoided_explanation_of};
 use explain_deadlock::{Explanation, explanation_of};
+use explain_facts::{Account, account_of};
+use explain_steps::step_through;
 use pl_core::World;
 use pl_plan::Unfolded;
 use pl_syntax::Program;
-use explain_avoid::{avoid_through, avoided_explanation_of};
-use std::alloc::Global;
-use explain_steps::step_through;
+use program_io::status_of;
 use source_map::TextPlaces;
+use std::alloc::Global;
 use world_runs::run_to_world;
 
 /// What is known of a text of PL that is not refused.

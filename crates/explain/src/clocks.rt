@@ -15,8 +15,8 @@ use armus_base::NoMemory;
 use clock_pl::{ClockEnd, ClockFault, ClockProgram, clock_parse, clock_plan};
 use explain_clock::{clock_fault_refusal, clock_syntax_refusal};
 use pl_syntax::ParseEnd;
-use std::alloc::Global;
 use source_map::TextPlaces;
+use std::alloc::Global;
 
 // The refusal of the clock text of this program, whose unfolding has this first fault.
 fn refuse_unfolding(

@@ -1,4 +1,6 @@
 //! The program that explains a text: which of its tasks wait for ever, where, for whom and why, or why it is refused. Its one top call.
+//!
+//! It stands on the crates `explain_*`, `world_runs` and `program_io`, and on no board. Its rows are in `tests_programs`, and kernels of the gallery.
 #![tactic(auto)]
 
 mod answer;

@@ -13,13 +13,12 @@ ghost use Rattle.explain.specs.calls.Requested.{file_bytes};
 
 use crate::answer::Answer;
 use armus_base::{List, NoMemory};
-use program_io::ExitStatus;
-use explain_check::{Statements, check_refusal};
-use explain_check::{Scene, scene_of};
-use pl_syntax::{Program, SyntaxFault, statement_offsets};
+use explain_check::{Scene, Statements, check_refusal, scene_of};
 use explain_syntax::{length_refusal, syntax_refusal};
-use std::alloc::Global;
+use pl_syntax::{Program, SyntaxFault, statement_offsets};
+use program_io::ExitStatus;
 use source_map::TextPlaces;
+use std::alloc::Global;
 
 /// A refusal with these lines.
 pub(crate) fn refused(lines: List<u8>) -> Answer

@@ -14,13 +14,13 @@ ghost use Rattle.explain_avoid.specs.inside.SoFar.{RoundsGoTo, HasDecided, HasEn
 
 use crate::known_text::KnownText;
 use crate::refusal::{pending_of, put_freed, put_refusal};
-use explain_facts::TextFacts;
 use armus_base::{Event, Final, List, NoMemory, Plan, TaskId};
 use avoider::{Decision, Judge, Judging};
+use explain_facts::TextFacts;
 use pl_core::{Stand, World};
 use pl_syntax::Program;
-use std::alloc::Global;
 use source_map::TextPlaces;
+use std::alloc::Global;
 
 /// The serial avoided run of a text.
 #[derive(Drop)]

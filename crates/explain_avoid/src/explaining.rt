@@ -10,13 +10,13 @@ ghost use Rattle.explain_avoid.specs.calls.AvoidedRuns.{IsExplainedRun};
 ghost use Rattle.explain_avoid.specs.AvoidedWords.{avoided_words, has_some, was_refused, waits_at_the_end, refused_line, somebody_stays, tasks_with, waiting_line};
 
 use crate::avoiding::AvoidedRun;
-use explain_facts::{Account, put_words};
 use armus_base::{List, NoMemory, TaskId};
 use explain_deadlock::put_paragraphs;
-use report::{Outline, Standing, outline_of};
-use std::alloc::Global;
+use explain_facts::{Account, put_words};
 use explain_tasks::{Facts, passing_below, put_by_number, put_list, standing_at};
+use report::{Outline, Standing, outline_of};
 use source_map::TextPlaces;
+use std::alloc::Global;
 
 /// The explanation of a run that avoids deadlock, and whether somebody was refused or waits for ever.
 #[derive(Drop)]

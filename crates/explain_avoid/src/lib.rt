@@ -1,4 +1,6 @@
 //! The serial avoided run of a text's plan, with a paragraph for each await that is refused: who, where, and the deadlock that the await would have closed.
+//!
+//! It stands on `explain_deadlock`, `explain_steps` and `world_runs`. Its rows are kernels of the gallery.
 #![tactic(auto)]
 
 mod avoiding;

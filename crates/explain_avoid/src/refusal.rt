@@ -19,13 +19,13 @@ ghost use Rattle.explain_avoid.specs.inside.Freed.{AreThoseBelow, IsFreed, Stood
 ghost use Rattle.explain_avoid.specs.inside.SoFar.{StandAt};
 
 use crate::known_text::KnownText;
-use explain_facts::{TextFacts, put_number, put_words};
 use armus_base::{Event, NoMemory, Phase, PhaserId, TaskId};
-use source_map::LoopTurn;
-use pl_core::{Stand, World};
-use std::alloc::Global;
+use explain_facts::{TextFacts, put_number, put_words};
 use explain_steps::{put_statement, put_task};
 use explain_tasks::{push_if, put_list, separator};
+use pl_core::{Stand, World};
+use source_map::LoopTurn;
+use std::alloc::Global;
 
 /// An await of a task, as it stands when it is decided on.
 #[derive(Drop)]

@@ -10,15 +10,15 @@ ghost use Rattle.explain_check.specs.StatementPlaces.{statement_offset};
 
 use crate::matter::put_matter;
 use crate::note::put_note;
+use crate::scene::Scene;
 use crate::statements::Statements;
 use crate::whereabouts::put_whereabouts;
 use armus_base::{List, NoMemory};
-use crate::Scene;
+use explain_syntax::put_line_and_caret;
 use pl_plan::CheckFault;
 use pl_syntax::Program;
-use explain_syntax::put_line_and_caret;
-use std::alloc::Global;
 use source_map::{TextPlace, TextPlaces};
+use std::alloc::Global;
 
 // The numbers of a fault.
 fn put_numbers(alloc: Global, out: &mut Vec<u8>, fault: CheckFault) -> Result<(), NoMemory>

@@ -5,8 +5,8 @@ ghost use Rattle.explain_check.specs.MatterWords.{matter_words, phaser_wanted_wo
 ghost use Rattle.explain_check.specs.NameWords.{phaser_words, task_words};
 
 use crate::names::{put_phaser, put_task};
+use crate::scene::{Matter, NamedPhaser, NamedTask, Verb};
 use armus_base::NoMemory;
-use crate::{Matter, NamedPhaser, NamedTask, Verb};
 use explain_syntax::put_quoted;
 use std::alloc::Global;
 

@@ -2,8 +2,8 @@
 ghost use Rattle.std.specs.Prelude.{◌≡◌, ◌==◌, ◌++◌, [], OnOk, if◌then◌else◌};
 ghost use Rattle.explain_check.specs.NameWords.{in_parentheses, number_words, phaser_words, task_words};
 
+use crate::scene::{NamedPhaser, NamedTask};
 use armus_base::NoMemory;
-use crate::{NamedPhaser, NamedTask};
 use std::alloc::Global;
 
 // Appends a name in parentheses.

@@ -4,11 +4,11 @@ ghost use Rattle.explain_check.specs.MatterNotes.{note_line, matter_note};
 ghost use Rattle.explain_check.specs.NameWords.{phaser_words, task_words};
 
 use crate::names::{put_phaser, put_task};
+use crate::scene::{Matter, NamedPhaser, NamedTask};
 use crate::statements::Statements;
 use armus_base::NoMemory;
-use crate::{Matter, NamedPhaser, NamedTask};
-use std::alloc::Global;
 use source_map::{TextPlace, TextPlaces};
+use std::alloc::Global;
 
 // Words and a place, as a line.
 fn put_line_at(

@@ -5,11 +5,11 @@ ghost use Rattle.explain_check.specs.NameWords.{task_words};
 ghost use Rattle.explain_check.specs.Whereabouts.{forked_at_words, is_none, more_turns, loop_turn_words, turns_words, whereabouts, whereabouts_words};
 
 use crate::names::put_task;
+use crate::scene::{LoopTurn, NamedTask};
 use crate::statements::Statements;
 use armus_base::NoMemory;
-use crate::{LoopTurn, NamedTask};
-use std::alloc::Global;
 use source_map::{TextPlace, TextPlaces};
+use std::alloc::Global;
 
 // The task, and the place where it was forked.
 fn put_forked_at(

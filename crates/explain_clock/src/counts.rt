@@ -3,8 +3,8 @@ ghost use Rattle.std.specs.Prelude.{◌≡◌, ◌++◌, OnOk, count_by};
 ghost use Rattle.explain_clock.specs.ClockExplanations.{ended_counts, is_ended, is_unstarted, waits_there, nobody_line, some_activity_waits, waiting_counts};
 
 use crate::words::put_number;
-use explain_facts::put_words;
 use armus_base::{NoMemory, TaskEnd};
+use explain_facts::put_words;
 use std::alloc::Global;
 
 // How many have ended.

@@ -15,8 +15,8 @@ use crate::waits::waits_of;
 use armus_base::{Final, List, NoMemory};
 use clock_syntax::ClockProgram;
 use pl_core::World;
-use std::alloc::Global;
 use source_map::TextPlaces;
+use std::alloc::Global;
 
 /// The explanation of a run of a clock text, and whether somebody waits for ever.
 #[derive(Drop)]

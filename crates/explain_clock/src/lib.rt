@@ -1,4 +1,6 @@
 //! What is said of a clock text: which of its activities wait for ever, where, for whom and why, or why it is refused.
+//!
+//! It stands on `clock_source_map` and `explain_facts`. Its rows are kernels of the gallery.
 #![tactic(auto)]
 
 mod counts;

@@ -5,8 +5,8 @@ ghost use Rattle.explain_clock.specs.ClockWords.{activity_words};
 
 use crate::facts::ClockFacts;
 use crate::text_facts::ClockTextFacts;
-use explain_facts::put_words;
 use armus_base::{Event, Member, NoMemory, Status};
+use explain_facts::put_words;
 
 // Whether this is a phase of that clock or finish, and below the phase that is waited for.
 fn is_below(event: Event, member: Member) -> bool

@@ -6,9 +6,9 @@ ghost use Rattle.explain_clock.specs.ClockExplanations.{lines_below, activity_pa
 use crate::facts::ClockFacts;
 use crate::text_facts::ClockTextFacts;
 use crate::words::put_number;
-use explain_facts::put_words;
 use armus_base::{Event, NoMemory, TaskEnd};
 use clock_source_map::{ClockBegun, ClockThing};
+use explain_facts::put_words;
 
 // The statement that starts an activity, if there is one.
 fn started_at(begun: Option<&ClockBegun<'_>>) -> Option<u32>

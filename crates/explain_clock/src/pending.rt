@@ -4,9 +4,9 @@ ghost use Rattle.explain_clock.specs.ClockExplanations.{line_if_pending, lines_b
 
 use crate::facts::ClockFacts;
 use crate::text_facts::ClockTextFacts;
-use explain_facts::put_words;
 use armus_base::{Event, NoMemory, PhaserId};
 use clock_source_map::ClockThing;
+use explain_facts::put_words;
 
 impl<'a> ClockTextFacts<'a> {
     // Appends the line of a clock of this name, made at statement `n`.

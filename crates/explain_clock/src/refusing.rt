@@ -8,14 +8,14 @@ ghost use Rattle.clock_source_map.specs.ClockOffsets.{clock_offsets};
 ghost use Rattle.explain_clock.specs.ClockRefusals.{clock_fault_lines, clock_numbers, clock_syntax_lines, fault_lines, fault_words, syntax_words};
 
 use crate::words::offset_of;
-use explain_facts::put_words;
 use armus_base::{List, NoMemory};
 use clock_source_map::clock_offsets;
 use clock_syntax::ClockProgram;
-use pl_syntax::{CANNOT_STAND, NO_NUMBER, NO_TOKEN, SyntaxFault, TOO_DEEP};
+use explain_facts::put_words;
 use explain_syntax::put_line_and_caret;
-use std::alloc::Global;
+use pl_syntax::{CANNOT_STAND, NO_NUMBER, NO_TOKEN, SyntaxFault, TOO_DEEP};
 use source_map::TextPlaces;
+use std::alloc::Global;
 
 // What is wrong, by the kind of a syntax fault.
 fn syntax_words(kind: u8) -> &'static [u8]

@@ -9,9 +9,9 @@ ghost use Rattle.clock_source_map.specs.calls.Values.{AreOriginsOf};
 use armus_base::{List, NoMemory};
 use clock_source_map::{ClockBegun, ClockOrigins, ClockThing, clock_offsets};
 use clock_syntax::ClockProgram;
+use source_map::TextPlaces;
 use std::alloc::Global;
 use std::marker::Model;
-use source_map::TextPlaces;
 
 /// Where the statements of a clock text begin, and what comes from them.
 #[derive(Drop)]

@@ -3,11 +3,11 @@ ghost use Rattle.std.specs.Prelude.{◌≡◌, ◌++◌, ℕ, List, OnOk, decima
 ghost use Rattle.explain_clock.specs.ClockWords.{activity_words, async_words, front_of, made_clock_words, made_finish_words, offset_of, statement_place_words, standing_words, started_words, clock_statement_place};
 
 use crate::text_facts::ClockTextFacts;
-use explain_facts::put_words;
 use armus_base::NoMemory;
 use clock_source_map::ClockBegun;
-use std::alloc::Global;
+use explain_facts::put_words;
 use source_map::TextPlace;
+use std::alloc::Global;
 
 // Appends a number.
 pub(crate) fn put_number(alloc: Global, out: &mut Vec<u8>, number: usize) -> Result<(), NoMemory>

@@ -13,13 +13,13 @@ use crate::outcome::WaitVerdict;
 use crate::paragraphs::put_paragraphs;
 use crate::verdict_line::put_verdict;
 use crate::walk::verdict_of;
-use explain_facts::Account;
 use armus_base::{Final, List, NoMemory, TaskId};
+use explain_facts::Account;
+use explain_tasks::Facts;
 use pl_core::World;
 use report::{Outline, outline_of};
-use std::alloc::Global;
-use explain_tasks::Facts;
 use source_map::TextPlaces;
+use std::alloc::Global;
 
 /// The explanation of a run, and whether somebody waits for ever.
 #[derive(Drop)]

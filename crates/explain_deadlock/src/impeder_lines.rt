@@ -10,11 +10,11 @@ ghost use Rattle.explain_tasks.specs.Places.{said_of};
 ghost use Rattle.pl_core.specs.calls.Worlds.{state_of};
 ghost use Rattle.explain_tasks.specs.calls.SayingValues.{forking_said, said_by};
 
-use explain_facts::{Forked, put_number, put_words};
 use armus_base::{NoMemory, TaskId};
+use explain_facts::{Forked, put_number, put_words};
+use explain_tasks::{Facts, ForkingWords, Impeder, Saying, put_by_number, put_kept, put_list};
 use pl_core::World;
 use std::alloc::Global;
-use explain_tasks::{Facts, ForkingWords, Impeder, Saying, put_by_number, put_kept, put_list};
 
 /// How many groups of impeders have a line of their own.
 const MOST_GROUPS: usize = 3;

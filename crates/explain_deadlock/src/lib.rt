@@ -1,4 +1,6 @@
 //! An explanation of a run in the words of its text: which of its tasks wait for ever, where, for whom and why.
+//!
+//! It stands on `explain_tasks`, `adaptive` and `verdict`. Its rows are kernels of the gallery.
 #![tactic(auto)]
 
 mod explaining;

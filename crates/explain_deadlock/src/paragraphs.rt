@@ -12,13 +12,13 @@ ghost use Rattle.explain_tasks.specs.calls.SayingValues.{said_by};
 
 use crate::impeder_lines::{put_forking, put_impeders};
 use crate::numbers::numbers_of;
-use explain_facts::put_words;
 use armus_base::{NoMemory, TaskId};
-use pl_core::World;
+use explain_facts::put_words;
 use explain_tasks::{
     Facts, Grouping, Saying, is_unforked, is_waiting, passing_below, put_by_number, put_kept,
     put_list,
 };
+use pl_core::World;
 
 // Appends the lines that say this of these tasks.
 fn put_own_lines(

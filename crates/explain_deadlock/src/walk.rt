@@ -10,9 +10,9 @@ ghost use Rattle.pl_core.specs.calls.Worlds.{state_of};
 
 use crate::outcome::WaitVerdict;
 use armus_base::{List, NoMemory, TaskId};
+use explain_tasks::{Facts, first_or, is_deadlocked, is_waiting, least_below};
 use pl_core::World;
 use std::alloc::Global;
-use explain_tasks::{Facts, first_or, is_deadlocked, is_waiting, least_below};
 
 // Where a task stands in a list that has it.
 fn place(path: &[TaskId], t: TaskId) -> usize

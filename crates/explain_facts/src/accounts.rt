@@ -19,8 +19,8 @@ use crate::waiting::waiting_of;
 use armus_base::{List, NoMemory, TaskEnd, TaskId};
 use pl_core::World;
 use pl_syntax::Program;
-use std::alloc::Global;
 use source_map::{TextPlace, TextPlaces};
+use std::alloc::Global;
 
 // Where a task waits that has ended so, if it waits.
 fn wait_of(

@@ -10,10 +10,9 @@ ghost use Rattle.explain_facts.specs.calls.Known.{AreKnownFacts, kept_layout};
 
 use crate::account::{Drawn, Ended, Forked};
 use armus_base::{List, NoMemory, Plan, TaskId};
-use source_map::Origins;
 use pl_syntax::{Program, Stmt, body_ends, statement_offsets};
+use source_map::{Origins, TextPlace, TextPlaces};
 use std::alloc::Global;
-use source_map::{TextPlace, TextPlaces};
 
 /// What is known from a text alone: where its statements and the bodies of these stand, and from which of them tasks, phasers and ops come.
 #[derive(Drop)]

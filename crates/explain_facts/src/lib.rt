@@ -1,4 +1,6 @@
 //! What is known of the tasks of a text where its run has ended: where they were drawn, forked and ended, and where they wait.
+//!
+//! It stands on `source_map` and `pl_core`. Its rows are in `tests_text` (`accounts_of`).
 #![tactic(auto)]
 
 mod account;

@@ -12,8 +12,8 @@ ghost use Rattle.explain_facts.specs.calls.Known.{AreKnownFacts};
 ghost use Rattle.explain_steps.specs.inside.SoFar.{IsNoAwait};
 
 use crate::words::{put_phaser, put_task};
-use explain_facts::{TextFacts, put_number, put_words};
 use armus_base::{Event, NoMemory, Op, Phase, PhaserId, Plan, TaskId};
+use explain_facts::{TextFacts, put_number, put_words};
 use pl_core::{Stand, World};
 use std::alloc::Global;
 

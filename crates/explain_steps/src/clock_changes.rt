@@ -11,12 +11,12 @@ ghost use Rattle.explain_steps.specs.inside.SoFar.{IsNoAwait};
 ghost use Rattle.explain_clock.specs.ClockWords.{activity_words, made_clock_words};
 ghost use Rattle.explain_steps.specs.ClockStepWords.{awaited_event_words, clock_change_words, clock_wait_words, left_finish_words, left_words, making_words, registered_words, said_of_thing, signalled_words};
 
+use crate::changes::{put_phase_change, put_with_phase, ready_op};
 use crate::facts::ClockOpFacts;
-use explain_facts::{put_number, put_words};
 use armus_base::{Event, NoMemory, Op, Phase, TaskId};
 use clock_source_map::ClockThing;
+use explain_facts::{put_number, put_words};
 use pl_core::{Stand, World};
-use crate::{put_phase_change, put_with_phase, ready_op};
 
 // The words with which an activity leaves a finish, by an op of this origin.
 fn left_finish_words(origin: Option<u32>) -> &'static [u8]

@@ -10,10 +10,10 @@ ghost use Rattle.explain_steps.specs.calls.Known.{clock_part_of, kept_parts, kno
 use crate::statements::{statement_at, statements_of};
 use armus_base::{List, NoMemory, Plan, TaskId};
 use clock_source_map::op_origins;
-use explain_clock::{ClockLayout, ClockTextFacts};
 use clock_syntax::{ClockProgram, ClockStmt};
-use std::alloc::Global;
+use explain_clock::{ClockLayout, ClockTextFacts};
 use source_map::TextPlaces;
+use std::alloc::Global;
 
 // What is known of a clock text: its activities, clocks and finishes; its statements, in the order of their numbers; and for each activity from which statement
 // each op of its code comes.

@@ -11,15 +11,17 @@ ghost use Rattle.explain_steps.specs.OpFacts.{written_parts};
 ghost use Rattle.explain_steps.specs.calls.Known.{known_ops};
 ghost use Rattle.explain_steps.specs.calls.SteppedClocks.{IsSteppedClockRun};
 
+use crate::changes::op_at;
 use crate::facts::ClockOpFacts;
-use explain_facts::{put_number, put_words};
+use crate::stepping::{SteppedRun, step_to_end};
+use crate::telling::TellsSteps;
 use armus_base::{NoMemory, Plan, TaskId};
-use explain_clock::ClockLayout;
 use clock_syntax::ClockProgram;
+use explain_clock::ClockLayout;
+use explain_facts::{put_number, put_words};
 use pl_core::World;
-use std::alloc::Global;
-use crate::{SteppedRun, TellsSteps, op_at, step_to_end};
 use source_map::TextPlaces;
+use std::alloc::Global;
 
 impl<'a> TellsSteps for ClockOpFacts<'a> {
     ghost known = { λ f. Unit {0} };

@@ -15,9 +15,7 @@ mod stepping;
 mod telling;
 mod words;
 
-pub use changes::{op_at, put_phase_change, put_with_phase, ready_op};
 pub use clock_stepping::clock_steps_through;
 pub use laws::{one_clock_showing, one_serial_run, one_showing, serial_run_replays};
-pub use stepping::{MOST_SHOWN, SteppedRun, step_through, step_to_end};
-pub use telling::TellsSteps;
+pub use stepping::{SteppedRun, step_through};
 pub use words::{put_statement, put_task};

@@ -10,12 +10,12 @@ ghost use Rattle.explain_steps.specs.calls.SteppedRuns.{HasNextLine, IsRunBy, Is
 ghost use Rattle.explain_steps.specs.inside.SoFar.{IsSoFar};
 
 use crate::telling::TellsSteps;
-use explain_facts::{TextFacts, put_number, put_words};
 use armus_base::{Final, List, NoMemory, Plan, TaskId};
+use explain_facts::{TextFacts, put_number, put_words};
 use pl_core::World;
 use pl_syntax::Program;
-use std::alloc::Global;
 use source_map::TextPlaces;
+use std::alloc::Global;
 
 /// How many steps are shown at most.
 pub const MOST_SHOWN: u32 = 10_000;

@@ -5,8 +5,8 @@ ghost use Rattle.explain_steps.specs.calls.SteppedRuns.{HasNextLine};
 
 use crate::changes::put_change;
 use crate::words::{put_task, put_whence};
-use explain_facts::{TextFacts, put_number, put_words};
 use armus_base::{NoMemory, TaskId};
+use explain_facts::{TextFacts, put_number, put_words};
 use pl_core::World;
 
 /// What is known of a text, by which each step of its run has a line.

@@ -1,4 +1,6 @@
 //! The lines of a text with a syntax fault: where it is, what is wrong there, the line with a caret, and what may help.
+//!
+//! It stands on `pl_syntax` and `source_map`. Its rows are in `tests_text` (`refused_syntax`), and texts of the gallery.
 #![tactic(auto)]
 
 mod caret;

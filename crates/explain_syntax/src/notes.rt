@@ -8,8 +8,8 @@ ghost use Rattle.explain_syntax.specs.SyntaxRefusals.{brace_note, hint_line};
 use crate::hint::hint_of;
 use crate::stand::GrammarStand;
 use armus_base::NoMemory;
-use std::alloc::Global;
 use source_map::{TextPlace, TextPlaces};
+use std::alloc::Global;
 
 // The note on a brace.
 fn put_brace(

@@ -11,8 +11,8 @@ use crate::walk::stand_at;
 use crate::wanted::WantedTokens;
 use armus_base::{List, NoMemory};
 use pl_syntax::SyntaxFault;
-use std::alloc::Global;
 use source_map::{TextPlace, TextPlaces};
+use std::alloc::Global;
 
 // What is left of a text from a place on.
 fn rest_from(text: &[u8], at: usize) -> &[u8]

@@ -3,12 +3,12 @@ ghost use Rattle.std.specs.Prelude.{◌≡◌, length, option_copied, slice_get,
 ghost use Rattle.report.specs.declared.standing.Standing.TheVariants.{Done};
 
 use crate::situation::{Situation, situation_by};
-use explain_facts::{Account, Drawn, Ended, Forked, TaskAccount, Waiting};
 use armus_base::TaskId;
+use explain_facts::{Account, Drawn, Ended, Forked, TaskAccount, Waiting};
 use report::Standing;
+use source_map::TextPlaces;
 use std::alloc::Global;
 use std::marker::Model;
-use source_map::TextPlaces;
 
 /// What is known where a run has ended: the text, the name of its file, its account, and how each task stands.
 #[derive(Drop)]

@@ -8,8 +8,8 @@ ghost use Rattle.pl_core.specs.calls.Worlds.{state_of};
 use crate::facts::Facts;
 use crate::impeders::Impeder;
 use crate::situation::Situation;
-use explain_facts::Forked;
 use armus_base::{NoMemory, TaskId};
+use explain_facts::Forked;
 use pl_core::World;
 
 /// Whether a task that stands so is deadlocked.

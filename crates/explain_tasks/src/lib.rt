@@ -1,4 +1,6 @@
 //! What is said of the tasks of a text where its run has ended: how each stands, who impedes it, who is its next, and in which words.
+//!
+//! It stands on `explain_facts` and `report`. Its rows are kernels of the gallery.
 #![tactic(auto)]
 
 mod facts;

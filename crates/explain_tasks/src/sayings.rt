@@ -7,8 +7,8 @@ use crate::facts::Facts;
 use crate::impeders::Impeder;
 use crate::saying::{ForkingWords, Saying};
 use crate::situation::Situation;
-use explain_facts::{Ended, Forked, Turn, Waiting, put_number, put_words};
 use armus_base::{NoMemory, PhaserId, TaskId};
+use explain_facts::{Ended, Forked, Turn, Waiting, put_number, put_words};
 use std::alloc::Global;
 
 // Appends the own phase of a task that waits, where it is not that of the event.

@@ -3,8 +3,8 @@ ghost use Rattle.std.specs.Prelude.{◌≡◌, ◌==◌, ◌+◌, ◌++◌, IfOk
 ghost use Rattle.explain_tasks.specs.TaskLists.{item_words, items_of, joined_items, list_words, runs_of, separator};
 
 use crate::words::put_task;
-use explain_facts::put_words;
 use armus_base::{NoMemory, TaskId};
+use explain_facts::put_words;
 use std::alloc::Global;
 
 /// Consecutive numbers of tasks, from the first to the last.

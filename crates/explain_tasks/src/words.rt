@@ -3,10 +3,10 @@ ghost use Rattle.std.specs.Prelude.{◌≡◌, ◌++◌, OnOk, codes, decimal};
 ghost use Rattle.explain_tasks.specs.TaskLists.{by_number};
 
 use crate::facts::Facts;
-use explain_facts::put_words;
 use armus_base::{NoMemory, TaskId};
-use std::alloc::Global;
+use explain_facts::put_words;
 use source_map::TextPlace;
+use std::alloc::Global;
 
 /// Appends words that are kept.
 pub fn put_kept(out: &mut Vec<u8>, words: &Vec<u8>) -> Result<(), NoMemory>

@@ -1,4 +1,6 @@
 //! A recorded run: a world beside the journal of its steps, which threads share under a lock.
+//!
+//! It stands on `pl_core`. Its rows are in `tests_runs`.
 #![tactic(auto)]
 
 mod laws;

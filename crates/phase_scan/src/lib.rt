@@ -1,4 +1,6 @@
 //! The ascending scan by which a task passes exactly when its event is reached, and the collect of what all tasks await.
+//!
+//! It stands on `board`. Its rows are in `tests_board`.
 #![tactic(auto)]
 
 mod answer;

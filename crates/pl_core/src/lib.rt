@@ -1,4 +1,6 @@
 //! The plain machine: a plan, how far each task has come in it, and the state that these places fix.
+//!
+//! It stands on `armus_base`. Its rows are in `tests_board` (`world_play`) and `tests_runs`.
 #![tactic(auto)]
 
 mod behind;

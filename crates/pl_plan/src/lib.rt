@@ -1,4 +1,6 @@
 //! The plan of a program: what its statements come to, task by task, or the first check fault.
+//!
+//! It stands on `pl_syntax`. Its rows are in `tests_text` (`plans`, `pieces`).
 #![tactic(auto)]
 
 pub mod checker;

@@ -2,6 +2,8 @@
 //!
 //! The six public modules are what another language is read with: how a text is read, its tokens, the next token, readers of a few tokens, what a language
 //! says of its statements, and the reader of statements with their bodies.
+//!
+//! It stands on `armus_base`. Its rows are in `tests_text` (`syntax`, `printed`, `statements`).
 #![tactic(auto)]
 
 mod ends;

@@ -1,4 +1,6 @@
 //! The texts of results: the report of a final state, the lines of live verdicts, and the line of a refusal.
+//!
+//! It stands on `adaptive`, `verdict` and the faults of the language. Its rows are in `tests_text` (`reported`).
 #![tactic(auto)]
 
 mod counts;

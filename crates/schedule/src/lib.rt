@@ -1,4 +1,6 @@
 //! Schedules: an interleaving of steps and loads, written line by line, and its replay.
+//!
+//! It stands on `locked_world` and `adaptive`. Its rows are in `tests_runs`.
 #![tactic(auto)]
 
 mod laws;

@@ -1,4 +1,6 @@
 //! Sites: what each site stores of its tasks, and a check over what all sites have stored, at whatever moments.
+//!
+//! It stands on `phase_scan` and `adaptive`. Its rows are in `tests_runs`.
 #![tactic(auto)]
 
 mod checking;

@@ -1,4 +1,6 @@
 //! Records that free workers claim from slots, give back, and place.
+//!
+//! It stands on `armus_base` and `atomic_table`. Its rows are in `tests_runs`.
 #![tactic(auto)]
 
 mod claim;

@@ -1,4 +1,6 @@
 //! Runs of a plan: the tasks take turns by rounds until none of them can go on.
+//!
+//! It stands on all that runs tasks. Its rows are in `tests_runs`.
 #![tactic(auto)]
 
 mod avoided;

@@ -13,8 +13,8 @@ use armus_base::{NoMemory, Offset, Phase, PhaserId, Plan, TaskId};
 use avoider::{Decision, Judge, try_take};
 use board::{Board, Loads, TaskSeat};
 use phase_scan::{Cells, Look};
-use tests_rows::{event, first_word, number};
 use std::alloc::Global;
+use tests_rows::{event, first_word, number};
 
 // The decision on the await of a task, which takes the lock for it; none where another task has the lock.
 fn decision_on(

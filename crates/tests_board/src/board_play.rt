@@ -10,9 +10,9 @@ use avoider::{Judge, Judging};
 use board::{Board, Mode};
 use collector::Collector;
 use phase_scan::Cells;
-use tests_rows::{columns, first_word, number};
 use std::alloc::Global;
 use std::marker::Model;
+use tests_rows::{columns, first_word, number};
 
 /// A board in play. Contracts see the board.
 #[derive(Drop)]

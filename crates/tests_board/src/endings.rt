@@ -10,9 +10,9 @@ use crate::walker::Walker;
 use armus_base::{NoMemory, PhaserId, TaskId};
 use avoider::{release, try_take};
 use board::{Board, Loads, Mode, TaskSeat, Words};
-use tests_rows::{columns, first_word, number};
 use std::alloc::Global;
 use std::thread::{Threads, join_mut};
+use tests_rows::{columns, first_word, number};
 
 // Whether a word of the closed board, which has so many tasks and phasers, is this.
 fn word_is(words: &Words, counts: (u32, u32), part: &str) -> bool

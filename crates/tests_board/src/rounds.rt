@@ -3,9 +3,9 @@ use adaptive::Wanted;
 use armus_base::{NoMemory, Plan, Still};
 use board::{Board, Mode};
 use board_runs::{Task, round};
-use tests_rows::{first_word, number};
 use std::alloc::Global;
 use std::thread::Threads;
+use tests_rows::{first_word, number};
 
 // How many children are forked.
 fn forked(alloc: Global, tasks: &mut Vec<Task<'_>>) -> usize {

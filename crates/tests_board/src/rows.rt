@@ -10,10 +10,10 @@ use crate::world_play::WorldPlay;
 use armus_base::{NoMemory, Plan};
 use board::Mode;
 use pl_syntax::MAX_PARSED_BYTES;
-use tests_rows::{first_word, number};
 use std::alloc::Global;
 use std::test::Fail;
 use std::thread::Threads;
+use tests_rows::{first_word, number};
 
 const ROWS: &str = "\
 | 1 0 | detect | board counts 1 0, 0 is 0, 0 scanned 0, 0 idle, 0 shows 0 idle, view shows 0 idle, view splits, view shows 0 idle | words shows 0 idle\n\

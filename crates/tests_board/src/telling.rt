@@ -3,8 +3,8 @@ use crate::texts::add_dead;
 use armus_base::NoMemory;
 use avoider::Decision;
 use collector::Verdict;
-use tests_rows::{add_event, add_tasks};
 use std::alloc::{AllocError, Global};
+use tests_rows::{add_event, add_tasks};
 use verdict::Cycle;
 
 fn add_refused(text: &mut String, cycle: &Cycle) -> Result<(), AllocError> {

@@ -2,8 +2,8 @@
 use armus_base::{Dead, NoMemory, Phase, Status, TaskId};
 use board::Seen;
 use phase_scan::Look;
-use tests_rows::{add_event, add_tasks, columns, cut, event, first_word, number};
 use std::alloc::{AllocError, Global};
+use tests_rows::{add_event, add_tasks, columns, cut, event, first_word, number};
 
 // The text up to the next bar, and the rest.
 pub(crate) fn column(row: &str) -> (&str, &str) {

@@ -8,9 +8,9 @@ use armus_base::{NoMemory, Plan, TaskEnd, TaskId};
 use avoider::{Judge, Judging, avoid_step, avoid_step_kept, go_on};
 use order_graph::Order;
 use pl_core::{Stand, World};
-use tests_rows::{add_event, columns, event, number};
 use std::alloc::{AllocError, Global};
 use std::marker::Model;
+use tests_rows::{add_event, columns, event, number};
 
 /// A world in which nobody is dead, and an order of its tasks. Contracts see the world.
 #[derive(Drop)]

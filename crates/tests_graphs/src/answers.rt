@@ -3,9 +3,9 @@ use adaptive::{Analysis, Used, Wanted, analyse, dead_by, dead_of};
 use armus_base::{List, NoMemory, Status, TaskId};
 use dep_state::{DepState, is_in_order, picked};
 use resource_graph::ResourceGraph;
-use tests_rows::{add_event, add_tasks, task_and_event};
 use state_graph::{SgEnd, StateGraph};
 use std::alloc::Global;
+use tests_rows::{add_event, add_tasks, task_and_event};
 use verdict::{Cycle, check_cycle};
 use wait_graph::WaitGraph;
 

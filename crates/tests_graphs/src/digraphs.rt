@@ -4,9 +4,9 @@ ghost use Rattle.std.specs.Prelude.{◌<◌, length, IfOk, IsTrue};
 
 use armus_base::NoMemory;
 use digraph::{Digraph, least_marked, walk_cycle};
-use tests_rows::{add_numbers, columns, cut, number};
 use std::alloc::Global;
 use std::test::Fail;
+use tests_rows::{add_numbers, columns, cut, number};
 
 const ROWS: &str = "\
 3 | 0 1, 1 2, 2 1, 0 1 | new new new old 3 yes yes yes 1 2\n\

@@ -5,9 +5,9 @@ ghost use Rattle.order_graph.specs.calls.Orders.{IsTaskOf};
 use armus_base::{NoMemory, TaskId};
 use dep_state::{DepState, is_in_order};
 use order_graph::{Added, Followed, Order};
-use tests_rows::{add_numbers, columns, cut, first_word, number, statuses};
 use std::alloc::{AllocError, Global};
 use std::test::Fail;
+use tests_rows::{add_numbers, columns, cut, first_word, number, statuses};
 
 // Edges that are added one after another to an order of so many tasks, with the cycle that each would close, and the tasks by position after all.
 const EDGES: &str = "\

@@ -1,9 +1,9 @@
 // Rows: a kind, statuses, what else is asked, and the answer.
 use crate::answers::{choices, cycle, dead, graphs, picks, relations};
 use armus_base::NoMemory;
-use tests_rows::{columns, cut, statuses};
 use std::alloc::Global;
 use std::test::Fail;
+use tests_rows::{columns, cut, statuses};
 
 const ROWS: &str = "\
 relations | 0 2@1 2@1, 1 0@1 0@1 1@0 2@0, 2 1@1 0@0 1@1 | | 2@1 1 ; 0@1 2 ; 1@1 1 ; ; 0@1 2 ; 1@1 1 ; 2@1 1 ;\n\

@@ -3,9 +3,9 @@
 use crate::texts::call;
 use armus_base::{List, MemSink, MemSource, NoMemory};
 use explain::explain;
-use tests_rows::{bytes_of, columns, cut, number, words_of};
 use std::alloc::Global;
 use std::test::Fail;
+use tests_rows::{bytes_of, columns, cut, number, words_of};
 
 // First the empty text; two tasks that wait for each other; one that waits for a task that has ended; a text in which nobody waits; one with a syntax fault,
 // of a file whose name is `run`; and one with a check fault. Then steps: of the two tasks that wait for each other, of a text of PL 2, of the empty text,

@@ -2,11 +2,11 @@
 use crate::holding::Holding;
 use crate::texts::{AMPLE, ended};
 use armus_base::{NoMemory, Point, TaskId};
-use tests_rows::{bytes_of, columns, cut, number};
 use std::alloc::Global;
 use std::sync::Wait;
 use std::test::Fail;
 use std::thread::Threads;
+use tests_rows::{bytes_of, columns, cut, number};
 
 // A row: the words of its calls; the points at which it holds, each until another one is reached; the text; the outputs that may come; the status. A point is
 // an op of a task, as 1.0, or the moment at which the detector has named so many tasks.

@@ -2,12 +2,12 @@
 // with how often it stands there.
 use crate::texts::{AMPLE, ended};
 use armus_base::{NoMemory, Still};
-use tests_rows::{bytes_of, columns, cut, number};
 use std::alloc::Global;
 use std::process::Abort;
 use std::sync::Wait;
 use std::test::Fail;
 use std::thread::Threads;
+use tests_rows::{bytes_of, columns, cut, number};
 
 const ROWS: &str = "\
 run$$tasks 1 done 1 dead 0 held 0 refused 0 unforked 0~graph sg 0~$0\n\

@@ -1,10 +1,10 @@
 // Calls of the program.
 use armus_base::{Gate, List, MemSink, MemSource, NoMemory};
 use armus_top::armus;
-use tests_rows::words_of;
 use std::alloc::Global;
 use std::sync::Wait;
 use std::thread::Threads;
+use tests_rows::words_of;
 
 pub(crate) const CROSSED: &str =
     "a = newPhaser();\nb = newPhaser();\nt = newTid();\nreg(t, a);\nreg(t, b);\nfork(t) { adv(b); await(b); }\nadv(a);\nawait(a);\n";

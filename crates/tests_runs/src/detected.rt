@@ -8,11 +8,11 @@ use crate::texts::{add_event, add_phase};
 use armus_base::{Gate, List, MemSink, NoMemory, PhaserId, Plan, Still, TaskId};
 use board::{Seen, Words};
 use pl_core::Place;
-use tests_rows::columns;
 use std::alloc::{AllocError, Global};
 use std::test::Fail;
 use std::thread::Threads;
 use task_runner::{Ran, run_detect};
+use tests_rows::columns;
 
 // A plan, how many events each task has made, and for each task what its word says, and its phases. A run that leaves an await to the world has made fewer.
 const ROWS: &str = "\

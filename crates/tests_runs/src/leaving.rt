@@ -5,11 +5,11 @@ use crate::meeting::{MAX_LOOKS, Meeting};
 use crate::plans::named_plan;
 use crate::runs::run;
 use armus_base::{NoMemory, Point, TaskId};
-use tests_rows::{columns, first_word, number};
 use std::alloc::Global;
 use std::sync::Wait;
 use std::test::Fail;
 use std::thread::Threads;
+use tests_rows::{columns, first_word, number};
 
 // A kind of run and a plan, two tasks, and whether they meet at the gate before their only op, with two workers. Task 0 forks them one after the other, when
 // all that were forked before have come to an await. On a board two workers let them act side by side: in the next round, or in a pool at once. A run that has

@@ -2,9 +2,9 @@
 use armus_base::{NoMemory, PhaserId, Plan, TaskId};
 use pl_plan::plan;
 use pl_syntax::parse;
-use tests_rows::cut;
 use std::alloc::{AllocError, Global};
 use std::test::Fail;
+use tests_rows::cut;
 
 // A plan, who forks each of its tasks, and who makes each of its phasers.
 const ROWS: &str = "\

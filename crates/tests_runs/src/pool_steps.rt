@@ -4,9 +4,9 @@ ghost use Rattle.std.specs.Option.{option_to_list};
 ghost use Rattle.slot_pool.specs.calls.PoolValues.{IsOfPool, IsSameWorker};
 
 use armus_base::{List, TaskId};
-use tests_rows::{columns, cut, first_word, number};
 use slot_pool::{Claim, Named, Pool, Worker};
 use std::alloc::Global;
+use tests_rows::{columns, cut, first_word, number};
 
 // How many tasks, the steps, each with what it finds, and how many records are home at the end, unless a worker has one.
 const ROWS: &str = "\

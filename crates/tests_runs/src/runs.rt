@@ -7,12 +7,12 @@ use crate::plans::named_plan;
 use crate::texts::add_event;
 use adaptive::Wanted;
 use armus_base::{Final, Gate, List, NoMemory, Plan, Still, TaskEnd, TaskId};
-use tests_rows::{columns, first_word, number};
 use std::alloc::{AllocError, Global};
 use std::sync::Wait;
 use std::test::Fail;
 use std::thread::Threads;
 use task_runner::{RunOptions, run_avoid, run_avoid_kept, run_journal, run_pool};
+use tests_rows::{columns, first_word, number};
 
 // A kind of run and a plan, the gate and how many workers there are, and how each task has ended, how many are blocked, and the journal.
 const ROWS: &str = "\

@@ -1,10 +1,10 @@
 // Schedules, and the text of each one's replay or the line of its fault. In a row ~ stands for LF, and & for CR.
 use crate::plans::named_plan;
 use armus_base::{NoMemory, Plan};
-use tests_rows::{are_bytes_of, bytes_of, columns};
 use schedule::{Line, ReplayEnd, ScheduleFault, read_lines, replay, replay_text, split_input};
 use std::alloc::Global;
 use std::test::Fail;
+use tests_rows::{are_bytes_of, bytes_of, columns};
 
 // A plan, what the replay says, and the schedule.
 const ROWS: &str = "\

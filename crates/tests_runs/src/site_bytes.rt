@@ -4,10 +4,10 @@ ghost use Rattle.armus_base.specs.calls.Statuses.{IsInOrder};
 
 use crate::texts::add_statuses;
 use armus_base::{MAX_SITES, NoMemory};
-use tests_rows::{columns, cut, first_word, number, numbers};
 use sites::{DecodeEnd, Snapshot, decode, encode};
 use std::alloc::Global;
 use std::test::Fail;
+use tests_rows::{columns, cut, first_word, number, numbers};
 
 // A kind, a site and how many there are, bytes, and the answer. `row`: the statuses of which the bytes are the row, or that they are bad; `cut`: a mark for
 // each proper prefix of the bytes; `turned`: a mark for each byte, of the bytes with this one changed. A mark is b where those are bad.

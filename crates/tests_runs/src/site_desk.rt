@@ -4,9 +4,9 @@ ghost use Rattle.armus_base.specs.calls.Limits.{max_sites};
 
 use adaptive::{Analysis, Used, Wanted};
 use armus_base::NoMemory;
-use tests_rows::{add_numbers, first_word, number, numbers};
 use sites::{KeepEnd, Keeper, check_sites};
 use std::alloc::Global;
+use tests_rows::{add_numbers, first_word, number, numbers};
 
 /// A keeper of so many sites, and what it has told.
 #[derive(Drop)]

@@ -3,10 +3,10 @@ ghost use Rattle.std.specs.Prelude.{◌≤◌};
 
 use crate::site_desk::Desk;
 use armus_base::{List, MAX_SITES, NoMemory};
-use tests_rows::{columns, first_word, number, numbers};
 use sites::{Keeper, MemKeeper, SafeKeeper};
 use std::alloc::Global;
 use std::test::Fail;
+use tests_rows::{columns, first_word, number, numbers};
 
 // A keeper, how many sites it has and which calls fail, the calls, and what each answers.
 const ROWS: &str = "\

@@ -8,12 +8,12 @@ use crate::site_desk::Desk;
 use adaptive::Wanted;
 use armus_base::{List, NoMemory, Plan, TaskId};
 use board::{Board, ViewSeat};
-use tests_board::walker::{Walker, begin};
-use tests_board::walks::{forks, steps};
-use tests_rows::{cut, numbers};
 use sites::{Keeper, MemKeeper, SafeKeeper, encode, site_pass, snap};
 use std::alloc::Global;
 use std::test::Fail;
+use tests_board::walker::{Walker, begin};
+use tests_board::walks::{forks, steps};
+use tests_rows::{cut, numbers};
 
 // Which calls of the keeper fail, and what its calls tell: site 0 puts when its task waits and the other one does not yet, and then both rows are checked;
 // site 1 puts once the other one waits too, and then the row of site 0 is got and both are checked.

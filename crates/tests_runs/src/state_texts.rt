@@ -3,9 +3,9 @@ ghost use Rattle.std.specs.Prelude.{◌<◌, length};
 
 use crate::texts::{add_event, add_phase, add_statuses, add_task};
 use armus_base::{Event, Final, NoMemory, PhaserId, TaskEnd, TaskId};
-use tests_board::finals::final_state;
 use pl_core::{Stand, World};
 use std::alloc::{AllocError, Global};
+use tests_board::finals::final_state;
 
 // An event, and whether it is reached.
 fn add_reached(text: &mut String, world: &World, event: Event) -> Result<(), AllocError> {

@@ -7,9 +7,9 @@ use crate::plans::named_plan;
 use crate::state_texts::add_world;
 use armus_base::{NoMemory, Plan, TaskId};
 use pl_core::{Place, Stand, World};
-use tests_rows::columns;
 use std::alloc::Global;
 use std::test::Fail;
+use tests_rows::columns;
 
 // A plan, its turns, and each task of the state after them, its statuses and, where no task may go on, how they have ended. A digit is a turn of its task,
 // and r refuses the await of task 1.

@@ -5,17 +5,17 @@ ghost use Rattle.pl_plan.specs.Unfolding.{plan_of};
 ghost use Rattle.pl_syntax.specs.Grammar.{IsText};
 ghost use Rattle.pl_syntax.specs.Tree.{count};
 
+use armus_base::{NoMemory, Plan};
 use explain_facts::{
     Account, TaskAccount, Waiting, account_exists, account_of, forkers_fork, one_account,
     statements_have_places, tasks_are_of_text,
 };
-use armus_base::{NoMemory, Plan};
 use pl_plan::{Unfolded, unfold};
 use pl_syntax::{Program, parse};
-use tests_rows::{are_bytes_of, bytes_of, cut};
+use source_map::{TextPlace, TextPlaces, line_names_one_place};
 use std::alloc::Global;
 use std::test::Fail;
-use source_map::{TextPlace, TextPlaces, line_names_one_place};
+use tests_rows::{are_bytes_of, bytes_of, cut};
 use world_runs::run_to_world;
 
 // Of each phaser where it is made, and of each task where and by which name it is drawn, where and by whom it is forked, where its code ends, with the

@@ -3,9 +3,9 @@ use crate::pieces::has_pieces;
 use armus_base::{NoMemory, Plan};
 use clock_pl::{ClockEnd, ClockFault, clock_line, clock_plan};
 use clock_syntax::{MAX_CLOCK_BYTES, clock_parse};
-use tests_rows::{are_bytes_of, columns, cut, number};
 use std::alloc::Global;
 use std::test::Fail;
+use tests_rows::{are_bytes_of, columns, cut, number};
 
 // The end of a finish is no visit. An activity has the names as they are at its async. A body that is never unfolded is not checked. Another clock may have
 // the name, and the first one stays pending. A finish is left by the activity that began it, and inherited ones are not.

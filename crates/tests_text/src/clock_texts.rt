@@ -2,9 +2,9 @@
 use armus_base::NoMemory;
 use clock_syntax::{ClockBody, ClockName, ClockProgram, ClockStmt, MAX_CLOCK_BYTES, clock_parse};
 use pl_syntax::ParseEnd;
-use tests_rows::{are_bytes_of, bytes_of, cut, number};
 use std::alloc::{AllocError, Global};
 use std::test::Fail;
+use tests_rows::{are_bytes_of, bytes_of, cut, number};
 
 // The last rows are at limits. 64 braces may be open; a token that cannot stand there is so before a brace is one too many. A name has 32 bytes at most.
 const FAULTS: &str = "\

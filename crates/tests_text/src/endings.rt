@@ -1,8 +1,8 @@
 // Final states as text: how each task has ended, as `1@1 !0@1 done unforked`, and the statuses of those that wait, as `0 1@1 0@0 1@1`, which commas part. 1@1
 // is phase 1 of phaser 1, ! stands before an event that was refused, and a status is a task, its event and its phases.
 use armus_base::{Final, List, NoMemory, TaskEnd};
-use tests_rows::{event, statuses};
 use std::alloc::Global;
+use tests_rows::{event, statuses};
 
 fn task_end(word: &str) -> TaskEnd {
     match word {

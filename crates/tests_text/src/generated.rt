@@ -2,9 +2,9 @@
 use crate::plans::answer;
 use armus_base::NoMemory;
 use pl_generator::{gen_is_accepted, gen_text};
-use tests_rows::{bytes_of, columns, number};
 use std::alloc::Global;
 use std::test::Fail;
+use tests_rows::{bytes_of, columns, number};
 
 // Task 0 has two ops for the phasers, three for each worker, and two or three behind its loop; a worker has 18.
 const ROWS: &str = "\

@@ -6,13 +6,13 @@ ghost use Rattle.pl_syntax.specs.Tree.{count};
 use crate::plans::AVERAGING;
 use crate::program_texts::program_of;
 use armus_base::{PhaserId, TaskId};
-use source_map::{Origins, ops_have_origins, phasers_and_tasks_have_origins, visits_are_of_text};
 use pl_plan::{Unfolded, unfold};
 use pl_syntax::Program;
-use tests_rows::{columns, cut, number};
+use source_map::{Origins, ops_have_origins, phasers_and_tasks_have_origins, visits_are_of_text};
 use std::alloc::Global;
 use std::process::Abort;
 use std::test::Fail;
+use tests_rows::{columns, cut, number};
 
 // Statements 1 to 18: the phasers, a loop with a fork, in whose body a loop stands, and two more.
 const OF_AVERAGING: &str = "\

@@ -3,9 +3,9 @@
 use crate::program_texts::program_of;
 use armus_base::{Offset, Op, PhaserId, Piece, Plan, TaskId};
 use pl_plan::{PlanEnd, plan};
-use tests_rows::{columns, cut, number};
 use std::alloc::Global;
 use std::test::Fail;
+use tests_rows::{columns, cut, number};
 
 const ROWS: &str = "\
 p = newPhaser(); loop 1 { adv(p); }$2$0$make:0 repeat:1x1 adv:0\n\

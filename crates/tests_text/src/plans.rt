@@ -5,9 +5,9 @@ use pl_plan::{
     CheckFault, PlanEnd, fault_is_of_program, left_pieces, pieces_of_codes, plan, unfold,
     unfolded_is_checked, unfolding_by_visits, worked_pieces, worked_programs,
 };
-use tests_rows::{cut, number};
 use std::alloc::Global;
 use std::test::Fail;
+use tests_rows::{cut, number};
 
 // A child has the names as they are at its fork, and a later assignment in its parent does not change them. A task may not fork the child of another, even one
 // that is forked already. The first fault is the one of the first task, wherever it stands. A number is taken at `newTid`, so an assignment in a turn is a task

@@ -6,9 +6,9 @@ ghost use Rattle.pl_syntax.specs.Tree.{height};
 use pl_syntax::{
     MAX_OPEN_BRACES, MAX_PARSED_BYTES, ParseEnd, Program, parse, print, print_and_parse,
 };
-use tests_rows::{bytes_of, cut};
 use std::alloc::Global;
 use std::test::Fail;
+use tests_rows::{bytes_of, cut};
 
 const ROWS: &str = "\
 $\n\

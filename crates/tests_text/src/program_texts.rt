@@ -4,8 +4,8 @@ ghost use Rattle.pl_syntax.specs.Tree.{count, height};
 
 use pl_plan::PlanEnd;
 use pl_syntax::{MAX_OPEN_BRACES, MAX_PARSED_BYTES, Program, parse};
-use tests_rows::bytes_of;
 use std::alloc::Global;
+use tests_rows::bytes_of;
 
 // The program of a text; none, as if memory had run out, where it is no program.
 pub(crate) fn program_of(alloc: Global, text: &str) -> Result<Program, PlanEnd>

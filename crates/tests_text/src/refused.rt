@@ -4,13 +4,12 @@ ghost use Rattle.pl_syntax.specs.Grammar.{IsText};
 ghost use Rattle.pl_syntax.specs.Tree.{count};
 
 use armus_base::NoMemory;
-use explain_check::{Statements, check_refusal};
-use explain_check::scene_of;
-use pl_syntax::{MAX_PARSED_BYTES, ParseEnd, Program, parse, statement_offsets};
+use explain_check::{Statements, check_refusal, scene_of};
 use explain_syntax::syntax_refusal;
-use tests_rows::{are_bytes_of, bytes_of, columns};
-use std::alloc::Global;
+use pl_syntax::{MAX_PARSED_BYTES, ParseEnd, Program, parse, statement_offsets};
 use source_map::TextPlaces;
+use std::alloc::Global;
+use tests_rows::{are_bytes_of, bytes_of, columns};
 
 // Whether the text of a file, or of none, that has this program is refused with these lines.
 fn has_lines(

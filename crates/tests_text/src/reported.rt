@@ -9,9 +9,9 @@ use report::{
     Outline, Refusal, ScheduleFault, Standing, any_dead, live_lines, outline_of, refusal_line,
     report,
 };
-use tests_rows::{are_bytes_of, columns, cut, event, number, task_and_event};
 use std::alloc::{AllocError, Global};
 use std::test::Fail;
+use tests_rows::{are_bytes_of, columns, cut, event, number, task_and_event};
 
 // The first rows are three workers that wait on p0@1 for their parent, which waits on p1@1 for them. In the rows of three and of four tasks behind one that is
 // done, each waits on the event of a phaser of its own, and all others impede it: with three the state graph stays, with four it is left. Then t0 waits behind

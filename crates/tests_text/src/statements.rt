@@ -1,8 +1,8 @@
 // Statements: how many a worked kernel has, in all and at its own level; where those of a text begin; and the name in one.
 use pl_syntax::{MAX_PARSED_BYTES, ParseEnd, Program, Stmt, parse, statement_offsets};
-use tests_rows::{bytes_of, cut, number, numbers};
 use std::alloc::Global;
 use std::test::Fail;
+use tests_rows::{bytes_of, cut, number, numbers};
 
 const KERNELS: &str = "\
 pc = newPhaser();~pb = newPhaser();~loop 3 {~  t = newTid();~  reg(t, pc);~  reg(t, pb);~  fork(t) {~    loop 2 {~      skip; // read the neighbours~      adv(pc);~      await(pc);~      skip; // write the mean~      adv(pc);~      await(pc);~    }~    dereg(pc);~    dereg(pb);~  }~}~adv(pb);~await(pb);~$18 5\n\

@@ -1,9 +1,9 @@
 // First faults: a line for each text, with the kind of its fault and the place, or that it has none.
 use armus_base::NoMemory;
 use pl_syntax::{MAX_PARSED_BYTES, ParseEnd, parse};
-use tests_rows::{bytes_of, cut, number};
 use std::alloc::Global;
 use std::test::Fail;
+use tests_rows::{bytes_of, cut, number};
 
 // 64 braces may be open; a token that cannot stand there is so before a brace is one too many. A name has 32 bytes at most, and a capital letter comes before
 // its length. The last rows are one statement, cut to its first bytes.

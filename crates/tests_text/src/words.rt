@@ -1,7 +1,7 @@
 // Words that are commands, and words that are none: a line for each, the words and what they mean. '' is an empty word.
 use command_line::command_in;
-use tests_rows::words_of;
 use std::test::Fail;
+use tests_rows::words_of;
 
 const ROWS: &str = "\
 check => Some(Check { print: false })\n\

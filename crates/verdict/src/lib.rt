@@ -1,4 +1,6 @@
 //! The cycle that explains a deadlock, and the test of a cycle.
+//!
+//! It stands on `dep_state` and `digraph`. Its rows are in `tests_graphs`.
 #![tactic(auto)]
 
 mod check;

@@ -1,4 +1,6 @@
 //! Runs of a plan in a world, without a board: rounds of turns, plain and avoided, their ends, and the run that is recorded.
+//!
+//! It stands on `avoider` and `locked_world`. Its rows are in `tests_runs`, and in `tests_text` (`endings`).
 #![tactic(auto)]
 
 mod ending;
