@@ -97,3 +97,75 @@ def differs(found, wanted):
         return None
     lines = [side[0].decode(errors='replace').splitlines() for side in (found, wanted)]
     return '\n'.join([f'status {found[1]}, and wanted is {wanted[1]}', lines_differ(*lines) or 'they differ in what ends their lines'])
+
+
+class Block:
+    """A command of a transcript, what it has to write and its status, with the text that it reads, what a mark in front of it says, and where it stands."""
+
+    def __init__(self, command, text, name, mark, place):
+        self.command, self.text, self.name, self.mark, self.place = command, text, name, mark, place
+        self.output, self.status = b'', 0
+
+
+def unescaped(line):
+    """The bytes of a line of a transcript."""
+    ends = not line.endswith(' (no-eol)')
+    line = line if ends else line[:-len(' (no-eol)')]
+    if line.endswith(' (esc)'):
+        data = line[:-len(' (esc)')].encode().decode('unicode_escape').encode('latin-1')
+    else:
+        data = line.encode()
+    return data + b'\n' if ends else data
+
+
+def data_of(lines):
+    """The bytes of these lines of a transcript; an empty line at their end parts them from what comes then."""
+    return b''.join(map(unescaped, lines[:-1] if lines and not lines[-1] else lines))
+
+
+def end_block(blocks, lines):
+    """Gives these lines to the last block, and to those in front of it that have no line of their own."""
+    if not blocks or not lines:
+        return
+    kept = lines[:-1] if not lines[-1] else lines
+    is_status = kept and re.fullmatch(r'\[\d+\]', kept[-1])
+    status = int(kept[-1][1:-1]) if is_status else 0
+    output = data_of(kept[:-1] if is_status else kept)
+    at = len(blocks) - 1
+    blocks[at].output, blocks[at].status, blocks[at].is_told = output, status, True
+    while at > 0 and not getattr(blocks[at - 1], 'is_told', False):
+        at -= 1
+        blocks[at].output, blocks[at].status, blocks[at].is_told = output, status, True
+
+
+def transcript(path, text=None, name=''):
+    """The blocks of a transcript. `$ COMMAND` stands in front of what the command has to write, and of its status in brackets where it is not 0; commands that
+    stand one below another write the same. A line of what is read or written may end with ` (esc)`, where it has escapes as \\x0d, and with ` (no-eol)`, where no
+    line feed stands behind it. `# ..` is a mark of the next block. Where the text is not given, `== NAME` begins one, up to the first command; the lines in
+    front of the first text or command say what the file has."""
+    blocks, lines, mark, is_text, place = [], [], '', False, os.path.relpath(os.path.join(TOP, path), TOP)
+    with open(os.path.join(TOP, path), encoding='utf-8', newline='\n') as file:
+        for number, line in enumerate(file.read().split('\n')[:-1], 1):
+            is_mark = line.startswith('# ')
+            if not (line.startswith('$ ') or is_mark or line == '==' or line.startswith('== ')):
+                lines.append(line)
+                continue
+            if is_text:
+                text = b''.join(map(unescaped, lines))
+            else:
+                end_block(blocks, lines)
+            lines, is_text = [], line.startswith('==')
+            if is_text:
+                name, text, mark = line[3:], b'', ''
+            elif is_mark:
+                mark = line[2:]
+            else:
+                blocks.append(Block(line[2:], text, name, mark, f'{place}:{number}'))
+                mark = ''
+    end_block(blocks, lines)
+    return blocks
+
+
+def written(path, command):
+    """What the first block of a transcript with this command says that it writes."""
+    return next(block.output for block in transcript(path) if block.command == command)
