@@ -34,7 +34,7 @@ def below(crate):
 
 def newest(crate, parts):
     """When the newest file that a program is made from was written."""
-    times = [os.path.getmtime(f'{TOP}/crates.txt')]
+    times = [0]
     for part in (f'{TOP}/crates/{it}/{part}' for it in below(crate) for part in parts):
         times += [os.path.getmtime(f'{at}/{name}') for at, _, names in os.walk(part) for name in names]
     return max(times)

@@ -30,6 +30,4 @@ mod reported;
 #[cfg(test)]
 mod statements;
 #[cfg(test)]
-mod syntax;
-#[cfg(test)]
 mod words;

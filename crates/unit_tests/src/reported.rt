@@ -3,13 +3,8 @@ use crate::endings::final_state;
 use adaptive::Wanted;
 use armus_base::{Dead, Final, NoMemory};
 use dep_state::is_in_order;
-use pl_plan::CheckFault;
-use pl_syntax::SyntaxFault;
-use report::{
-    Outline, Refusal, ScheduleFault, Standing, any_dead, live_lines, outline_of, refusal_line,
-    report,
-};
-use row_texts::{are_bytes_of, columns, cut, event, number, task_and_event};
+use report::{Outline, Standing, any_dead, live_lines, outline_of, report};
+use row_texts::{are_bytes_of, columns, cut, event, task_and_event};
 use std::alloc::{AllocError, Global};
 use std::test::Fail;
 
@@ -33,10 +28,6 @@ any dead | 0@1 unforked | 0 0@1 0@1 | no\n\
 report auto | done | | tasks 1 done 1 dead 0 held 0 refused 0 unforked 0~graph sg 0~\n\
 report auto | done !0@1 !0@1 | | tasks 3 done 1 dead 0 held 0 refused 2 unforked 0~t1 refused p0@1~t2 refused p0@1~graph sg 0~\n\
 live | 3 0@1, 12 255@262144 | | dead t3 p0@1~dead t12 p255@262144~\n\
-refusal | length | | refused length~\n\
-refusal | syntax | 2 22 | refused syntax 2 at 22~\n\
-refusal | check | 10 2 | refused check 10 statement 2~\n\
-refusal | schedule | 4 1 | refused schedule 4 line 1~\n\
 ";
 
 fn wanted_graph(text: &str) -> Wanted {
@@ -118,32 +109,12 @@ fn are_live_lines(alloc: Global, tasks: &str, text: &str) -> Result<bool, NoMemo
     Ok(are_bytes_of(live_lines(alloc, &dead)?.as_slice(), text))
 }
 
-// A refusal, by a word, a kind and where its fault stands.
-fn refusal(word: &str, numbers: &str) -> Refusal {
-    let (kind, at) = cut(numbers, " ");
-    let (kind, at) = (number(kind), number(at));
-    match word {
-        "syntax" => Refusal::Syntax(SyntaxFault { at, kind }),
-        "check" => Refusal::Check(CheckFault {
-            kind,
-            statement: at,
-        }),
-        "schedule" => Refusal::Schedule(ScheduleFault { line: at, kind }),
-        _ => Refusal::Length,
-    }
-}
-
-fn is_refusal_line(alloc: Global, why: &Refusal, text: &str) -> Result<bool, NoMemory> {
-    Ok(are_bytes_of(refusal_line(alloc, why)?.as_slice(), text))
-}
-
 fn is_met(alloc: Global, row: &str) -> Result<bool, NoMemory> {
     let (kind, rest) = cut(row, " | ");
     let (first, second, text) = columns(rest, "| ");
     let (first, second) = (first.trim(), second.trim());
     match kind {
         "live" => are_live_lines(alloc, first, text),
-        "refusal" => is_refusal_line(alloc, &refusal(first, second), text),
         _ => is_state_met(alloc, kind, &final_state(alloc, first, second)?, text),
     }
 }
