@@ -118,24 +118,13 @@ def unescaped(line):
     return data + b'\n' if ends else data
 
 
-def data_of(lines):
-    """The bytes of these lines of a transcript; an empty line at their end parts them from what comes then."""
-    return b''.join(map(unescaped, lines[:-1] if lines and not lines[-1] else lines))
-
-
-def end_block(blocks, lines):
-    """Gives these lines to the last block, and to those in front of it that have no line of their own."""
-    if not blocks or not lines:
-        return
-    kept = lines[:-1] if not lines[-1] else lines
+def tell(blocks, lines):
+    """Gives what these lines say to the commands that stand one below another in front of them; those that nothing stands behind write nothing."""
+    kept = lines[:-1] if lines and not lines[-1] else lines
     is_status = kept and re.fullmatch(r'\[\d+\]', kept[-1])
-    status = int(kept[-1][1:-1]) if is_status else 0
-    output = data_of(kept[:-1] if is_status else kept)
-    at = len(blocks) - 1
-    blocks[at].output, blocks[at].status, blocks[at].is_told = output, status, True
-    while at > 0 and not getattr(blocks[at - 1], 'is_told', False):
-        at -= 1
-        blocks[at].output, blocks[at].status, blocks[at].is_told = output, status, True
+    for block in blocks:
+        block.status = int(kept[-1][1:-1]) if is_status else 0
+        block.output = b''.join(map(unescaped, kept[:-1] if is_status else kept))
 
 
 def transcript(path, text=None, name=''):
@@ -143,27 +132,27 @@ def transcript(path, text=None, name=''):
     stand one below another write the same. A line of what is read or written may end with ` (esc)`, where it has escapes as \\x0d, and with ` (no-eol)`, where no
     line feed stands behind it. `# ..` is a mark of the next block. Where the text is not given, `== NAME` begins one, up to the first command; the lines in
     front of the first text or command say what the file has."""
-    blocks, lines, mark, is_text, place = [], [], '', False, os.path.relpath(os.path.join(TOP, path), TOP)
-    with open(os.path.join(TOP, path), encoding='utf-8', newline='\n') as file:
-        for number, line in enumerate(file.read().split('\n')[:-1], 1):
-            is_mark = line.startswith('# ')
-            if not (line.startswith('$ ') or is_mark or line == '==' or line.startswith('== ')):
-                lines.append(line)
-                continue
-            if is_text:
-                text = b''.join(map(unescaped, lines))
-            else:
-                end_block(blocks, lines)
-            lines, is_text = [], line.startswith('==')
-            if is_text:
-                name, text, mark = line[3:], b'', ''
-            elif is_mark:
-                mark = line[2:]
-            else:
-                blocks.append(Block(line[2:], text, name, mark, f'{place}:{number}'))
-                mark = ''
-    end_block(blocks, lines)
-    return blocks
+    told, waiting, lines, mark, is_text = [], [], [], '', False
+    file = read(path).decode().split('\n')
+    for number, line in enumerate([*file[:-1], '=='], 1):
+        begins = re.match(r'\$ |# |== |==$', line)
+        if not begins:
+            lines.append(line)
+            continue
+        if is_text:
+            text = b''.join(map(unescaped, lines))
+        elif lines or begins[0] != '$ ':
+            tell(waiting, lines)
+            told, waiting = told + waiting, []
+        lines, is_text = [], begins[0].startswith('==')
+        if is_text:
+            name, text, mark = line[3:], b'', ''
+        elif begins[0] == '# ':
+            mark = line[2:]
+        else:
+            waiting.append(Block(line[2:], text, name, mark, f'{os.path.relpath(os.path.join(TOP, path), TOP)}:{number}'))
+            mark = ''
+    return told
 
 
 def written(path, command):
