@@ -1,18 +1,11 @@
-//! Tests of the program: its worked rows, sources and sinks that fail, records that are replayed, and tasks that a gate holds; and of the program that
-//! explains.
+//! Tests of `armus` of what no command line can show: sources and sinks that fail at a place, and tasks that a gate holds.
 #![tactic(auto)]
 
-#[cfg(test)]
-mod explained;
 #[cfg(test)]
 mod held;
 #[cfg(test)]
 mod holding;
 #[cfg(test)]
 mod outside;
-#[cfg(test)]
-mod records;
-#[cfg(test)]
-mod rows;
 #[cfg(test)]
 mod texts;

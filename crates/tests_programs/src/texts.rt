@@ -26,7 +26,7 @@ pub(crate) const AMPLE: Outside = Outside {
     room: 200_000,
 };
 
-pub(crate) fn call(alloc: Global, number: u64) -> Result<List<u64>, NoMemory> {
+fn call(alloc: Global, number: u64) -> Result<List<u64>, NoMemory> {
     Ok(List::from_vec(vec![in alloc; number]?))
 }
 

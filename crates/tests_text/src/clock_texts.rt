@@ -1,87 +1,14 @@
-// Texts of the language of clocks: each with the place and the kind of its first fault, or none where it is a program; and the tree of one.
+// The tree of a text of the language of clocks.
 use armus_base::NoMemory;
 use clock_syntax::{ClockBody, ClockName, ClockProgram, ClockStmt, MAX_CLOCK_BYTES, clock_parse};
-use pl_syntax::ParseEnd;
 use std::alloc::{AllocError, Global};
 use std::test::Fail;
-use tests_rows::{are_bytes_of, bytes_of, cut, number};
-
-// The last rows are at limits. 64 braces may be open; a token that cannot stand there is so before a brace is one too many. A name has 32 bytes at most.
-const FAULTS: &str = "\
-|none\n\
-fork;|0 2\n\
-newTid = 1;|0 1\n\
-clock clock;|6 2\n\
-clock c = d;|8 2\n\
-pl 2; clock c;|0 2\n\
-clock c; advance(c+1);|18 1\n\
-async(a,) { }|8 2\n\
-async(,a) { }|6 2\n\
-async(a b) { }|8 2\n\
-async a { }|6 2\n\
-finish() { }|6 2\n\
-finish ;|7 2\n\
-clock 1;|6 2\n\
-clock c|7 2\n\
-async(c) |9 2\n\
-loop c { }|5 2\n\
-loop 65536 { }|5 3\n\
-loop 65535 { }|none\n\
-}|0 2\n\
-c = newPhaser();|0 2\n\
-clock fork; advance(fork); drop(fork);|none\n\
-clock pl; drop(pl);|none\n\
-async(a,b,a){}|none\n\
-async( ){skip;}|none\n\
-finish{resume(a);}|none\n\
-clock advance;|6 2\n\
-clock finish;|6 2\n\
-clock async;|6 2\n\
-clock resume;|6 2\n\
-clock drop;|6 2\n\
-clock skip; clock loop;|6 2\n\
-#65#finish{|454 4\n\
-#64#finish{#1#async() {|456 4\n\
-#64#finish{#1#async{|453 2\n\
-#64#finish{#64#}|none\n\
-clock #31#a#1#a;|none\n\
-clock #32#a#1#a;|6 5\n\
-";
+use tests_rows::are_bytes_of;
 
 // The statements of each body behind their number, those inside of others counted too; outer bodies stand first.
 const TREE: &str = "6 clock c, finish; 4 loop 3, drop c; 2 async c d2; 1 advance c; ";
 
 const TEXT: &str = "clock c; finish { loop 3 { async(c, d2) { advance(c); } } drop(c); }";
-
-fn fault(alloc: Global, text: &[u8]) -> Result<Option<(u32, u32)>, NoMemory> {
-    if text.len() > MAX_CLOCK_BYTES {
-        return Ok(Some((0, 0)));
-    }
-    match clock_parse(alloc, text) {
-        Ok(_) => Ok(None),
-        Err(ParseEnd::Syntax(fault)) => Ok(Some((fault.at, u32::from(fault.kind)))),
-        Err(ParseEnd::NoMemory) => Err(NoMemory),
-    }
-}
-
-fn is_met(alloc: Global, row: &str) -> Result<bool, NoMemory> {
-    let (text, wanted) = cut(row, "|");
-    let wanted = match wanted.split_once(" ") {
-        Some((at, kind)) => Some((number(at), number(kind))),
-        None => None,
-    };
-    let bytes = bytes_of(alloc, text)?;
-    Ok(fault(alloc, &bytes)? == wanted)
-}
-
-#[test]
-fn first_faults_of_clock_texts(rt: HostRuntime) -> Result<(), Fail> {
-    assert!(rt; MAX_CLOCK_BYTES == 1_048_576);
-    for row in FAULTS.lines() {
-        assert!(rt; is_met(rt.alloc(), row)?, "{row}");
-    }
-    Ok(())
-}
 
 fn add_name(all: &mut Vec<u8>, word: &str, name: &ClockName) -> Result<(), AllocError> {
     all.extend_from_slice(word.as_bytes())?;

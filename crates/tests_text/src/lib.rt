@@ -1,10 +1,8 @@
-//! Tests of the lower crates and of the lines of refused texts, in a crate of their own: a crate with tests is proved once more with them.
+//! Tests of the crates of texts, plans, reports and explanations, in a crate of their own: a crate with tests is proved once more with them.
 #![tactic(auto)]
 
 #[cfg(test)]
 mod accounts_of;
-#[cfg(test)]
-mod checks;
 #[cfg(test)]
 mod clock_plans;
 #[cfg(test)]
@@ -28,14 +26,8 @@ mod printed;
 #[cfg(test)]
 mod program_texts;
 #[cfg(test)]
-mod refused;
-#[cfg(test)]
-mod refused_syntax;
-#[cfg(test)]
 mod reported;
 #[cfg(test)]
 mod statements;
-#[cfg(test)]
-mod syntax;
 #[cfg(test)]
 mod words;

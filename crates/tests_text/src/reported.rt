@@ -3,15 +3,10 @@ use crate::endings::final_state;
 use adaptive::Wanted;
 use armus_base::{Dead, Final, NoMemory};
 use dep_state::is_in_order;
-use pl_plan::CheckFault;
-use pl_syntax::SyntaxFault;
-use report::{
-    Outline, Refusal, ScheduleFault, Standing, any_dead, live_lines, outline_of, refusal_line,
-    report,
-};
+use report::{Outline, Standing, any_dead, live_lines, outline_of, report};
 use std::alloc::{AllocError, Global};
 use std::test::Fail;
-use tests_rows::{are_bytes_of, columns, cut, event, number, task_and_event};
+use tests_rows::{are_bytes_of, columns, cut, event, task_and_event};
 
 // The first rows are three workers that wait on p0@1 for their parent, which waits on p1@1 for them. In the rows of three and of four tasks behind one that is
 // done, each waits on the event of a phaser of its own, and all others impede it: with three the state graph stays, with four it is left. Then t0 waits behind
@@ -21,7 +16,7 @@ report auto | 1@1 0@1 0@1 0@1 | 0 1@1 0@0 1@1, 1 0@1 0@1 1@0, 2 0@1 0@1 1@0, 3 0
 report sg | 1@1 0@1 0@1 0@1 | 0 1@1 0@0 1@1, 1 0@1 0@1 1@0, 2 0@1 0@1 1@0, 3 0@1 0@1 1@0 | tasks 4 done 0 dead 4 held 0 refused 0 unforked 0~t0 dead p1@1~t1 dead p0@1~t2 dead p0@1~t3 dead p0@1~cycle t0 t1~graph sg 2~\n\
 report wfg | 1@1 0@1 0@1 0@1 | 0 1@1 0@0 1@1, 1 0@1 0@1 1@0, 2 0@1 0@1 1@0, 3 0@1 0@1 1@0 | tasks 4 done 0 dead 4 held 0 refused 0 unforked 0~t0 dead p1@1~t1 dead p0@1~t2 dead p0@1~t3 dead p0@1~cycle t0 t1~graph wfg 6~\n\
 report grg | 1@1 0@1 0@1 0@1 | 0 1@1 0@0 1@1, 1 0@1 0@1 1@0, 2 0@1 0@1 1@0, 3 0@1 0@1 1@0 | tasks 4 done 0 dead 4 held 0 refused 0 unforked 0~t0 dead p1@1~t1 dead p0@1~t2 dead p0@1~t3 dead p0@1~cycle t0 t1~graph grg 8~\n\
-outline | 1@1 0@1 0@1 0@1 | 0 1@1 0@0 1@1, 1 0@1 0@1 1@0, 2 0@1 0@1 1@0, 3 0@1 0@1 1@0 | dead 1@1, dead 0@1, dead 0@1, dead 0@1; tasks 4 done 0 dead 4 held 0 refused 0 unforked 0~; cycle t0 t1~\n\
+outline | 1@1 0@1 0@1 0@1 | 0 1@1 0@0 1@1, 1 0@1 0@1 1@0, 2 0@1 0@1 1@0, 3 0@1 0@1 1@0 | dead 1@1, dead 0@1, dead 0@1, dead 0@1; tasks 4 done 0 dead 4 held 0 refused 0 unforked 0~\n\
 any dead | 1@1 0@1 0@1 0@1 | 0 1@1 0@0 1@1, 1 0@1 0@1 1@0, 2 0@1 0@1 1@0, 3 0@1 0@1 1@0 | yes\n\
 report auto | done 0@1 1@1 2@1 | 1 0@1 0@1 1@0 2@0, 2 1@1 0@0 1@1 2@0, 3 2@1 0@0 1@0 2@1 | tasks 4 done 1 dead 3 held 0 refused 0 unforked 0~t1 dead p0@1~t2 dead p1@1~t3 dead p2@1~cycle t1 t2~graph sg 6~\n\
 report auto | done 0@1 1@1 2@1 3@1 | 1 0@1 0@1 1@0 2@0 3@0, 2 1@1 0@0 1@1 2@0 3@0, 3 2@1 0@0 1@0 2@1 3@0, 4 3@1 0@0 1@0 2@0 3@1 | tasks 5 done 1 dead 4 held 0 refused 0 unforked 0~t1 dead p0@1~t2 dead p1@1~t3 dead p2@1~t4 dead p3@1~cycle t1 t2~graph wfg 12~\n\
@@ -33,10 +28,6 @@ any dead | 0@1 unforked | 0 0@1 0@1 | no\n\
 report auto | done | | tasks 1 done 1 dead 0 held 0 refused 0 unforked 0~graph sg 0~\n\
 report auto | done !0@1 !0@1 | | tasks 3 done 1 dead 0 held 0 refused 2 unforked 0~t1 refused p0@1~t2 refused p0@1~graph sg 0~\n\
 live | 3 0@1, 12 255@262144 | | dead t3 p0@1~dead t12 p255@262144~\n\
-refusal | length | | refused length~\n\
-refusal | syntax | 2 22 | refused syntax 2 at 22~\n\
-refusal | check | 10 2 | refused check 10 statement 2~\n\
-refusal | schedule | 4 1 | refused schedule 4 line 1~\n\
 ";
 
 fn wanted_graph(text: &str) -> Wanted {
@@ -66,20 +57,18 @@ fn are_standings(standings: &[Standing], text: &str) -> bool {
     standings.len() == count
 }
 
-// Whether this is the outline of standings, counts and a cycle. A task is dead exactly where there is a cycle.
-fn is_outline(outline: &Outline, standings: &str, counts: &str, cycle: &str) -> bool {
+// Whether this is the outline of standings and counts.
+fn is_outline(outline: &Outline, standings: &str, counts: &str) -> bool {
     are_standings(outline.standings.as_slice(), standings)
         && are_bytes_of(outline.counts.as_slice(), counts)
-        && are_bytes_of(outline.cycle.as_slice(), cycle)
-        && outline.has_dead != cycle.is_empty()
 }
 
 fn is_outlined(alloc: Global, end: &Final, text: &str) -> Result<bool, NoMemory> {
-    let (standings, counts, cycle) = columns(text, "; ");
+    let (standings, counts) = cut(text, "; ");
     if !is_in_order(end.blocked.as_slice()) {
         return Ok(false);
     }
-    Ok(is_outline(&outline_of(alloc, end)?, standings, counts, cycle))
+    Ok(is_outline(&outline_of(alloc, end)?, standings, counts))
 }
 
 fn is_reported(alloc: Global, end: &Final, graph: Wanted, text: &str) -> Result<bool, NoMemory> {
@@ -118,32 +107,12 @@ fn are_live_lines(alloc: Global, tasks: &str, text: &str) -> Result<bool, NoMemo
     Ok(are_bytes_of(live_lines(alloc, &dead)?.as_slice(), text))
 }
 
-// A refusal, by a word, a kind and where its fault stands.
-fn refusal(word: &str, numbers: &str) -> Refusal {
-    let (kind, at) = cut(numbers, " ");
-    let (kind, at) = (number(kind), number(at));
-    match word {
-        "syntax" => Refusal::Syntax(SyntaxFault { at, kind }),
-        "check" => Refusal::Check(CheckFault {
-            kind,
-            statement: at,
-        }),
-        "schedule" => Refusal::Schedule(ScheduleFault { line: at, kind }),
-        _ => Refusal::Length,
-    }
-}
-
-fn is_refusal_line(alloc: Global, why: &Refusal, text: &str) -> Result<bool, NoMemory> {
-    Ok(are_bytes_of(refusal_line(alloc, why)?.as_slice(), text))
-}
-
 fn is_met(alloc: Global, row: &str) -> Result<bool, NoMemory> {
     let (kind, rest) = cut(row, " | ");
     let (first, second, text) = columns(rest, "| ");
     let (first, second) = (first.trim(), second.trim());
     match kind {
         "live" => are_live_lines(alloc, first, text),
-        "refusal" => is_refusal_line(alloc, &refusal(first, second), text),
         _ => is_state_met(alloc, kind, &final_state(alloc, first, second)?, text),
     }
 }

@@ -1,2 +1,0 @@
-loop 2 { //@ Main.java:1
-skip;

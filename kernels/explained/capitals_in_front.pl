@@ -1,2 +1,0 @@
-PL 2;
-b = newPhaser();

@@ -1,1 +1,0 @@
-loop 2 { skip;

@@ -1,3 +1,0 @@
-p = newPhaser();
-t = newTid(); reg(t, p);
-fork(t) { adv(p); await(p); }

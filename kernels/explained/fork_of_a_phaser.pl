@@ -1,2 +1,0 @@
-b = newPhaser();
-fork(b) { }

@@ -1,2 +1,0 @@
-t = newTid();
-fork(t) adv(b);

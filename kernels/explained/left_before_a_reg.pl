@@ -1,4 +1,0 @@
-p = newPhaser();
-t = newTid();
-dereg(p);
-reg(t, p);

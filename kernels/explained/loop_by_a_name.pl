@@ -1,2 +1,0 @@
-n = newTid();
-loop n { skip; }

@@ -1,1 +1,0 @@
-a_name_of_thirty_three_characters = newTid();

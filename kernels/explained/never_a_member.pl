@@ -1,4 +1,0 @@
-b = newPhaser();
-t = newTid();
-fork(t) { adv(b); await(b); }
-adv(b); await(b);

@@ -1,2 +1,0 @@
-loop 2 { spare = newTid(); }
-other = newTid();

@@ -1,3 +1,0 @@
-pl 2;
-b = newPhaser();
-adv(b + 1);

@@ -1,3 +1,0 @@
-pl 2;
-b = newPhaser();
-await(b + b);

@@ -1,3 +1,0 @@
-b = newPhaser();
-adv(b);
-await(b - 1);

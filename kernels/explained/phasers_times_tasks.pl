@@ -1,2 +1,0 @@
-loop 4080 { t = newTid(); }
-loop 257 { p = newPhaser(); }

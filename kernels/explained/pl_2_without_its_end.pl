@@ -1,1 +1,0 @@
-pl 2 b = newPhaser();

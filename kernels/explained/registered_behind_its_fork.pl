@@ -1,3 +1,0 @@
-b = newPhaser(); t = newTid();
-fork(t) { skip; }
-reg(t, b);

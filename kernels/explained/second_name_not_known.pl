@@ -1,2 +1,0 @@
-t = newTid();
-reg(t, b);

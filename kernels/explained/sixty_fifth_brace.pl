@@ -1,9 +1,0 @@
-loop 1 { loop 1 { loop 1 { loop 1 { loop 1 { loop 1 { loop 1 { loop 1 {
-loop 1 { loop 1 { loop 1 { loop 1 { loop 1 { loop 1 { loop 1 { loop 1 {
-loop 1 { loop 1 { loop 1 { loop 1 { loop 1 { loop 1 { loop 1 { loop 1 {
-loop 1 { loop 1 { loop 1 { loop 1 { loop 1 { loop 1 { loop 1 { loop 1 {
-loop 1 { loop 1 { loop 1 { loop 1 { loop 1 { loop 1 { loop 1 { loop 1 {
-loop 1 { loop 1 { loop 1 { loop 1 { loop 1 { loop 1 { loop 1 { loop 1 {
-loop 1 { loop 1 { loop 1 { loop 1 { loop 1 { loop 1 { loop 1 { loop 1 {
-loop 1 { loop 1 { loop 1 { loop 1 { loop 1 { loop 1 { loop 1 { loop 1 {
-loop 1 { skip; }

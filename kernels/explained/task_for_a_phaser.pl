@@ -1,3 +1,0 @@
-t = newTid();
-u = newTid();
-reg(t, u);

@@ -1,2 +1,0 @@
-loop 256 { p = newPhaser(); }
-loop 4095 { t = newTid(); }

@@ -1,3 +1,0 @@
-clock c;
-async(c) { advance(c); }
-advance(c);

@@ -1,3 +1,0 @@
-loop 2 {
-  loop 3 {
-    loop 4 { skip;

@@ -1,1 +1,0 @@
-loop 1025 { p = newPhaser(); }

@@ -1,1 +1,0 @@
-loop 4096 { t = newTid(); }

@@ -1,1 +1,0 @@
-loop 64 { loop 64 { t = newTid(); } }

@@ -1,4 +1,0 @@
-t = newTid();
-fork(t) {
-  loop 65535 { loop 65535 { } }
-}

@@ -1,4 +1,0 @@
-pl 2;
-p = newPhaser();
-adv(p);
-await(p + 1);

@@ -1,3 +1,0 @@
-loop 2 {
-		myBarrier = newPhaser();
-}
