@@ -1,4 +1,4 @@
--- How many events a task has made.
+-- How many actions a task has made.
 use Rattle.std.proofs.Common.{◌≡◌, ℕ, suc, ◌<◌, ◌≤◌, ◌+◌, ◌-◌, List, [], ◌∷◌, ◌++◌, Option, Some, None, length, length-append, refl, sym, ap, ◌∙◌, arith, inl, inr}
 use Rattle.std.specs.Prelude.{is_some, if◌then◌else◌}
 use Rattle.armus_base.specs.Plans.{Action, Advances, Blocks, Drops, Forks, Makes, Passes, Plan, Refuses, Registers, actions, in_code}
@@ -7,19 +7,19 @@ use Rattle.armus_base.specs.CheckedPlans.{IsCheckedPlan}
 use Rattle.pl_core.proofs.StepKinds.{few_actions}
 use Rattle.board.specs.calls.Views.{own_place, task_of}
 use Rattle.board.specs.calls.Seats.{Frame, Known}
-use Rattle.board_runs.specs.calls.Turns.{Acts, CountsEvents, LeadsByCode, Working, max_events}
+use Rattle.board_runs.specs.calls.Turns.{Acts, CountsActions, LeadsByCode, Working, max_actions}
 use Rattle.board_runs.specs.inside.Tasks.{MakesSome}
 use Rattle.board_runs.specs.calls.TaskSeats.{progress_of}
 use Rattle.board_runs.proofs.Advancing.{no_drop, task_further}
 use Rattle.board_runs.proofs.TaskSeatsKept.{by_code_is, has_left}
 use Rattle.board_runs.proofs.Goings.{no_seats, same_task}
 
--- how many events lead to a place
-abbrev events_to : ℕ → Option ℕ → ℕ
-events_to k None = k
-events_to k (Some d) = suc (k + d)
+-- how many actions lead to a place
+abbrev made_to : ℕ → Option ℕ → ℕ
+made_to k None = k
+made_to k (Some d) = suc (k + d)
 
-one_more : (plan : Plan) (t k : ℕ) (o : Option ℕ) (x : Action) → IsByCode plan t k o x → events_to (next_place k o x).done (next_place k o x).dropped ≡ suc (events_to k o)
+one_more : (plan : Plan) (t k : ℕ) (o : Option ℕ) (x : Action) → IsByCode plan t k o x → made_to (next_place k o x).done (next_place k o x).dropped ≡ suc (made_to k o)
 one_more plan t k None (Makes p) by = refl
 one_more plan t k None (Registers c p) by = refl
 one_more plan t k None (Forks c) by = refl
@@ -37,29 +37,29 @@ one_more plan t k (Some d) (Blocks p) by = absurd by
 one_more plan t k (Some d) (Passes p) by = absurd by
 one_more plan t k (Some d) (Refuses p) by = absurd by
 
-all_more : (plan : Plan) (t : ℕ) (a : Place) (own : List Action) (b : Place) → LeadsByCode plan t a own b → events_to b.done b.dropped ≡ events_to a.done a.dropped + length own
-all_more plan t a [] b same = (let e : events_to b.done b.dropped ≡ events_to a.done a.dropped = ap (λ (x : Place). events_to x.done x.dropped) same in omega arith)
+all_more : (plan : Plan) (t : ℕ) (a : Place) (own : List Action) (b : Place) → LeadsByCode plan t a own b → made_to b.done b.dropped ≡ made_to a.done a.dropped + length own
+all_more plan t a [] b same = (let e : made_to b.done b.dropped ≡ made_to a.done a.dropped = ap (λ (x : Place). made_to x.done x.dropped) same in omega arith)
 all_more plan t a (x ∷ own) b steps =
     (let e = one_more plan t a.done a.dropped x steps.0 in
     let r = all_more plan t (next_place a.done a.dropped x) own b steps.1 in
     omega arith)
 
--- a task that is not refused has made as many events as it has done actions
+-- a task that is not refused has made as many actions as its place tells
 undropped_more : (plan : Plan) (t : ℕ) (a : Place) (own : List Action) (b : Place) → a.dropped ≡ None → b.dropped ≡ None → LeadsByCode plan t a own b → b.done ≡ a.done + length own
 undropped_more plan t a own b first last steps =
     (let r = all_more plan t a own b steps in
-    let x : events_to a.done a.dropped ≡ a.done = ap (events_to a.done) first in
-    let y : events_to b.done b.dropped ≡ b.done = ap (events_to b.done) last in
+    let x : made_to a.done a.dropped ≡ a.done = ap (made_to a.done) first in
+    let y : made_to b.done b.dropped ≡ b.done = ap (made_to b.done) last in
     omega arith)
 
--- a task that makes some events was not refused
+-- a task that makes some actions was not refused
 pub was_unrefused : (f : Frame) (made : ℕ) (w v : Working) → MakesSome f made w v → (own_place w.seat.view).dropped ≡ None
 was_unrefused f made w v m = elim (no_drop (own_place w.seat.view).dropped) [
   | inl none ↦ none
   | inr some ↦ (let e : length m.own ≡ 0 = ap length (m.acts.refused some) in let c = m.counted in let s = m.some in absurd (omega arith))
 ]
 
-pub counts_on : (f : Frame) (own made : ℕ) (w v : Working) → CountsEvents own w → MakesSome f made w v → CountsEvents (own + made) v
+pub counts_on : (f : Frame) (own made : ℕ) (w v : Working) → CountsActions own w → MakesSome f made w v → CountsActions (own + made) v
 counts_on f own made w v c m =
     let plan = w.seat.view.plan in
     let t = task_of w.seat.view in
@@ -76,7 +76,7 @@ counts_on f own made w v c m =
     }
 
 -- who makes no step makes no event
-pub counts_still : (f : Frame) (n : ℕ) (w v : Working) → CountsEvents n w → Acts f [] w v → CountsEvents n v
+pub counts_still : (f : Frame) (n : ℕ) (w v : Working) → CountsActions n w → Acts f [] w v → CountsActions n v
 counts_still f n w v c acts =
     let place : own_place v.seat.view ≡ own_place w.seat.view = acts.goes.place in
     let same : length (actions v.seat.view.plan (task_of v.seat.view)) ≡ length (actions w.seat.view.plan (task_of w.seat.view)) =
@@ -86,7 +86,7 @@ counts_still f n w v c acts =
       few = (let l = c.few in omega arith);
     }
 
--- how much is left to a task, which falls with its events
+-- how much is left to a task, which falls with its actions
 abbrev pub left_to_task : Working → ℕ
 left_to_task w = (length (actions w.seat.view.plan (task_of w.seat.view)) + 1) - progress_of w
 
@@ -118,10 +118,10 @@ forked_some f [] w v seat acts forked =
     absurd (omega arith))
 forked_some f (x ∷ own) w v seat acts forked = omega arith
 
-pub counts_nothing : (w : Working) → CountsEvents 0 w
+pub counts_nothing : (w : Working) → CountsActions 0 w
 counts_nothing w = record { unrefused = λ none. omega arith; few = omega arith }
 
--- a task makes few events in a turn
-pub few_events : (own : ℕ) (w : Working) → IsCheckedPlan w.seat.view.plan → CountsEvents own w → own ≤ max_events
-few_events own w checked c =
+-- a task makes few actions in a turn
+pub few_in_turn : (own : ℕ) (w : Working) → IsCheckedPlan w.seat.view.plan → CountsActions own w → own ≤ max_actions
+few_in_turn own w checked c =
     (let few = few_actions w.seat.view.plan (task_of w.seat.view) checked in let l = c.few in omega arith)

@@ -166,6 +166,6 @@ pub no_event : (o : Option Event) → is_some o ≡ false → o ≡ None
 no_event None e = refl
 no_event (Some e) h = absurd (false≢true (sym h))
 
--- a task makes few events
-pub events_fit : (plan : Plan) (t k : ℕ) → IsCheckedPlan plan → k < length (actions plan t) → k + 1 < 2 ^ 32
-events_fit plan t k checked l = (let few = few_actions plan t checked in omega arith)
+-- a task makes few actions
+pub one_more_fits : (plan : Plan) (t k : ℕ) → IsCheckedPlan plan → k < length (actions plan t) → k + 1 < 2 ^ 32
+one_more_fits plan t k checked l = (let few = few_actions plan t checked in omega arith)

@@ -21,7 +21,7 @@ use Rattle.board_runs.specs.inside.Tasks.{AreLeft, HasCome, MakesSome}
 use Rattle.board_runs.specs.calls.Turns.{Acts, AreChildSeats, EndsTurn, Goes, LeadsByCode, Working, tasks_forked}
 use Rattle.board_runs.proofs.Begun.{left_on}
 use Rattle.board_runs.proofs.Goings.{acts_alone, same_task, some_steps}
-use Rattle.board_runs.proofs.Halting.{events_fit, left_there, no_refusal}
+use Rattle.board_runs.proofs.Halting.{one_more_fits, left_there, no_refusal}
 use Rattle.board_runs.proofs.Leaving.{drops_counted, drops_fork_nobody, few_memberships}
 
 -- to who has made no step the same ops are left
@@ -112,14 +112,14 @@ refused_goes (Drop p) k m n b = absurd b
 refused_goes (Await p off) k m n b = (refl, aim_at p.0 off, refl, b)
 
 -- nothing came of it
-still_come : (ops : List Op) (events t : ℕ) (k m : Known) → k.view.own ≡ Some t → HasCome k ops events false → Goes [] k m → HasCome m ops events false
-still_come ops events t k m own w goes = record {
-  events_are = w.events_are ∙ sym (ap (λ (x : Place). x.done) goes.place);
+still_come : (ops : List Op) (count t : ℕ) (k m : Known) → k.view.own ≡ Some t → HasCome k ops count false → Goes [] k m → HasCome m ops count false
+still_come ops count t k m own w goes = record {
+  made_is = w.made_is ∙ sym (ap (λ (x : Place). x.done) goes.place);
   ops_are = λ e. left_still ops t k m own (w.ops_are e) goes;
   gone = λ e. absurd (false≢true e);
 }
 
-module _ (f : Frame) (ops : List Op) (events : ℕ) (k m : Known) (cs ds : List Known) (op : Op) (rest : List Op) (w : HasCome k ops events false) (b : IsBefore op rest k) where
+module _ (f : Frame) (ops : List Op) (count : ℕ) (k m : Known) (cs ds : List Known) (op : Op) (rest : List Op) (w : HasCome k ops count false) (b : IsBefore op rest k) where
   abbrev before : Working
   before = record { seat = k; children = cs }
 
@@ -127,15 +127,15 @@ module _ (f : Frame) (ops : List Op) (events : ℕ) (k m : Known) (cs ds : List 
   now = record { seat = m; children = ds }
 
   -- nothing was done
-  pub nothing_come : Goes [] k m → HasCome m ops events false
-  nothing_come goes = still_come ops events (task_of k.view) k m b.own w goes
+  pub nothing_come : Goes [] k m → HasCome m ops count false
+  nothing_come goes = still_come ops count (task_of k.view) k m b.own w goes
 
   pub nothing_acts : ds ≡ cs → Goes [] k m → Acts f [] before now
   nothing_acts same goes = subst (λ es. Acts f [] before (record { seat = m; children = es })) (sym same) (acts_alone f [] k m cs refl goes (λ _. refl))
 
   module _ (new : List Known) (grown : ds ≡ cs ++ new) (seats : AreChildSeats f (tasks_forked (begins op ∷ [])) new) where
     -- the lock was taken
-    pub locked_out : BeginsOp op k m LockedOut → (Acts f [] before now × EndsTurn k m) × HasCome m ops events false
+    pub locked_out : BeginsOp op k m LockedOut → (Acts f [] before now × EndsTurn k m) × HasCome m ops count false
     locked_out is =
         let r = locked_goes op k m is in (
           (record { goes = r.1; refused = λ _. refl; new = new; children = grown; seats = no_seat f (tasks_forked (begins op ∷ [])) new r.0 seats }, r.2),
@@ -148,11 +148,11 @@ module _ (f : Frame) (ops : List Op) (events : ℕ) (k m : Known) (cs ds : List 
         some_steps f (begins op ∷ []) k m cs ds new 1 (begins op)
         b.seat (before_next op rest k b) (begins_goes op k m is) grown seats (one_fork op) refl (omega arith) (omega arith)
 
-    pub begun_come : BeginsOp op k m Begun → HasCome m rest (events + 1) false
+    pub begun_come : BeginsOp op k m Begun → HasCome m rest (count + 1) false
     begun_come is =
         let goes = begins_goes op k m is in
         let n = left_on op rest k m b goes in record {
-          events_are = (let e = w.events_are in
+          made_is = (let e = w.made_is in
               let d : (own_place m.view).done ≡ suc (own_place k.view).done =
               ap (λ (x : Place). x.done) goes.place.1 ∙ place_made (own_place k.view).done (own_place k.view).dropped (begins op) b.left.unrefused (no_refusal op) in
               omega arith);
@@ -160,11 +160,11 @@ module _ (f : Frame) (ops : List Op) (events : ℕ) (k m : Known) (cs ds : List 
           gone = λ e. absurd (false≢true e);
         }
 
-    pub begun_fits : events + 1 < 2 ^ 32
+    pub begun_fits : count + 1 < 2 ^ 32
     begun_fits =
         (let within = action_within k.view.plan b.seat.checked (task_of k.view) (own_place k.view).done (begins op) (next_there k.view (begins op) (before_next op rest k b)).1 in
-        let e = w.events_are in
-        let l = events_fit k.view.plan (task_of k.view) (own_place k.view).done b.seat.checked within in omega arith)
+        let e = w.made_is in
+        let l = one_more_fits k.view.plan (task_of k.view) (own_place k.view).done b.seat.checked within in omega arith)
 
     -- the task is refused
     module _ (n : ℕ) (is : BeginsOp op k m (Refused n)) where
@@ -184,12 +184,12 @@ module _ (f : Frame) (ops : List Op) (events : ℕ) (k m : Known) (cs ds : List 
       pub refused_fits : n + 1 < 2 ^ 32
       refused_fits = (let l = few in omega arith)
 
-      pub refused_come : HasCome m ops events true
+      pub refused_come : HasCome m ops count true
       refused_come =
           let steps = r.3.goes.place in
           let first = refused_done (own_place k.view).done (own_place k.view).dropped r.1 b.left.unrefused in
           record {
-            events_are = w.events_are
+            made_is = w.made_is
                 ∙ sym (stays_done k.view.plan (task_of k.view) (next_place (own_place k.view).done (own_place k.view).dropped (Refuses r.1))
                 (drops_below (own_phase k.view) (length k.view.plan.makers)) (own_place m.view) first.1 steps.1 ∙ first.0);
             ops_are = λ e. absurd (false≢true (sym e));

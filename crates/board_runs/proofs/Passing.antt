@@ -12,7 +12,7 @@ use Rattle.phase_scan.specs.calls.Looks.{LoadsAlone}
 use Rattle.board_runs.specs.declared.task.Task.TheInside.{Inside}
 use Rattle.board_runs.specs.inside.Tasks.{AreLeft, IsWorking, MakesSome}
 use Rattle.board_runs.proofs.Goings.{goes_step, goes_then, own_stays, some_alone, stepped_place}
-use Rattle.board_runs.proofs.Halting.{events_fit, left_by_loads, left_free, left_there}
+use Rattle.board_runs.proofs.Halting.{one_more_fits, left_by_loads, left_free, left_there}
 
 -- to whom is not refused its ops are left
 pub has_left : (t : Inside) → IsWorking t → (own_place t.seat.view).dropped ≡ None → (t.refused ≡ false) × AreLeft t.cursor t.seat
@@ -29,8 +29,8 @@ pass_loads k m n event goes pass = (let e = published_is (event_of k) event in (
 module _ (f : Frame) (t : Inside) (m n : Known) (own : ℕ) (w : IsWorking t) (free : t.seat.view.holds ≡ false) (none : (own_place t.seat.view).dropped ≡ None)
     (own_is : t.seat.view.own ≡ Some own) (seat : IsSeat t.seat) (event : IsSome (event_of t.seat)) (goes : LoadsAlone t.seat m) (pass : MakesPass m n) where
   pub record Passed : Type 0 where
-    pub working : IsWorking (record t { seat = n; events = t.events + 1 })
-    pub fits : t.events + 1 < 2 ^ 32
+    pub working : IsWorking (record t { seat = n; actions = t.actions + 1 })
+    pub fits : t.actions + 1 < 2 ^ 32
     pub some : MakesSome f 1 (record { seat = t.seat; children = t.children.items }) (record { seat = n; children = t.children.items })
 
   pub passes : Passed
@@ -53,12 +53,12 @@ module _ (f : Frame) (t : Inside) (m n : Known) (own : ℕ) (w : IsWorking t) (f
       record {
         working = record {
           come = record {
-            events_are = (let n = w.come.events_are in omega arith);
+            made_is = (let n = w.come.made_is in omega arith);
             ops_are = λ _. left_there t.cursor n (left_passed t.cursor m n e.0 own (goes.same.own ∙ own_is) left is step);
             gone = λ e. absurd (false≢true (sym was.0 ∙ e));
           };
           begun = (let l = w.begun in omega arith);
         };
-        fits = (let l = events_fit t.seat.view.plan (task_of t.seat.view) (own_place t.seat.view).done seat.checked some.within in let n = w.come.events_are in omega arith);
+        fits = (let l = one_more_fits t.seat.view.plan (task_of t.seat.view) (own_place t.seat.view).done seat.checked some.within in let n = w.come.made_is in omega arith);
         some = some;
       }

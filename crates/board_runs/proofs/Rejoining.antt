@@ -96,8 +96,8 @@ module _ (bound : ℕ) (f : Frame) (live ended new : List Working) (told : Round
   each : EachActs f owns olds turned
   each = each_on (map no_steps ended) ended ended round.each (rest_each f ended (all_from (MayTakeTurn f) ended (λ w i. ready w (Contains-append_right live ended w i))))
 
-  events : told.events ≡ in_32_bits (sum_by length owns)
-  events = (let s = sum_by-append (length {A = Action}) round.owns (map no_steps ended) in let z = zeros ended in let e = round.events in omega arith)
+  actions : told.actions ≡ in_32_bits (sum_by length owns)
+  actions = (let s = sum_by-append (length {A = Action}) round.owns (map no_steps ended) in let z = zeros ended in let e = round.actions in omega arith)
 
   none : (w : Working) → Contains olds w → w.children ≡ []
   none w i = to_each (λ (v : Working). v.children ≡ []) olds whole.no_child w i
@@ -154,8 +154,8 @@ module _ (bound : ℕ) (f : Frame) (live ended new : List Working) (told : Round
       let e = emptied_sum progress_of (λ w. refl) turned in
       omega arith)
 
-  pub round_further : 0 < told.events → sum_by progress_of olds < sum_by progress_of (new ++ ended)
-  round_further l = (let e = events in let m = all_further each (omega arith) in let n = next_steps in omega arith)
+  pub round_further : 0 < told.actions → sum_by progress_of olds < sum_by progress_of (new ++ ended)
+  round_further l = (let e = actions in let m = all_further each (omega arith) in let n = next_steps in omega arith)
 
   abbrev loads : ℕ
   loads = loads_between olds (new ++ ended)
@@ -171,8 +171,8 @@ module _ (bound : ℕ) (f : Frame) (live ended new : List Working) (told : Round
       omega arith)
 
   -- where no step was made nobody was forked
-  pub round_quiet : told.events ≡ 0 → told.forked ≡ false
-  round_quiet z = not_forked told.forked (all_forked round.owns) round.forked (still_forks round.owns (let e = round.events in omega arith))
+  pub round_quiet : told.actions ≡ 0 → told.forked ≡ false
+  round_quiet z = not_forked told.forked (all_forked round.owns) round.forked (still_forks round.owns (let e = round.actions in omega arith))
 
   abbrev HasEnded : Working → Type 0
   HasEnded w = HasTakenTurn bound loads live w ⊎ Contains ended w
@@ -226,7 +226,7 @@ module _ (f : Frame) (tasks : Tasks) (are : AreTasksOf f tasks) where
 pub whole_round :
     (bound : ℕ) (f : Frame) (plan : Plan) (before now : Tasks) (new : List Working) (told : Rounded) → f.plan ≡ plan → AreTasksOf f before →
     MakesRound bound f before.live new told → IsPermutation (new ++ before.ended) (all_of now) → All (λ (w : Working). ActsNoMore w.seat) now.ended →
-    AreTasksOf f now × (0 < told.events → left_to plan now < left_to plan before) × (told.forked ≡ false → HaveEnded bound before now)
+    AreTasksOf f now × (0 < told.actions → left_to plan now < left_to plan before) × (told.forked ≡ false → HaveEnded bound before now)
 whole_round bound f plan before now new told same tasks round moved done =
     let middle = new ++ before.ended in
     let whole = shuffled f middle (all_of now) moved (after_round bound f before.live before.ended new told tasks round) in (

@@ -122,7 +122,7 @@ pub stopped :
     {E : Type 0} (bound : ℕ) (f : Frame) (olds news : List Working) (r : Result ℕ E) → IfOk r (λ n. ⊥) → (owns : List (List Action)) × EachActs f owns olds news →
     TakesTurns bound f olds news r
 stopped bound f olds news (Ok n) bad p = absurd bad
-stopped bound f olds news (Err e) bad p = record { owns = p.0; each = p.1; events = tt; ends = tt }
+stopped bound f olds news (Err e) bad p = record { owns = p.0; each = p.1; actions = tt; ends = tt }
 
 -- no task has the lock then
 pub each_free : {f : Frame} {owns : List (List Action)} {olds news : List Working} → EachActs f owns olds news → All (MayTakeTurn f) olds → All (λ (w : Working). w.seat.view.holds ≡ false) news
@@ -212,8 +212,8 @@ turns_on bound f olds news olds' news' x y m n k xs ys ks p' q' =
     record {
       owns = p.owns ++ q.owns;
       each = each_on q.owns olds' news' p.each q.each;
-      events =
-          ks ∙ ap (λ a. in_32_bits (a + n)) p.events ∙ ap (λ b. in_32_bits (in_32_bits (sum_by length p.owns) + b)) q.events
+      actions =
+          ks ∙ ap (λ a. in_32_bits (a + n)) p.actions ∙ ap (λ b. in_32_bits (in_32_bits (sum_by length p.owns) + b)) q.actions
           ∙ counts_add (sum_by length p.owns) (sum_by length q.owns) ∙ ap in_32_bits (sym (sum_by-append length p.owns q.owns));
       ends = by_several p.ends q.ends;
     }

@@ -26,8 +26,8 @@ use std::thread::Threads;
 /// What a round was.
 #[derive(Clone, Copy, Debug, PartialEq, Eq)]
 pub struct Rounded {
-    /// How many events happened in it, up to 2^32 - 1.
-    pub events: u32,
+    /// How many actions were made in it, up to 2^32 - 1.
+    pub actions: u32,
     /// Whether a task was forked in it.
     pub forked: bool,
 }
@@ -77,7 +77,7 @@ impl<'p> BoardTasks<'p> {
     }
 
     /// One round: each task that lives has one turn, by so many workers. What a worker judges by is kept from its first round on. After the round the children
-    /// whom they forked live too, and whoever acts no more lives no more. Where nobody was forked, as where no event happened, each task stands at the end of
+    /// whom they forked live too, and whoever acts no more lives no more. Where nobody was forked, as where nobody acted, each task stands at the end of
     /// its turn in this round, or had ended before; a turn may be cut short only where the tasks have made more loads in the round than the bound.
     pub fn round<R: Threads + Sync, G: Gate>(
         &mut self,
@@ -89,8 +89,8 @@ impl<'p> BoardTasks<'p> {
         requires tasks { AreTasksOf setting.now.board.now self.old }
         ensures round { IfOk result (HasRound setting.now.bound setting.now.board.now self.old self.new) }
         ensures tasks { OnOk result (AreTasksOf setting.now.board.now self.new) }
-        ensures further { IfOk result (λ made. 0 < made.events → left_to plan.now self.new < left_to plan.now self.old) }
-        ensures quiet { IfOk result (λ made. made.events ≡ 0 → made.forked ≡ false) }
+        ensures further { IfOk result (λ made. 0 < made.actions → left_to plan.now self.new < left_to plan.now self.old) }
+        ensures quiet { IfOk result (λ made. made.actions ≡ 0 → made.forked ≡ false) }
         ensures ends { IfOk result (λ made. made.forked ≡ false → HaveEnded setting.now.bound self.old self.new) }
     {
         provide(&mut self.cells, workers, self.judging)?;
@@ -155,9 +155,9 @@ fn go_round<'p, R: Threads + Sync, G: Gate>(
     ensures round { IfOk result (MakesRound setting.now.bound setting.now.board.now tasks.old.items tasks.new.items) }
 {
     let turned = tasks.as_mut_slice();
-    let events = take_turns(setting, workers, cells, turned)?;
+    let actions = take_turns(setting, workers, cells, turned)?;
     let forked = take_on(setting.alloc, plan, tasks)?;
-    Ok(Rounded { events, forked })
+    Ok(Rounded { actions, forked })
 }
 
 // Makes tasks of the children's seats that these tasks have, and puts them among them, in order of number; answers whether there were any.

@@ -3,7 +3,7 @@ ghost use Rattle.std.specs.Thread.{IsSync};
 ghost use Rattle.std.specs.Prelude.{◌≡◌, ◌≤◌, ◌-◌, ◌^◌, All, IfOk, List, OnOk, false, length, map};
 ghost use Rattle.armus_base.specs.Plans.{Action};
 ghost use Rattle.board.specs.calls.Seats.{IsOf};
-ghost use Rattle.board_runs.specs.calls.Turns.{Acts, CountsLoadsOf, EndsTurnWithin, MayTakeTurn, TakesTurns, max_events};
+ghost use Rattle.board_runs.specs.calls.Turns.{Acts, CountsLoadsOf, EndsTurnWithin, MayTakeTurn, TakesTurns, max_actions};
 
 use crate::Task;
 use crate::worker_cells::{WorkerCells, provide};
@@ -51,7 +51,7 @@ pub(crate) trait TakeTurn {
     ghost working: { Self → Working };
 
     /// Its turn: it acts until it is done, or is published and finds a member behind, or is refused, or finds the lock taken; once more loads than the bound
-    /// were counted with these cells, until the next await at the latest. It answers how many events happened. The gate is called before each op that it tries.
+    /// were counted with these cells, until the next await at the latest. It answers how many actions were made. The gate is called before each op that it tries.
     fn turn<R, C: Calls>(
         &mut self,
         setting: &TurnSetting<'_, R, C>,
@@ -60,13 +60,13 @@ pub(crate) trait TakeTurn {
         requires made { IsOf (working self.old).seat setting.now.board.now }
         requires free { (working self.old).seat.view.holds ≡ false }
         ensures acts { (own : List Action) × Acts setting.now.board.now own (working self.old) (working self.new) × IfOk result (λ n. n ≡ length own) }
-        ensures few { IfOk result (λ n. n ≤ max_events) }
+        ensures few { IfOk result (λ n. n ≤ max_actions) }
         ensures counted { CountsLoadsOf (working self.old).seat (working self.new).seat cells.old cells.new }
         ensures ends { OnOk result (EndsTurnWithin setting.now.bound cells.new.loads (working self.old).seat (working self.new).seat) };
 }
 
 /// One turn of each of these tasks, by so many workers. In its turn a task acts until it is done, or finds a member of the phaser on which it is
-/// published behind, or is refused, or finds the lock taken. It answers how many events happened by these tasks. The gate is called before each op. The
+/// published behind, or is refused, or finds the lock taken. It answers how many actions were made by these tasks. The gate is called before each op. The
 /// graph that is wanted matters where deadlock is avoided. After `NoMemory` each task stands where its own steps brought it.
 pub fn round<R: Threads + Sync, G: Gate>(
     rt: &R,

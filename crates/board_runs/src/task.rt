@@ -5,7 +5,7 @@ ghost use Rattle.armus_base.specs.Runs.{first_place};
 ghost use Rattle.board.specs.calls.Views.{own_place};
 ghost use Rattle.board.specs.calls.Seats.{IsOf, event_of};
 ghost use Rattle.phase_scan.specs.calls.Looks.{IsLook, LoadsAlone};
-ghost use Rattle.board_runs.specs.calls.Turns.{Acts, ActsNoMore, CountsEvents, CountsLoadsOf, EndsTurn, EndsTurnWithin, PausesAt, StandsAtAwait, in_64_bits, standing_of};
+ghost use Rattle.board_runs.specs.calls.Turns.{Acts, ActsNoMore, CountsActions, CountsLoadsOf, EndsTurn, EndsTurnWithin, PausesAt, StandsAtAwait, in_64_bits, standing_of};
 ghost use Rattle.board_runs.specs.inside.Tasks.{MakesSome};
 
 use crate::beginning::{Attempt, await_to_decide, begin};
@@ -30,8 +30,8 @@ pub enum Pause {
 /// What a stretch of a turn was.
 #[derive(Clone, Copy, Debug, PartialEq, Eq)]
 pub struct Acted {
-    /// How many events happened by the task.
-    pub events: u32,
+    /// How many actions the task made.
+    pub actions: u32,
     /// Why it acts no further.
     pub pause: Pause,
 }
@@ -44,8 +44,8 @@ pub struct Task<'p> {
     cursor: Cursor<'p>,
     // how many of its ops are begun
     begun: u32,
-    // how many events of its code it has made
-    events: u32,
+    // how many actions of its code it has made
+    actions: u32,
     refused: bool,
     children: Vec<TaskSeat>,
 }
@@ -75,7 +75,7 @@ impl<'p> Task<'p> {
             seat,
             cursor,
             begun: 0,
-            events: 0,
+            actions: 0,
             refused: false,
             children: Vec::new(alloc),
         }
@@ -102,7 +102,7 @@ impl<'p> Task<'p> {
         ensures { result ≡ standing_of self.now.seat }
     {
         Place {
-            events: self.events,
+            events: self.actions,
             refused: self.refused,
         }
     }
@@ -127,7 +127,7 @@ impl<'p> Task<'p> {
 
     /// A stretch of its turn: it acts until it has forked a task, or until its turn is over, as it is done, or is published and finds a member behind, or is
     /// refused, or finds the lock taken; once more loads than the bound were counted with these cells, its turn is over at the next await. It answers how many
-    /// events happened, and which of the two it was. The gate is called before each op that it tries. After `NoMemory` it stands where its own steps brought
+    /// actions were made, and which of the two it was. The gate is called before each op that it tries. After `NoMemory` it stands where its own steps brought
     /// it, and has forked nobody.
     pub fn act<R, C: Calls>(
         &mut self,
@@ -136,27 +136,27 @@ impl<'p> Task<'p> {
     ) -> Result<Acted, NoMemory>
         requires made { IsOf self.old.seat setting.now.board.now }
         requires free { self.old.seat.view.holds ≡ false }
-        ensures acts { (own : List Action) × Acts setting.now.board.now own self.old self.new × IfOk result (λ acted. acted.events ≡ length own) }
-        ensures few { (n : ℕ) → CountsEvents n self.old → IfOk result (λ acted. CountsEvents (n + acted.events) self.new) }
+        ensures acts { (own : List Action) × Acts setting.now.board.now own self.old self.new × IfOk result (λ acted. acted.actions ≡ length own) }
+        ensures few { (n : ℕ) → CountsActions n self.old → IfOk result (λ acted. CountsActions (n + acted.actions) self.new) }
         ensures pause { IfOk result (λ acted. PausesAt setting.now.bound cells.new.loads acted.pause self.old self.new) }
         ensures nobody { OnErr result (self.new.children ≡ self.old.children) }
         ensures counted { CountsLoadsOf self.old.seat self.new.seat cells.old cells.new }
     {
         let _ = self.seat.id();
         let had = self.children.len();
-        let mut events = 0;
+        let mut actions = 0;
         'act: while let Some(more) = self.go_on(setting, cells)? {
-            events += more;
+            actions += more;
             if self.children.len() > had {
                 let pause = Pause::Forked;
-                return Ok(Acted { events, pause });
+                return Ok(Acted { actions, pause });
             }
         }
         let pause = Pause::TurnOver;
-        Ok(Acted { events, pause })
+        Ok(Acted { actions, pause })
     }
 
-    // Makes its next event, if it may, and after a refusal its drops; answers how many events happened.
+    // Makes its next action, if it may, and after a refusal its drops; answers how many actions were made.
     fn go_on<R, C: Calls>(
         &mut self,
         setting: &TurnSetting<'_, R, C>,
@@ -189,7 +189,7 @@ impl<'p> Task<'p> {
             Attempt::Begun => {
                 let _op = self.cursor.next();
                 self.begun += 1;
-                self.events += 1;
+                self.actions += 1;
                 Ok(Some(1))
             }
             Attempt::Refused(drops) => {
@@ -223,7 +223,7 @@ impl<'p> Task<'p> {
         }
     }
 
-    // Passes the await on which it is published, if its event is reached; answers how many events happened.
+    // Passes the await on which it is published, if its event is reached; answers how many actions were made.
     fn pass(&mut self, board: &Board, cells: &mut WorkerCells) -> Option<u32>
         requires made { IsOf self.old.seat board.now }
         requires free { self.old.seat.view.holds ≡ false }
@@ -238,7 +238,7 @@ impl<'p> Task<'p> {
             Look::Behind { t: _, phase: _ } => None,
             Look::Reached => {
                 self.seat.withdraw(board);
-                self.events += 1;
+                self.actions += 1;
                 Some(1)
             }
         }
@@ -257,7 +257,7 @@ impl<'p> TakeTurn for Task<'p> {
         let mut made = 0;
         'turn: loop {
             let acted = self.act(setting, cells)?;
-            made += acted.events;
+            made += acted.actions;
             match acted.pause {
                 Pause::TurnOver => return Ok(made),
                 Pause::Forked => {}

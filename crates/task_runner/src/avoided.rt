@@ -51,7 +51,7 @@ pub fn run_avoid_kept<R: Threads + Sync, G: Gate>(
     avoid_by(rt, alloc, plan, options, Judging::Order, gate)
 }
 
-// The same, where awaits are judged so. On the board tasks take turns by rounds, until a round without an event, or until the board costs too much; in its turn
+// The same, where awaits are judged so. On the board tasks take turns by rounds, until a round in which nobody acts, or until the board costs too much; in its turn
 // a task decides on each await under the lock of the board. Then one viewer takes all seats in and the board is closed; from the places at which its tasks
 // stood the run goes on in one thread until no task may go on.
 fn avoid_by<R: Threads + Sync, G: Gate>(

@@ -54,7 +54,7 @@ impl<'p> BoardRun<'p> {
         })
     }
 
-    /// Rounds until all tasks have come to the end of their turns: until one in which no event happens or, where there is no pass beside them, one in which
+    /// Rounds until all tasks have come to the end of their turns: until one in which nobody acts or, where there is no pass beside them, one in which
     /// nobody was forked once the board costs too much.
     pub(crate) fn go<R: Threads + Sync, G: Gate, O: Send, B: Beside<O> + Send>(
         &mut self,
@@ -99,7 +99,7 @@ impl<'p> BoardRun<'p> {
         passed?;
         match made {
             Ok(made) => {
-                self.round_workers.note(made.events);
+                self.round_workers.note(made.actions);
                 Ok(goes_on(made, self.board_tasks.loads(), beside.is_there()))
             }
             Err(error) => Err(B::early(error)),

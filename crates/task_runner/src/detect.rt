@@ -21,7 +21,7 @@ use std::alloc::Global;
 use std::thread::Threads;
 use world_runs::world_end_from;
 
-/// Runs the plan on a board that detects deadlock. Its tasks take turns by rounds, with the given number of workers, until a round without an event or,
+/// Runs the plan on a board that detects deadlock. Its tasks take turns by rounds, with the given number of workers, until a round in which nobody acts or,
 /// without `live`, until the board costs too much; with `live` a detector makes one pass beside each round, and each task that it is the first to name has
 /// its line. Then one viewer takes all seats in, the detector makes one more pass, which names just the tasks that are dead by then, and the board is closed;
 /// from the places at which its tasks stood the run goes on in one thread until no task may go on, and with `live` whoever is dead then and was not named has

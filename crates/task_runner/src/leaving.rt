@@ -27,15 +27,15 @@ pub(crate) fn bound_on_loads(board: &Board, with_pass: bool) -> u64
     }
 }
 
-/// Whether another round on the board is to come after this one, where the awaits so far have loaded so many words. None comes after a round without an event
+/// Whether another round on the board is to come after this one, where the awaits so far have loaded so many words. None comes after a round in which nobody acted
 /// and, where these are too many and there is no pass beside the rounds, none after a round in which nobody was forked.
 pub(crate) fn goes_on(made: Rounded, loads: u64, with_pass: bool) -> bool
-    requires quiet { made.events ≡ 0 → made.forked ≡ false }
-    ensures moved { result ≡ true → 0 < made.events }
+    requires quiet { made.actions ≡ 0 → made.forked ≡ false }
+    ensures moved { result ≡ true → 0 < made.actions }
     ensures ended { result ≡ false → made.forked ≡ false }
-    ensures stays { with_pass ≡ true → result ≡ false → made.events ≡ 0 }
+    ensures stays { with_pass ≡ true → result ≡ false → made.actions ≡ 0 }
 {
-    if made.events == 0 {
+    if made.actions == 0 {
         return false;
     }
     if with_pass {

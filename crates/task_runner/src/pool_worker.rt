@@ -198,7 +198,7 @@ impl<'p, N: BoardName> PoolWorker<'p, N> {
         let mut found = Sweep::Quiet;
         for _ in 0..u64::MAX {
             let (acted, child) = task.act(setting, self.plan, &mut self.cells)?;
-            if acted.events > 0 {
+            if acted.actions > 0 {
                 found = Sweep::Moved;
             }
             self.place(pool, child)?;

@@ -26,7 +26,7 @@ use std::thread::Threads;
 use world_runs::world_end_from;
 
 /// Runs the plan on a board that detects deadlock, its tasks spread over so many sites: site s has the tasks t with t mod `sites` = s. The tasks take
-/// turns by rounds, with the given number of workers, until a round without an event. Beside each round goes one pass over all sites: each puts what its
+/// turns by rounds, with the given number of workers, until a round in which nobody acts. Beside each round goes one pass over all sites: each puts what its
 /// viewer finds of its tasks, and then the rows of all are checked. From the places at which the tasks stood then the run goes on in one thread until no
 /// task may go on; each site's part of the statuses of that state, with all their phases, is put, and all rows are checked once more. The gate is called
 /// before each op. At every answer each row that is held stores statuses of its site that are backed by the places of a lawful state. Fault comes exactly

@@ -3,7 +3,7 @@
 // how many rounds in a row with little work are tried by several workers
 const LITTLE_ROUNDS: u32 = 1_000;
 
-// a round of fewer events than this has little work
+// a round of fewer actions than this has little work
 const LITTLE_WORK: u32 = 64;
 
 /// How many rounds in a row had little work. To start threads takes longer than such a round, so after many of them rounds go by one worker, until one has
@@ -29,9 +29,9 @@ impl RoundWorkers {
         if self.wants_threads() { most } else { 1 }
     }
 
-    /// Notes how many events a round had.
-    pub fn note(&mut self, events: u32) {
-        self.little = if events < LITTLE_WORK {
+    /// Notes how many actions a round had.
+    pub fn note(&mut self, actions: u32) {
+        self.little = if actions < LITTLE_WORK {
             self.little.saturating_add(1)
         } else {
             0

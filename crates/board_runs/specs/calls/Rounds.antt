@@ -31,7 +31,7 @@ pub record MakesRound (bound : ℕ) (board : Frame) (before now : List Working) 
   pub each : EachActs board owns before turned
   pub ends : EachEndsTurn bound before turned
   pub joined : IsPermutation (map emptied turned ++ flat_map fresh_of turned) now
-  pub events : told.events ≡ in_32_bits (sum_by length owns)
+  pub actions : told.actions ≡ in_32_bits (sum_by length owns)
   pub forked : told.forked ≡ true ↔ (all_forked owns ≢ [])
 
 -- A round of the tasks of a run: those that live have made it, and those that had ended before are as they were; whoever acts no more then lives no more.

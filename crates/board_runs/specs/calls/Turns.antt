@@ -64,12 +64,12 @@ pub record Acts (board : Frame) (own : List Action) (before now : Working) : Typ
   pub children : now.children ≡ before.children ++ new
   pub seats : AreChildSeats board (tasks_forked own) new
 
--- how many events a task may make: two for each op, and a refusal and a drop of each phaser
-abbrev pub max_events : ℕ
-max_events = 2 * max_ops + (max_phasers + 1)
+-- how many actions a task may make: two for each op, and a refusal and a drop of each phaser
+abbrev pub max_actions : ℕ
+max_actions = 2 * max_ops + (max_phasers + 1)
 
--- How many events of a task are counted: no more than the actions that it has done, and then a refusal and a drop of each phaser.
-pub record CountsEvents (counted : ℕ) (now : Working) : Type 0 where
+-- How many actions of a task are counted: no more than the actions that it has done, and then a refusal and a drop of each phaser.
+pub record CountsActions (counted : ℕ) (now : Working) : Type 0 where
   pub unrefused : (own_place now.seat.view).dropped ≡ None → counted ≤ (own_place now.seat.view).done
   pub few : counted ≤ length (actions now.seat.view.plan (task_of now.seat.view)) + (max_phasers + 1)
 
@@ -201,5 +201,5 @@ in_32_bits n = min n (2 ^ 32 - 1)
 pub record TakesTurns {E : Type 0} (bound : ℕ) (board : Frame) (befores nows : List Working) (counted : Result ℕ E) : Type 0 where
   pub owns : List (List Action)
   pub each : EachActs board owns befores nows
-  pub events : IfOk counted (λ n. n ≡ in_32_bits (sum_by length owns))
+  pub actions : IfOk counted (λ n. n ≡ in_32_bits (sum_by length owns))
   pub ends : OnOk counted (EachEndsTurn bound befores nows)

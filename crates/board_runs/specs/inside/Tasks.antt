@@ -18,16 +18,16 @@ pub record AreLeft (ops : List Op) (seat : Known) : Type 0 where
   pub unrefused : (own_place seat.view).dropped ≡ None
   pub left : drop (own_place seat.view).done (actions seat.view.plan (task_of seat.view)) ≡ left_of (event_of seat) ops
 
--- The seat's task has made so many events of its code; and it is refused and a member of nothing, or has begun all ops but these.
-pub record HasCome (seat : Known) (ops : List Op) (events : ℕ) (refused : Bool) : Type 0 where
-  pub events_are : events ≡ (own_place seat.view).done
+-- The seat's task has made so many actions of its code; and it is refused and a member of nothing, or has begun all ops but these.
+pub record HasCome (seat : Known) (ops : List Op) (count : ℕ) (refused : Bool) : Type 0 where
+  pub made_is : count ≡ (own_place seat.view).done
   pub ops_are : refused ≡ false → AreLeft ops seat
   pub gone : refused ≡ true → HasLeftAll seat
 
 -- its fields tell how far it has come, and each op that it has begun was an event
 pub record IsWorking (t : Inside) : Type 0 where
-  pub come : HasCome t.seat t.cursor t.events t.refused
-  pub begun : t.begun ≤ t.events
+  pub come : HasCome t.seat t.cursor t.actions t.refused
+  pub begun : t.begun ≤ t.actions
 
 -- a task has made so many steps, one at least: one step of its code, by which it forks one task at most, or a refusal and a drop of each of its phasers
 pub record MakesSome (board : Frame) (made : ℕ) (before now : Working) : Type 0 where

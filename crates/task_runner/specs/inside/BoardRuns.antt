@@ -34,6 +34,6 @@ pub record HaveAllEnded (board : Frame) (with_pass : Bool) (tasks : Tasks) : Typ
 pub record HasHadRound (board : Frame) (plan : Plan) (with_pass : Bool) (before now : Tasks) (made : Rounded) : Type 0 where
   pub on_board : IsOnBoard board plan now
   pub round : HasRound (bound_on board with_pass) board before now made
-  pub further : 0 < made.events → left_to board.plan now < left_to board.plan before
-  pub quiet : made.events ≡ 0 → made.forked ≡ false
+  pub further : 0 < made.actions → left_to board.plan now < left_to board.plan before
+  pub quiet : made.actions ≡ 0 → made.forked ≡ false
   pub ends : made.forked ≡ false → HaveAllEnded board with_pass now

@@ -14,7 +14,7 @@ use Rattle.board_runs.proofs.board_tasks.go_round.Goals as goal
 
 pub take_on-requires : goal.take_on-requires
 take_on-requires g c =
-    let turns = of_itself c.args.setting.now.bound c.args.setting.now.board.now c.as_mut_slice-turned.result.now c.take_turns.new.tasks (Ok c.in_ok-events.events) c.in_ok-events.ensures.turns in
+    let turns = of_itself c.args.setting.now.bound c.args.setting.now.board.now c.as_mut_slice-turned.result.now c.take_turns.new.tasks (Ok c.in_ok-actions.actions) c.in_ok-actions.ensures.turns in
     let olds : c.as_mut_slice-turned.result.now ≡ c.args.tasks.now.items = c.as_mut_slice-turned.ensures.value in
     let none = subst (λ (ws : List Working). All (λ (w : Working). w.children ≡ []) ws) (sym olds) c.requires.no_child in
     let whole = take_front c.take_turns.new.tasks (drop (length c.take_turns.new.tasks) c.args.tasks.now.items) c.args.tasks.now.len (search rules) in record {
@@ -30,7 +30,7 @@ returns g c =
     let board = c.args.setting.now.board.now in
     let turned = c.take_turns.new.tasks in
     let olds : c.as_mut_slice-turned.result.now ≡ c.args.tasks.now.items = c.as_mut_slice-turned.ensures.value in
-    let turns = of_itself bound board c.as_mut_slice-turned.result.now turned (Ok c.in_ok-events.events) c.in_ok-events.ensures.turns in
+    let turns = of_itself bound board c.as_mut_slice-turned.result.now turned (Ok c.in_ok-actions.actions) c.in_ok-actions.ensures.turns in
     let each = subst (λ (ws : List Working). EachActs board turns.owns ws turned) olds turns.each in
     let whole = take_front turned (drop (length turned) c.args.tasks.now.items) c.args.tasks.now.len (search rules) in
     record {
@@ -40,7 +40,7 @@ returns g c =
         each = each;
         ends = subst (λ (ws : List Working). EachEndsTurn bound ws turned) olds turns.ends;
         joined = subst (λ (ws : List Working). IsPermutation (map emptied ws ++ flat_map fresh_of ws) c.take_on.new.tasks.items) whole c.in_ok-forked.ensures.joined;
-        events = turns.events;
+        actions = turns.actions;
         forked =
             same_forked c.in_ok-forked.forked (flat_map fresh_of turned) (all_forked turns.owns)
             (forks_counted each (to_each (λ (w : Working). w.children ≡ []) c.args.tasks.now.items c.requires.no_child))

@@ -6,7 +6,7 @@ use Rattle.board_runs.proofs.Rounding.{IsSoFar, all_each, all_end, at_rest, coun
 use Rattle.board_runs.proofs.rounds.take_turns_in_order.Goals as goal
 
 pub loop-task-init : goal.loop-task-init
-loop-task-init g c = record { owns = []; total = 0; so_far = at_rest; counted = omega arith; events = refl }
+loop-task-init g c = record { owns = []; total = 0; so_far = at_rest; counted = omega arith; actions = refl }
 
 pub turn-requires : goal.turn-requires
 turn-requires g c =
@@ -64,8 +64,8 @@ loop-task-preserved g c =
           (next_done made acts.0 (working d) is i.so_far less now
           (subst (λ (w : Working). is.seat.view.loads ≡ w.seat.view.loads + made) (sym (map_get working c.loop-task.tasks n d)) more)
           (subst (λ (w : Working). EndsTurnWithin c.args.setting.now.bound (i.total + made) w.seat is.seat) (sym (map_get working c.loop-task.tasks n d)) ends)));
-      events =
-          c.saturating_add-made.ensures ∙ ap (λ a. in_32_bits (a + c.in_ok-turn.field-0)) i.events ∙ count_more (sum_by length i.owns) c.in_ok-turn.field-0
+      actions =
+          c.saturating_add-made.ensures ∙ ap (λ a. in_32_bits (a + c.in_ok-turn.field-0)) i.actions ∙ count_more (sum_by length i.owns) c.in_ok-turn.field-0
           ∙ ap (λ k. in_32_bits (sum_by length i.owns + k)) acts.2 ∙ ap in_32_bits (sym (sum_by_push length i.owns acts.0));
     }
 
@@ -79,7 +79,7 @@ returns g c =
       turns = record {
         owns = i.owns;
         each = all_each i.so_far all;
-        events = i.events;
+        actions = i.actions;
         ends = by_one_worker (all_end i.so_far all);
       };
     }

@@ -11,5 +11,5 @@ invariant-loop-task g l = record {
   total : ℕ;
   so_far : IsSoFar l.setting.bound l.setting.board.now l.task-index 0 total owns (map g.T.TakeTurn.working l.initial.tasks) (map g.T.TakeTurn.working l.tasks);
   counted : l.cells.loads ≤ l.initial.cells.loads + total;
-  events : l.made ≡ in_32_bits (sum_by length owns);
+  actions : l.made ≡ in_32_bits (sum_by length owns);
 }

@@ -1,9 +1,9 @@
 use Rattle.std.proofs.Common.{◌≡◌, ℕ, ◌<◌, ◌≤◌, ◌+◌, ◌∙◌, [], ◌++◌, rules, length, length-append, sym, refl, ap, subst, arith, append-nil}
 use Rattle.board.specs.calls.Seats.{IsSeat}
 use Rattle.std.specs.Prelude.{IfSome}
-use Rattle.board_runs.specs.calls.Turns.{CountsEvents, Working}
+use Rattle.board_runs.specs.calls.Turns.{CountsActions, Working}
 use Rattle.board_runs.specs.inside.Tasks.{MakesSome}
-use Rattle.board_runs.proofs.Counting.{counts_nothing, counts_on, counts_still, few_events, leaves_less}
+use Rattle.board_runs.proofs.Counting.{counts_nothing, counts_on, counts_still, few_in_turn, leaves_less}
 use Rattle.board_runs.proofs.Goings.{HasActed, acted_not, acted_on, acts_on, no_child_made, none_in, one_in}
 use Rattle.board_runs.proofs.Halting.{ends_since_within}
 use Rattle.board_runs.proofs.task.Task.act.Goals as goal
@@ -15,7 +15,7 @@ act-init g c =
       own = [];
       acted =
           acted_not c.args.setting.now.board.now w (subst (λ (x : Working). IsSeat x.seat) c.self.view_is c.id.ensures.seat) c.requires.made c.requires.free;
-      counts = λ n h. subst (λ k. CountsEvents k w) (let z : n ≡ n + 0 = omega arith in z) h;
+      counts = λ n h. subst (λ k. CountsActions k w) (let z : n ≡ n + 0 = omega arith in z) h;
       nobody = refl;
       had = (let v = c.len-had.ensures in let l = ap (λ (x : Working). length x.children) c.self.view_is in omega arith);
       loads = omega arith;
@@ -40,24 +40,24 @@ module _ (g : _) (c : In-Some g) where
   made : MakesSome c.args.setting.now.board.now c.in-Some.more c.act.self c.go_on.new.self
   made = subst (λ o. IfSome o (λ n. MakesSome c.args.setting.now.board.now n c.act.self c.go_on.new.self)) c.in-Some.is c.in_ok-more.ensures.some
 
-  all : HasActed c.args.setting.now.board.now (c.act.invariant.own ++ made.own) (c.act.events + c.in-Some.more) c.args.self.now c.go_on.new.self
+  all : HasActed c.args.setting.now.board.now (c.act.invariant.own ++ made.own) (c.act.actions + c.in-Some.more) c.args.self.now c.go_on.new.self
   all =
-      acted_on c.args.setting.now.board.now c.act.invariant.own made.own c.act.events c.in-Some.more c.args.self.now c.act.self c.go_on.new.self
+      acted_on c.args.setting.now.board.now c.act.invariant.own made.own c.act.actions c.in-Some.more c.args.self.now c.act.self c.go_on.new.self
       c.act.invariant.acted made.acts made.counted
 
-  counts : (n : ℕ) → CountsEvents n c.args.self.now → CountsEvents (n + (c.act.events + c.in-Some.more)) c.go_on.new.self
+  counts : (n : ℕ) → CountsActions n c.args.self.now → CountsActions (n + (c.act.actions + c.in-Some.more)) c.go_on.new.self
   counts n h =
-      subst (λ k. CountsEvents k c.go_on.new.self) (let z : (n + c.act.events) + c.in-Some.more ≡ n + (c.act.events + c.in-Some.more) = omega arith in z)
-      (counts_on c.args.setting.now.board.now (n + c.act.events) c.in-Some.more c.act.self c.go_on.new.self (c.act.invariant.counts n h) made)
+      subst (λ k. CountsActions k c.go_on.new.self) (let z : (n + c.act.actions) + c.in-Some.more ≡ n + (c.act.actions + c.in-Some.more) = omega arith in z)
+      (counts_on c.args.setting.now.board.now (n + c.act.actions) c.in-Some.more c.act.self c.go_on.new.self (c.act.invariant.counts n h) made)
 
   grown : c.go_on.new.self.children ≡ c.args.self.now.children ++ made.acts.new
   grown = made.acts.children ∙ ap (λ ks. ks ++ made.acts.new) c.act.invariant.nobody
 
-pub overflow_add-events : goal.overflow_add-events
-overflow_add-events g c =
-    let at = (goal.at.overflow_add-events g c).In-Some in
+pub overflow_add-actions : goal.overflow_add-actions
+overflow_add-actions g c =
+    let at = (goal.at.overflow_add-actions g c).In-Some in
     let counted = counts g at 0 (counts_nothing c.args.self.now) in
-    let l = few_events (0 + (c.act.events + c.in-Some.more)) c.go_on.new.self (made g at).acts.goes.kept.checked counted in
+    let l = few_in_turn (0 + (c.act.actions + c.in-Some.more)) c.go_on.new.self (made g at).acts.goes.kept.checked counted in
     omega arith
 
 pub returns-then-len-had-clause-acts : goal.returns-then-len-had-clause-acts
@@ -111,7 +111,7 @@ returns-clause-acts g c =
 pub returns-clause-few : goal.returns-clause-few
 returns-clause-few g c = λ n h.
     let i = c.act.invariant in
-    counts_still c.args.setting.now.board.now (n + c.act.events) c.act.self c.go_on.new.self (i.counts n h) (c.in_ok-more.ensures.none c.in_default.is).0
+    counts_still c.args.setting.now.board.now (n + c.act.actions) c.act.self c.go_on.new.self (i.counts n h) (c.in_ok-more.ensures.none c.in_default.is).0
 
 pub returns-clause-pause : goal.returns-clause-pause
 returns-clause-pause g c =

@@ -31,8 +31,8 @@ before g c =
     (left_free c.self.inside.cursor c.self.inside.seat (c.self.invariant.come.ops_are c.if-self.false) (free g c)) c.id-t.ensures.task c.id-t.ensures.seat (sym c.is_some.ensures ∙ c.if-is_some.false)
     (c.event.ensures ∙ ap (λ (w : Working). event_of w.seat) c.self.view_is) (next_left c.self.inside.cursor c.in-Some.op (sym c.peek.ensures.next ∙ c.in-Some.is))
 
-come : (g : _) (c : In-Some g) → HasCome c.self.inside.seat c.self.inside.cursor c.self.inside.events false
-come g c = subst (HasCome c.self.inside.seat c.self.inside.cursor c.self.inside.events) c.if-self.false c.self.invariant.come
+come : (g : _) (c : In-Some g) → HasCome c.self.inside.seat c.self.inside.cursor c.self.inside.actions false
+come g c = subst (HasCome c.self.inside.seat c.self.inside.cursor c.self.inside.actions) c.if-self.false c.self.invariant.come
 
 pub begin-requires : goal.begin-requires
 begin-requires g c =
@@ -57,7 +57,7 @@ returns-in_err-begin-clause-err g c =
     let e = c.in_err-begin.ensures in
     failed c.from_residual.result _
     (subst (λ (w : Working). Acts c.args.setting.now.board.now [] w (record { seat = c.begin.new.seat; children = c.begin.new.children.items })) c.self.view_is
-    (nothing_acts c.args.setting.now.board.now c.self.inside.cursor c.self.inside.events c.self.inside.seat c.begin.new.seat c.self.inside.children.items
+    (nothing_acts c.args.setting.now.board.now c.self.inside.cursor c.self.inside.actions c.self.inside.seat c.begin.new.seat c.self.inside.children.items
     c.begin.new.children.items c.in-Some.op _ (come g at) (before g at) e.same_children e.same))
 
 pub returns-in-LockedOut-clause-none : goal.returns-in-LockedOut-clause-none
@@ -65,7 +65,7 @@ returns-in-LockedOut-clause-none g c = λ _.
     let at = (goal.at.returns-in-LockedOut-clause-none g c).In-Some in
     let new = c.in_ok-begin.ensures.children in
     let tried = subst (λ a. BeginsOp c.in-Some.op c.self.inside.seat c.begin.new.seat a) c.in-LockedOut.is c.in_ok-begin.ensures.begins in
-    let r = locked_out c.args.setting.now.board.now c.self.inside.cursor c.self.inside.events c.self.inside.seat c.begin.new.seat c.self.inside.children.items
+    let r = locked_out c.args.setting.now.board.now c.self.inside.cursor c.self.inside.actions c.self.inside.seat c.begin.new.seat c.self.inside.children.items
     c.begin.new.children.items c.in-Some.op _ (come g at) (before g at) new.0 new.1 new.2 tried in
     let both = subst (λ (w : Working). Acts c.args.setting.now.board.now [] w (record { seat = c.begin.new.seat; children = c.begin.new.children.items }) × EndsTurn w.seat c.begin.new.seat)
     c.self.view_is r.0 in
@@ -75,7 +75,7 @@ pub overflow_add-self : goal.overflow_add-self
 overflow_add-self g c =
     let at = (goal.at.overflow_add-self g c).In-Some in
     let new = c.in_ok-begin.ensures.children in
-    let fits = begun_fits c.args.setting.now.board.now c.self.inside.cursor c.self.inside.events c.self.inside.seat c.begin.new.seat c.self.inside.children.items
+    let fits = begun_fits c.args.setting.now.board.now c.self.inside.cursor c.self.inside.actions c.self.inside.seat c.begin.new.seat c.self.inside.children.items
     c.begin.new.children.items c.in-Some.op _ (come g at) (before g at) new.0 new.1 new.2 in
     let few = c.self.invariant.begun in
     omega arith
@@ -84,7 +84,7 @@ pub overflow_add-self-in-Begun : goal.overflow_add-self-in-Begun
 overflow_add-self-in-Begun g c =
     let at = (goal.at.overflow_add-self-in-Begun g c).In-Some in
     let new = c.in_ok-begin.ensures.children in
-    let fits = begun_fits c.args.setting.now.board.now c.self.inside.cursor c.self.inside.events c.self.inside.seat c.begin.new.seat c.self.inside.children.items
+    let fits = begun_fits c.args.setting.now.board.now c.self.inside.cursor c.self.inside.actions c.self.inside.seat c.begin.new.seat c.self.inside.children.items
     c.begin.new.children.items c.in-Some.op _ (come g at) (before g at) new.0 new.1 new.2 in
     omega arith
 
@@ -95,9 +95,9 @@ invariant_of-self-in-Begun g c =
     let tried = subst (λ a. BeginsOp c.in-Some.op c.self.inside.seat c.begin.new.seat a) c.in-Begun.is c.in_ok-begin.ensures.begins in
     let rest = left_behind c.next-op.result c.self.inside.cursor c.next-op.new.self c.next-op.ensures.some c.next-op.ensures.none in
     record {
-      come = subst (λ (ops : List Op). HasCome c.begin.new.seat ops (c.self.inside.events + 1) c.self.inside.refused) (sym rest)
-          (subst (HasCome c.begin.new.seat (drop 1 c.self.inside.cursor) (c.self.inside.events + 1)) (sym c.if-self.false)
-          (begun_come c.args.setting.now.board.now c.self.inside.cursor c.self.inside.events c.self.inside.seat c.begin.new.seat c.self.inside.children.items
+      come = subst (λ (ops : List Op). HasCome c.begin.new.seat ops (c.self.inside.actions + 1) c.self.inside.refused) (sym rest)
+          (subst (HasCome c.begin.new.seat (drop 1 c.self.inside.cursor) (c.self.inside.actions + 1)) (sym c.if-self.false)
+          (begun_come c.args.setting.now.board.now c.self.inside.cursor c.self.inside.actions c.self.inside.seat c.begin.new.seat c.self.inside.children.items
           c.begin.new.children.items c.in-Some.op _ (come g at) (before g at) new.0 new.1 new.2 tried));
       begun = (let l = c.self.invariant.begun in omega arith);
     }
@@ -108,7 +108,7 @@ returns-in-Begun-clause-some g c =
     let new = c.in_ok-begin.ensures.children in
     let tried = subst (λ a. BeginsOp c.in-Some.op c.self.inside.seat c.begin.new.seat a) c.in-Begun.is c.in_ok-begin.ensures.begins in
     subst (λ (w : Working). MakesSome c.args.setting.now.board.now 1 w (record { seat = c.begin.new.seat; children = c.begin.new.children.items })) c.self.view_is
-    (begun_makes c.args.setting.now.board.now c.self.inside.cursor c.self.inside.events c.self.inside.seat c.begin.new.seat c.self.inside.children.items
+    (begun_makes c.args.setting.now.board.now c.self.inside.cursor c.self.inside.actions c.self.inside.seat c.begin.new.seat c.self.inside.children.items
     c.begin.new.children.items c.in-Some.op _ (come g at) (before g at) new.0 new.1 new.2 tried)
 
 pub overflow_add-result : goal.overflow_add-result
@@ -116,7 +116,7 @@ overflow_add-result g c =
     let at = (goal.at.overflow_add-result g c).In-Some in
     let new = c.in_ok-begin.ensures.children in
     let tried = subst (λ a. BeginsOp c.in-Some.op c.self.inside.seat c.begin.new.seat a) c.in-Refused.is c.in_ok-begin.ensures.begins in
-    let fits = refused_fits c.args.setting.now.board.now c.self.inside.cursor c.self.inside.events c.self.inside.seat c.begin.new.seat c.self.inside.children.items
+    let fits = refused_fits c.args.setting.now.board.now c.self.inside.cursor c.self.inside.actions c.self.inside.seat c.begin.new.seat c.self.inside.children.items
     c.begin.new.children.items c.in-Some.op _ (come g at) (before g at) new.0 new.1 new.2 c.in-Refused.drops tried in
     omega arith
 
@@ -127,7 +127,7 @@ invariant_of-self-in-Refused g c =
     let tried = subst (λ a. BeginsOp c.in-Some.op c.self.inside.seat c.begin.new.seat a) c.in-Refused.is c.in_ok-begin.ensures.begins in
     record {
       come =
-          refused_come c.args.setting.now.board.now c.self.inside.cursor c.self.inside.events c.self.inside.seat c.begin.new.seat c.self.inside.children.items
+          refused_come c.args.setting.now.board.now c.self.inside.cursor c.self.inside.actions c.self.inside.seat c.begin.new.seat c.self.inside.children.items
           c.begin.new.children.items c.in-Some.op _ (come g at) (before g at) new.0 new.1 new.2 c.in-Refused.drops tried;
       begun = c.self.invariant.begun;
     }
@@ -138,7 +138,7 @@ returns-in-Refused-clause-some g c =
     let new = c.in_ok-begin.ensures.children in
     let tried = subst (λ a. BeginsOp c.in-Some.op c.self.inside.seat c.begin.new.seat a) c.in-Refused.is c.in_ok-begin.ensures.begins in
     subst (λ (w : Working). MakesSome c.args.setting.now.board.now (c.in-Refused.drops + 1) w (record { seat = c.begin.new.seat; children = c.begin.new.children.items })) c.self.view_is
-    (refused_makes c.args.setting.now.board.now c.self.inside.cursor c.self.inside.events c.self.inside.seat c.begin.new.seat c.self.inside.children.items
+    (refused_makes c.args.setting.now.board.now c.self.inside.cursor c.self.inside.actions c.self.inside.seat c.begin.new.seat c.self.inside.children.items
     c.begin.new.children.items c.in-Some.op _ (come g at) (before g at) new.0 new.1 new.2 c.in-Refused.drops tried)
 
 pub returns-then-self-clause-none : goal.returns-then-self-clause-none

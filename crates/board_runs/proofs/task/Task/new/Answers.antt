@@ -13,7 +13,7 @@ pub invariant_of-result : goal.invariant_of-result
 invariant_of-result c =
     record {
       come = record {
-        events_are = ap (λ (x : Place). x.done) (sym c.requires.first);
+        made_is = ap (λ (x : Place). x.done) (sym c.requires.first);
         ops_are = λ _.
             left_first c.args.seat c.id.result.0 c.args.plan.now c.cursor-cursor.result c.id.ensures.task c.requires.plan c.cursor-cursor.ensures.code c.requires.first;
         gone = λ e. absurd (false≢true e);

@@ -2,7 +2,7 @@ use Rattle.std.proofs.Common.{◌+◌, [], ◌++◌, rules, subst, arith}
 use Rattle.board.specs.calls.Seats.{IsSeat}
 use Rattle.board_runs.specs.declared.task.Pause.{Pause}
 use Rattle.board_runs.specs.calls.Turns.{PausesAt, Working}
-use Rattle.board_runs.proofs.Counting.{counts_nothing, few_events, forked_some, leaves_by}
+use Rattle.board_runs.proofs.Counting.{counts_nothing, few_in_turn, forked_some, leaves_by}
 use Rattle.board_runs.proofs.Goings.{acted_not, acted_on, acts_on}
 use Rattle.board_runs.proofs.Halting.{ends_since_within}
 use Rattle.board_runs.proofs.task.TaskTakeTurn.turn.Goals as goal
@@ -30,7 +30,7 @@ pub overflow_add-made : goal.overflow_add-made
 overflow_add-made g c =
     let i = c.turn.invariant in
     let a = c.in_ok-acted.ensures.acts in
-    let l = few_events (c.turn.made + c.in_ok-acted.acted.events) c.act.new.self a.1.goes.kept.checked (c.in_ok-acted.ensures.few c.turn.made i.counts) in
+    let l = few_in_turn (c.turn.made + c.in_ok-acted.acted.actions) c.act.new.self a.1.goes.kept.checked (c.in_ok-acted.ensures.few c.turn.made i.counts) in
     omega arith
 
 pub turn-smaller : goal.turn-smaller
@@ -44,7 +44,7 @@ turn-preserved g c =
     let i = c.turn.invariant in
     let a = c.in_ok-acted.ensures.acts in record {
       own = i.own ++ a.0;
-      acted = acted_on c.args.setting.now.board.now i.own a.0 c.turn.made c.in_ok-acted.acted.events c.args.self.now c.turn.self c.act.new.self i.acted a.1 a.2;
+      acted = acted_on c.args.setting.now.board.now i.own a.0 c.turn.made c.in_ok-acted.acted.actions c.args.self.now c.turn.self c.act.new.self i.acted a.1 a.2;
       counts = c.in_ok-acted.ensures.few c.turn.made i.counts;
       loads = (let was = i.loads in let more = c.act.ensures.counted in omega arith);
     }
@@ -54,14 +54,14 @@ returns-in-TurnOver-clause-acts g c =
     let i = c.turn.invariant in
     let a = c.in_ok-acted.ensures.acts in
     let f = c.args.setting.now.board.now in
-    let all = acted_on f i.own a.0 c.turn.made c.in_ok-acted.acted.events c.args.self.now c.turn.self c.act.new.self i.acted a.1 a.2 in
+    let all = acted_on f i.own a.0 c.turn.made c.in_ok-acted.acted.actions c.args.self.now c.turn.self c.act.new.self i.acted a.1 a.2 in
     (i.own ++ a.0, all.acts, all.counted)
 
 pub returns-in-TurnOver-clause-few : goal.returns-in-TurnOver-clause-few
 returns-in-TurnOver-clause-few g c =
     let i = c.turn.invariant in
     let a = c.in_ok-acted.ensures.acts in
-    let l = few_events (c.turn.made + c.in_ok-acted.acted.events) c.act.new.self a.1.goes.kept.checked (c.in_ok-acted.ensures.few c.turn.made i.counts) in
+    let l = few_in_turn (c.turn.made + c.in_ok-acted.acted.actions) c.act.new.self a.1.goes.kept.checked (c.in_ok-acted.ensures.few c.turn.made i.counts) in
     omega arith
 
 pub returns-in-TurnOver-clause-ends : goal.returns-in-TurnOver-clause-ends
