@@ -19,7 +19,7 @@ use Rattle.armus_top.specs.inside.Answers.{AnswersBy, IsClockInputEnd, IsEnd, Is
 use Rattle.armus_top.specs.inside.Reading.{EndsUnread, IsReadFor}
 use Rattle.program_io.specs.calls.ExitNumbers.{number_of_status}
 use Rattle.program_io.specs.calls.Writing.{Finished}
-use Rattle.armus_top.specs.inside.Writing.{Answered, LeavesNothing, LeavesOutput, Refuses, RefusesClocks, nothing, wrote}
+use Rattle.armus_top.specs.inside.Writing.{Answered, LeavesNothing, LeavesOutput, TellsRefusal, RefusesClocks, nothing, wrote}
 use Rattle.armus_top.proofs.WaysToEnd.{ends_left, ends_without_input, leaves_one_of_more}
 
 -- why a text has no plan is why a command has no answer that refuses its input for the faults of a text

@@ -18,7 +18,7 @@ use Rattle.adaptive.proofs.DeadOrNot.{dead_list_exists}
 use Rattle.schedule.specs.declared.lines.Line.{Line}
 use Rattle.schedule.specs.declared.verdict.PassVerdict.{PassVerdict}
 use Rattle.schedule.specs.declared.verdict.Replayed.{Replayed}
-use Rattle.schedule.specs.Passes.{Loads, statuses_found}
+use Rattle.schedule.specs.Passes.{PassLoads, statuses_found}
 use Rattle.schedule.specs.Replays.{LinesLead, Progress}
 use Rattle.schedule.specs.Replaying.{AreDeadIn, AreVerdicts, IsReplayed, no_pass, one_pass}
 use Rattle.schedule.specs.Split.{IsSplit}
@@ -38,7 +38,7 @@ use Rattle.armus_top.proofs.WholeOutputs.{IsMet, refused}
 use Rattle.armus_top.proofs.RecordsMet.{ends_or_not}
 
 verdicts_from :
-    (plan : Plan) (before rest : List Loads) (verdicts : List PassVerdict) → AreVerdicts plan before verdicts →
+    (plan : Plan) (before rest : List PassLoads) (verdicts : List PassVerdict) → AreVerdicts plan before verdicts →
     (all : List PassVerdict) × AreVerdicts plan (before ++ rest) all
 verdicts_from plan before [] verdicts are = (verdicts, subst (λ ps. AreVerdicts plan ps verdicts) (sym (append-nil before)) are)
 verdicts_from plan before (loads ∷ rest) verdicts are =

@@ -9,7 +9,7 @@ use Rattle.schedule.specs.declared.verdict.Replayed.{Replayed}
 use Rattle.schedule.specs.Lines.{IsSchedule}
 use Rattle.schedule.specs.Split.{IsSplit}
 use Rattle.schedule.specs.Laws.{NamesTheDead}
-use Rattle.schedule.specs.Passes.{Loads}
+use Rattle.schedule.specs.Passes.{PassLoads}
 use Rattle.schedule.specs.Replays.{IsFirstFault}
 use Rattle.schedule.specs.Replaying.{IsReplayed}
 use Rattle.schedule.specs.Texts.{text_of}
@@ -57,6 +57,6 @@ pub record IsReplayOf (input : Text) (status : ℕ) (report : Text) : Type 0 whe
   pub split : IsSplit input text schedule
   pub done : Replayed
   pub by : IsReplayedBy text schedule done
-  pub names : (loads : Loads) → Contains by.replayed.progress.passes loads → NamesTheDead by.plan loads
+  pub names : (loads : PassLoads) → Contains by.replayed.progress.passes loads → NamesTheDead by.plan loads
   pub status_is : TellsDead (state_after by.replayed.progress.run) status
   pub report_is : report ≡ text_of done

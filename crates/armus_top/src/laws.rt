@@ -1,7 +1,6 @@
 // Laws of inputs and answers, as contracts of functions with an empty body.
 ghost use Rattle.armus_top.specs.Inputs.{EachCallIsMet};
 ghost use Rattle.armus_top.specs.calls.Inputs.{EachInputIsMet};
-ghost use Rattle.command_line.specs.calls.Commands.{OneMeaning};
 ghost use Rattle.armus_top.specs.calls.Replayable.{RecordsReplay};
 
 /// Each input that is not too long has a whole output of the command, with its status: it is answered, or refused.
@@ -18,9 +17,4 @@ pub fn each_call_is_met()
 /// record and names at its end the tasks that are dead in the recorded state.
 pub fn records_replay()
     ensures { RecordsReplay }
-{}
-
-/// Words mean one command at most.
-pub fn words_mean_one_command()
-    ensures { OneMeaning }
 {}

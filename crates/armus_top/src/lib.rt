@@ -15,6 +15,6 @@ mod serving;
 mod top;
 mod writing;
 
-pub use laws::{each_call_is_met, each_input_is_met, records_replay, words_mean_one_command};
+pub use laws::{each_call_is_met, each_input_is_met, records_replay};
 pub use replaying::MAX_REPLAY_BYTES;
 pub use top::{armus, armus_journal, armus_plain};

@@ -5,7 +5,7 @@ ghost use Rattle.program_io.specs.Texts.{Text};
 ghost use Rattle.program_io.specs.calls.Passages.{passage};
 ghost use Rattle.armus_top.specs.inside.Answers.{AnswersBy, IsEndOf};
 ghost use Rattle.program_io.specs.calls.ExitNumbers.{number_of_status};
-ghost use Rattle.armus_top.specs.inside.Writing.{Answered, Refuses, RefusesClocks};
+ghost use Rattle.armus_top.specs.inside.Writing.{Answered, TellsRefusal, RefusesClocks};
 
 use crate::output::{InputEnd, Output};
 use armus_base::Sink;
@@ -16,7 +16,7 @@ use std::alloc::Global;
 
 /// Writes the line that says why an input is refused.
 pub(crate) fn refuse<K: Sink>(alloc: Global, why: &Refusal, out: &mut K) -> ExitStatus
-    ensures done { Refuses why.now (passage K.taken K.faults out.old out.new) (number_of_status result) }
+    ensures done { TellsRefusal why.now (passage K.taken K.faults out.old out.new) (number_of_status result) }
     ensures silent { number_of_status result ≢ 4 }
     ensures unwritten { number_of_status result ≡ 6 → out.new ≡ out.old }
 {

@@ -9,8 +9,8 @@ use Rattle.armus_base.specs.CheckedPlans.{IsCheckedPlan}
 use Rattle.armus_base.proofs.Elements.{Contains-head, Contains-tail, from_map}
 use Rattle.board.specs.calls.Views.{own_place, task_of}
 use Rattle.board.specs.calls.Seats.{Frame}
-use Rattle.board_runs.specs.calls.Turns.{Acts, EachActs, LeadsByCode, Working, no_task, one_task}
-use Rattle.board_runs.specs.calls.TaskSeats.{AreTaskSeatsOf, all_steps, number, progress_of}
+use Rattle.board_runs.specs.calls.Turns.{MakesActions, EachActs, LeadsByCode, Working, no_task, one_task}
+use Rattle.board_runs.specs.calls.TaskSeats.{AreTaskSeatsOf, all_steps, own_number, progress_of}
 use Rattle.board_runs.specs.calls.Rounds.{emptied}
 use Rattle.board_runs.proofs.Apart.{differ_sum, sum_over}
 use Rattle.board_runs.proofs.Goings.{task_is}
@@ -68,10 +68,10 @@ pub no_drop : (o : Option ℕ) → (o ≡ None) ⊎ IsSome o
 no_drop None = inl refl
 no_drop (Some d) = inr refl
 
-task_not_back : (f : Frame) (own : List Action) (w v : Working) → Acts f own w v → progress_of w ≤ progress_of v
+task_not_back : (f : Frame) (own : List Action) (w v : Working) → MakesActions f own w v → progress_of w ≤ progress_of v
 task_not_back f own w v acts = not_back w.seat.view.plan (task_of w.seat.view) (own_place w.seat.view) own (own_place v.seat.view) acts.goes.place
 
-pub task_further : (f : Frame) (own : List Action) (w v : Working) → Acts f own w v → 0 < length own → progress_of w < progress_of v
+pub task_further : (f : Frame) (own : List Action) (w v : Working) → MakesActions f own w v → 0 < length own → progress_of w < progress_of v
 task_further f own w v acts l = elim (no_drop (own_place w.seat.view).dropped) [
   | inl none ↦ further w.seat.view.plan (task_of w.seat.view) (own_place w.seat.view) own (own_place v.seat.view) none acts.goes.place l
   | inr some ↦ (let e : length own ≡ 0 = ap length (acts.refused some) in absurd (omega arith))
@@ -109,18 +109,18 @@ emptied_sum of same (w ∷ ws) =
     omega arith
 
 -- a sum over tasks is that over their numbers
-over_numbers : (g : ℕ → ℕ) (ws : List Working) → sum_over g (map number ws) ≡ sum_by (λ (w : Working). g (number w)) ws
+over_numbers : (g : ℕ → ℕ) (ws : List Working) → sum_over g (map own_number ws) ≡ sum_by (λ (w : Working). g (own_number w)) ws
 over_numbers g [] = refl
 over_numbers g (w ∷ ws) =
-    let x = sum_by-cons (λ (v : Working). g (number v)) w ws in
+    let x = sum_by-cons (λ (v : Working). g (own_number v)) w ws in
     let r = over_numbers g ws in
     omega arith
 
-at_most_each : (g : ℕ → ℕ) (ws : List Working) → ((w : Working) → Contains ws w → progress_of w ≤ g (number w)) → sum_by progress_of ws ≤ sum_by (λ (w : Working). g (number w)) ws
+at_most_each : (g : ℕ → ℕ) (ws : List Working) → ((w : Working) → Contains ws w → progress_of w ≤ g (own_number w)) → sum_by progress_of ws ≤ sum_by (λ (w : Working). g (own_number w)) ws
 at_most_each g [] each = omega arith
 at_most_each g (w ∷ ws) each =
     let x = sum_by-cons progress_of w ws in
-    let y = sum_by-cons (λ (v : Working). g (number v)) w ws in
+    let y = sum_by-cons (λ (v : Working). g (own_number v)) w ws in
     let l = each w (Contains-head w ws) in
     let r = at_most_each g ws (λ v i. each v (Contains-tail w ws v i)) in
     omega arith
@@ -134,14 +134,14 @@ at_most_one None = omega arith
 at_most_one (Some d) = omega arith
 
 module _ (f : Frame) (checked : IsCheckedPlan f.plan) (ws : List Working) (whole : AreTaskSeatsOf f ws) where
-  number_within : (t : ℕ) → Contains (map number ws) t → t < length f.plan.parents
+  number_within : (t : ℕ) → Contains (map own_number ws) t → t < length f.plan.parents
   number_within t i =
-      let r = from_map number ws t i in
+      let r = from_map own_number ws t i in
       let s = whole.board_tasks.each r.0.seat (r.0, r.1, refl) in
       subst (λ u. u < length f.plan.parents) (sym (task_is r.0.seat s.task s.own) ∙ r.2)
       (subst (λ (q : Plan). s.task < length q.parents) s.of_board.plan (s.kept.own s.task s.own).0)
 
-  step_bound : (w : Working) → Contains ws w → progress_of w ≤ length (actions f.plan (number w)) + 1
+  step_bound : (w : Working) → Contains ws w → progress_of w ≤ length (actions f.plan (own_number w)) + 1
   step_bound w i =
       let s = whole.board_tasks.each w.seat (w, i, refl) in
       let l = s.within in
@@ -151,7 +151,7 @@ module _ (f : Frame) (checked : IsCheckedPlan f.plan) (ws : List Working) (whole
   -- and come no further than their codes go
   pub within_all : sum_by progress_of ws ≤ all_steps f.plan
   within_all =
-      let d = differ_sum (map number ws) (λ t. length (actions f.plan t) + 1) (length f.plan.parents) (once_differ ws whole.once) number_within in
+      let d = differ_sum (map own_number ws) (λ t. length (actions f.plan t) + 1) (length f.plan.parents) (once_differ ws whole.once) number_within in
       let a = over_numbers (λ t. length (actions f.plan t) + 1) ws in
       let l = at_most_each (λ t. length (actions f.plan t) + 1) ws step_bound in
       omega arith

@@ -12,8 +12,8 @@ use Rattle.armus_base.proofs.Elements.{Contains-cons_cases, Contains-head, Conta
 use Rattle.armus_base.proofs.Codes.{child_later, parent_is}
 use Rattle.board.specs.calls.Views.{own_place, task_of}
 use Rattle.board.specs.calls.Seats.{Frame, Known}
-use Rattle.board_runs.specs.calls.Turns.{Acts, AreChildSeats, EachActs, LeadsByCode, Working, tasks_forked, no_child, no_task, one_child, one_task}
-use Rattle.board_runs.specs.calls.TaskSeats.{IsForkedWithin, done_of, number, sum_below}
+use Rattle.board_runs.specs.calls.Turns.{MakesActions, AreChildSeats, EachActs, LeadsByCode, Working, tasks_forked, no_child, no_task, one_child, one_task}
+use Rattle.board_runs.specs.calls.TaskSeats.{IsForkedWithin, done_of, own_number, sum_below}
 use Rattle.board_runs.specs.calls.Rounds.{emptied, fresh, fresh_of}
 use Rattle.board_runs.proofs.Goings.{same_task}
 use Rattle.board_runs.proofs.Between.{from_fresh}
@@ -91,15 +91,15 @@ abbrev pub all_forks : List (List Action) → List ℕ
 all_forks [] = []
 all_forks (own ∷ owns) = tasks_forked own ++ all_forks owns
 
-same_number : (ws : List Working) (m v : Working) → Differ (map number ws) → Contains ws m → Contains ws v → number m ≡ number v → m ≡ v
+same_number : (ws : List Working) (m v : Working) → Differ (map own_number ws) → Contains ws m → Contains ws v → own_number m ≡ own_number v → m ≡ v
 same_number [] m v d i j e = absurd (nothing_in_nil m i)
 same_number (w ∷ ws) m v d i j e = elim (Contains-cons_cases w ws m i) [
   | inl m_here ↦ elim (Contains-cons_cases w ws v j) [
     | inl v_here ↦ sym m_here ∙ v_here
-    | inr v_there ↦ absurd (d.0 (subst (λ t. Contains (map number ws) t) (sym e ∙ ap number (sym m_here)) (in_map number ws v v_there)))
+    | inr v_there ↦ absurd (d.0 (subst (λ t. Contains (map own_number ws) t) (sym e ∙ ap own_number (sym m_here)) (in_map own_number ws v v_there)))
   ]
   | inr m_there ↦ elim (Contains-cons_cases w ws v j) [
-    | inl v_here ↦ absurd (d.0 (subst (λ t. Contains (map number ws) t) (e ∙ ap number (sym v_here)) (in_map number ws m m_there)))
+    | inl v_here ↦ absurd (d.0 (subst (λ t. Contains (map own_number ws) t) (e ∙ ap own_number (sym v_here)) (in_map own_number ws m m_there)))
     | inr v_there ↦ same_number ws m v d.1 m_there v_there e
   ]
 ]
@@ -111,107 +111,107 @@ module _ (f : Frame) (checked : IsCheckedPlan f.plan) where
   not_root : (t from to c : ℕ) → IsForkedWithin f.plan t from to c → 0 < c
   not_root t from to c s = (let l = child_later f.plan checked.tables t c (checked.codes.well_formed t s.0 (Forks c) s.3).0 in omega arith)
 
-  leads_here : (own : List Action) (w v : Working) → w.seat.view.plan ≡ f.plan → Acts f own w v → LeadsByCode f.plan (number w) (own_place w.seat.view) own (own_place v.seat.view)
-  leads_here own w v plan acts = subst (λ (q : Plan). LeadsByCode q (number w) (own_place w.seat.view) own (own_place v.seat.view)) plan acts.goes.place
+  leads_here : (own : List Action) (w v : Working) → w.seat.view.plan ≡ f.plan → MakesActions f own w v → LeadsByCode f.plan (own_number w) (own_place w.seat.view) own (own_place v.seat.view)
+  leads_here own w v plan acts = subst (λ (q : Plan). LeadsByCode q (own_number w) (own_place w.seat.view) own (own_place v.seat.view)) plan acts.goes.place
 
   forker :
       {owns : List (List Action)} {olds news : List Working} (c : ℕ) → EachActs f owns olds news → ((w : Working) → Contains olds w → w.seat.view.plan ≡ f.plan) → Contains (all_forks owns) c →
-      (w : Working) × (v : Working) × Contains olds w × IsForkedWithin f.plan (number w) (done_of w) (done_of v) c
+      (w : Working) × (v : Working) × Contains olds w × IsForkedWithin f.plan (own_number w) (done_of w) (done_of v) c
   forker c no_task planned i = absurd (nothing_in_nil c i)
   forker c (one_task {own = own} {owns = owns} {before = a} {now = b} {befores = olds} {nows = news} acts p) planned i = elim (Contains-append_cases (tasks_forked own) (all_forks owns) c i) [
-    | inl here ↦ (a, b, Contains-head a olds, fork_stands f.plan (number a) (own_place a.seat.view) own (own_place b.seat.view) c (leads_here own a b (planned a (Contains-head a olds)) acts) here)
+    | inl here ↦ (a, b, Contains-head a olds, fork_stands f.plan (own_number a) (own_place a.seat.view) own (own_place b.seat.view) c (leads_here own a b (planned a (Contains-head a olds)) acts) here)
     | inr there ↦ (let r = forker c p (λ w at. planned w (Contains-tail a olds w at)) there in (r.0, r.1, Contains-tail a olds r.0 r.2, r.3))
   ]
 
   forks_differ :
-      {owns : List (List Action)} {olds news : List Working} → EachActs f owns olds news → ((w : Working) → Contains olds w → w.seat.view.plan ≡ f.plan) → Differ (map number olds) → Differ (all_forks owns)
+      {owns : List (List Action)} {olds news : List Working} → EachActs f owns olds news → ((w : Working) → Contains olds w → w.seat.view.plan ≡ f.plan) → Differ (map own_number olds) → Differ (all_forks owns)
   forks_differ no_task planned d = tt
   forks_differ (one_task {own = own} {owns = owns} {before = a} {now = b} {befores = olds} {nows = news} acts p) planned d =
       let leads = leads_here own a b (planned a (Contains-head a olds)) acts in
-      differ_on (tasks_forked own) (all_forks owns) (fork_differ f.plan checked (number a) (own_place a.seat.view) own (own_place b.seat.view) leads)
+      differ_on (tasks_forked own) (all_forks owns) (fork_differ f.plan checked (own_number a) (own_place a.seat.view) own (own_place b.seat.view) leads)
       (forks_differ p (λ w at. planned w (Contains-tail a olds w at)) d.1)
       (λ c here there.
-      let s = fork_stands f.plan (number a) (own_place a.seat.view) own (own_place b.seat.view) c leads here in
+      let s = fork_stands f.plan (own_number a) (own_place a.seat.view) own (own_place b.seat.view) c leads here in
       let r = forker c p (λ w at. planned w (Contains-tail a olds w at)) there in
-      let same : number r.0 ≡ number a = sym (parent_here (number r.0) (done_of r.0) (done_of r.1) c r.3) ∙ parent_here (number a) (done_of a) (done_of b) c s in
-      d.0 (subst (λ t. Contains (map number olds) t) same (in_map number olds r.0 r.2)))
+      let same : own_number r.0 ≡ own_number a = sym (parent_here (own_number r.0) (done_of r.0) (done_of r.1) c r.3) ∙ parent_here (own_number a) (done_of a) (done_of b) c s in
+      d.0 (subst (λ t. Contains (map own_number olds) t) same (in_map own_number olds r.0 r.2)))
 
 -- no two are one, and each but task 0 was forked by one of them
 pub record IsFamily (f : Frame) (tasks : List Working) : Type 0 where
-  pub differ : Differ (map number tasks)
-  pub origin : (w : Working) → Contains tasks w → (number w ≡ 0) ⊎ ((m : Working) × Contains tasks m × IsForkedWithin f.plan (number m) 0 (done_of m) (number w))
+  pub differ : Differ (map own_number tasks)
+  pub origin : (w : Working) → Contains tasks w → (own_number w ≡ 0) ⊎ ((m : Working) × Contains tasks m × IsForkedWithin f.plan (own_number m) 0 (done_of m) (own_number w))
 
 module _ (f : Frame) (checked : IsCheckedPlan f.plan) (owns : List (List Action)) (olds news : List Working) (each : EachActs f owns olds news) (planned : (w : Working) → Contains olds w → w.seat.view.plan ≡ f.plan) (family : IsFamily f olds) where
   -- whoever is forked had no seat
-  apart : (c : ℕ) → Contains (map number olds) c → Contains (all_forks owns) c → ⊥
+  apart : (c : ℕ) → Contains (map own_number olds) c → Contains (all_forks owns) c → ⊥
   apart c old new =
-      let w = from_map number olds c old in
+      let w = from_map own_number olds c old in
       let v = forker f checked c each planned new in
       elim (family.origin w.0 w.1) [
-        | inl root ↦ (let l = not_root f checked (number v.0) (done_of v.0) (done_of v.1) c v.3 in let e = w.2 in absurd (omega arith))
+        | inl root ↦ (let l = not_root f checked (own_number v.0) (done_of v.0) (done_of v.1) c v.3 in let e = w.2 in absurd (omega arith))
         | inr o ↦
-            let s = subst (λ z. IsForkedWithin f.plan (number o.0) 0 (done_of o.0) z) w.2 o.2 in
+            let s = subst (λ z. IsForkedWithin f.plan (own_number o.0) 0 (done_of o.0) z) w.2 o.2 in
             let same : o.0 ≡ v.0 = same_number olds o.0 v.0 family.differ o.1 v.2
-            (sym (parent_here f checked (number o.0) 0 (done_of o.0) c s) ∙ parent_here f checked (number v.0) (done_of v.0) (done_of v.1) c v.3) in
+            (sym (parent_here f checked (own_number o.0) 0 (done_of o.0) c s) ∙ parent_here f checked (own_number v.0) (done_of v.0) (done_of v.1) c v.3) in
             let first : s.0 < done_of v.0 = subst (λ (x : Working). s.0 < done_of x) same s.2 in
-            forks_once f.plan checked (number v.0) s.0 v.3.0 c (let l = v.3.1 in omega arith) (ap (λ (x : Working). action_at f.plan (number x) s.0) (sym same) ∙ s.3) v.3.3
+            forks_once f.plan checked (own_number v.0) s.0 v.3.0 c (let l = v.3.1 in omega arith) (ap (λ (x : Working). action_at f.plan (own_number x) s.0) (sym same) ∙ s.3) v.3.3
       ]
 
-  pub still_differ : Differ (map number olds ++ all_forks owns)
-  still_differ = differ_on (map number olds) (all_forks owns) family.differ (forks_differ f checked each planned family.differ) apart
+  pub still_differ : Differ (map own_number olds ++ all_forks owns)
+  still_differ = differ_on (map own_number olds) (all_forks owns) family.differ (forks_differ f checked each planned family.differ) apart
 
   -- the numbers after a round
-  pub olds_numbers : map number (map emptied news) ≡ map number olds
+  pub olds_numbers : map own_number (map emptied news) ≡ map own_number olds
   olds_numbers = by_each each
     where
-      by_each : {os : List (List Action)} {as' bs : List Working} → EachActs f os as' bs → map number (map emptied bs) ≡ map number as'
+      by_each : {os : List (List Action)} {as' bs : List Working} → EachActs f os as' bs → map own_number (map emptied bs) ≡ map own_number as'
       by_each no_task = refl
-      by_each (one_task {before = a} {now = b} {nows = bs} acts p) = ap (λ t. t ∷ map number (map emptied bs)) (same_task a.seat b.seat acts.goes.same) ∙ ap (λ ts. number a ∷ ts) (by_each p)
+      by_each (one_task {before = a} {now = b} {nows = bs} acts p) = ap (λ t. t ∷ map own_number (map emptied bs)) (same_task a.seat b.seat acts.goes.same) ∙ ap (λ ts. own_number a ∷ ts) (by_each p)
 
-child_numbers : {f : Frame} {cs : List ℕ} {ks : List Known} → AreChildSeats f cs ks → map number (map fresh ks) ≡ cs
+child_numbers : {f : Frame} {cs : List ℕ} {ks : List Known} → AreChildSeats f cs ks → map own_number (map fresh ks) ≡ cs
 child_numbers no_child = refl
 child_numbers (one_child {c = c} {cs = cs} {seat = k} {seats = ks} child p) =
-    ap (λ t. t ∷ map number (map fresh ks)) (ap (λ o. unwrap_or o 0) child.own) ∙ ap (λ ts. c ∷ ts) (child_numbers p)
+    ap (λ t. t ∷ map own_number (map fresh ks)) (ap (λ o. unwrap_or o 0) child.own) ∙ ap (λ ts. c ∷ ts) (child_numbers p)
 
-map_on : (xs ys : List Working) → map number (xs ++ ys) ≡ map number xs ++ map number ys
+map_on : (xs ys : List Working) → map own_number (xs ++ ys) ≡ map own_number xs ++ map own_number ys
 map_on [] ys = refl
-map_on (x ∷ xs) ys = ap (λ ts. number x ∷ ts) (map_on xs ys)
+map_on (x ∷ xs) ys = ap (λ ts. own_number x ∷ ts) (map_on xs ys)
 
 news_numbers :
     {f : Frame} {owns : List (List Action)} {olds news : List Working} → EachActs f owns olds news → ((w : Working) → Contains olds w → w.children ≡ []) →
-    map number (flat_map fresh_of news) ≡ all_forks owns
+    map own_number (flat_map fresh_of news) ≡ all_forks owns
 news_numbers no_task none = refl
 news_numbers {f = f} (one_task {own = own} {owns = owns} {before = a} {now = b} {befores = olds} {nows = news} acts p) none =
     let seats : AreChildSeats f (tasks_forked own) b.children = subst (AreChildSeats f (tasks_forked own)) (sym (acts.children ∙ ap (λ ks. ks ++ acts.new) (none a (Contains-head a olds)))) acts.seats in
     map_on (fresh_of b) (flat_map fresh_of news)
-    ∙ ap (λ ts. ts ++ map number (flat_map fresh_of news)) (child_numbers seats)
+    ∙ ap (λ ts. ts ++ map own_number (flat_map fresh_of news)) (child_numbers seats)
     ∙ ap (λ ts. tasks_forked own ++ ts) (news_numbers p (λ w at. none w (Contains-tail a olds w at)))
 
 module _ (f : Frame) (checked : IsCheckedPlan f.plan) (owns : List (List Action)) (olds news : List Working) (each : EachActs f owns olds news) (planned : (w : Working) → Contains olds w → w.seat.view.plan ≡ f.plan) (none : (w : Working) → Contains olds w → w.children ≡ []) (family : IsFamily f olds) where
   abbrev then_all : List Working
   then_all = map emptied news ++ flat_map fresh_of news
 
-  numbers_after : map number then_all ≡ map number olds ++ all_forks owns
+  numbers_after : map own_number then_all ≡ map own_number olds ++ all_forks owns
   numbers_after =
       map_on (map emptied news) (flat_map fresh_of news)
-      ∙ ap (λ ts. ts ++ map number (flat_map fresh_of news)) (olds_numbers f checked owns olds news each planned family)
-      ∙ ap (λ ts. map number olds ++ ts) (news_numbers each none)
+      ∙ ap (λ ts. ts ++ map own_number (flat_map fresh_of news)) (olds_numbers f checked owns olds news each planned family)
+      ∙ ap (λ ts. map own_number olds ++ ts) (news_numbers each none)
 
   -- a task stands no less far after a round
-  farther : (own : List Action) (w v : Working) → Contains olds w → Acts f own w v → done_of w ≤ done_of v
-  farther own w v i acts = go_less f.plan (number w) (own_place w.seat.view) own (own_place v.seat.view) (leads_here f checked own w v (planned w i) acts)
+  farther : (own : List Action) (w v : Working) → Contains olds w → MakesActions f own w v → done_of w ≤ done_of v
+  farther own w v i acts = go_less f.plan (own_number w) (own_place w.seat.view) own (own_place v.seat.view) (leads_here f checked own w v (planned w i) acts)
 
-  stands_now : (own : List Action) (w v : Working) (from c : ℕ) → Contains olds w → Acts f own w v → IsForkedWithin f.plan (number w) from (done_of w) c → IsForkedWithin f.plan (number v) from (done_of v) c
+  stands_now : (own : List Action) (w v : Working) (from c : ℕ) → Contains olds w → MakesActions f own w v → IsForkedWithin f.plan (own_number w) from (done_of w) c → IsForkedWithin f.plan (own_number v) from (done_of v) c
   stands_now own w v from c i acts s =
       let l = farther own w v i acts in
       (s.0, s.1, (let m = s.2 in omega arith), ap (λ t. action_at f.plan t s.0) (same_task w.seat v.seat acts.goes.same) ∙ s.3)
 
-  origin_after : (x : Working) → Contains then_all x → (number x ≡ 0) ⊎ ((m : Working) × Contains then_all m × IsForkedWithin f.plan (number m) 0 (done_of m) (number x))
+  origin_after : (x : Working) → Contains then_all x → (own_number x ≡ 0) ⊎ ((m : Working) × Contains then_all m × IsForkedWithin f.plan (own_number m) 0 (done_of m) (own_number x))
   origin_after x i = elim (Contains-append_cases (map emptied news) (flat_map fresh_of news) x i) [
     | inl old ↦
         let v = from_map emptied news x old in
         let r = was v.0 each v.1 in
-        let same : number x ≡ number r.0 = ap number (sym v.2) ∙ same_task r.0.seat v.0.seat r.3.goes.same in
+        let same : own_number x ≡ own_number r.0 = ap own_number (sym v.2) ∙ same_task r.0.seat v.0.seat r.3.goes.same in
         elim (family.origin r.0 r.2) [
           | inl root ↦ inl (same ∙ root)
           | inr o ↦
@@ -219,7 +219,7 @@ module _ (f : Frame) (checked : IsCheckedPlan f.plan) (owns : List (List Action)
               inr (
                 emptied b.0,
                 Contains-append_left (map emptied news) (flat_map fresh_of news) (emptied b.0) (in_map emptied news b.0 b.2),
-                subst (λ z. IsForkedWithin f.plan (number b.0) 0 (done_of b.0) z) (sym same) (stands_now b.1 o.0 b.0 0 (number r.0) o.1 b.3 o.2),
+                subst (λ z. IsForkedWithin f.plan (own_number b.0) 0 (done_of b.0) z) (sym same) (stands_now b.1 o.0 b.0 0 (own_number r.0) o.1 b.3 o.2),
               )
         ]
     | inr new ↦
@@ -227,12 +227,12 @@ module _ (f : Frame) (checked : IsCheckedPlan f.plan) (owns : List (List Action)
         let r = was k.0 each k.2 in
         let seats : AreChildSeats f (tasks_forked r.1) k.0.children = subst (AreChildSeats f (tasks_forked r.1)) (sym (r.3.children ∙ ap (λ ks. ks ++ r.3.new) (none r.0 r.2))) r.3.seats in
         let c = child_number k.1 seats k.3 in
-        let same : number x ≡ c.0 = ap number (sym k.4) ∙ c.2 in
-        let s = fork_stands f.plan (number r.0) (own_place r.0.seat.view) r.1 (own_place k.0.seat.view) c.0 (leads_here f checked r.1 r.0 k.0 (planned r.0 r.2) r.3) c.1 in
+        let same : own_number x ≡ c.0 = ap own_number (sym k.4) ∙ c.2 in
+        let s = fork_stands f.plan (own_number r.0) (own_place r.0.seat.view) r.1 (own_place k.0.seat.view) c.0 (leads_here f checked r.1 r.0 k.0 (planned r.0 r.2) r.3) c.1 in
         inr (
           emptied k.0,
           Contains-append_left (map emptied news) (flat_map fresh_of news) (emptied k.0) (in_map emptied news k.0 k.2),
-          subst (λ z. IsForkedWithin f.plan (number k.0) 0 (done_of k.0) z) (sym same)
+          subst (λ z. IsForkedWithin f.plan (own_number k.0) 0 (done_of k.0) z) (sym same)
               (s.0, omega arith, s.2, ap (λ t. action_at f.plan t s.0) (same_task r.0.seat k.0.seat r.3.goes.same) ∙ s.3),
         )
   ]

@@ -7,7 +7,7 @@ use Rattle.armus_base.specs.CheckedPlans.{IsCheckedPlan}
 use Rattle.pl_core.proofs.StepKinds.{few_actions}
 use Rattle.board.specs.calls.Views.{own_place, task_of}
 use Rattle.board.specs.calls.Seats.{Frame, Known}
-use Rattle.board_runs.specs.calls.Turns.{Acts, CountsActions, LeadsByCode, Working, max_actions}
+use Rattle.board_runs.specs.calls.Turns.{MakesActions, CountsActions, LeadsByCode, Working, max_actions}
 use Rattle.board_runs.specs.inside.Tasks.{MakesSome}
 use Rattle.board_runs.specs.calls.TaskSeats.{progress_of}
 use Rattle.board_runs.proofs.Advancing.{no_drop, task_further}
@@ -76,7 +76,7 @@ counts_on f own made w v c m =
     }
 
 -- who makes no step makes no event
-pub counts_still : (f : Frame) (n : ℕ) (w v : Working) → CountsActions n w → Acts f [] w v → CountsActions n v
+pub counts_still : (f : Frame) (n : ℕ) (w v : Working) → CountsActions n w → MakesActions f [] w v → CountsActions n v
 counts_still f n w v c acts =
     let place : own_place v.seat.view ≡ own_place w.seat.view = acts.goes.place in
     let same : length (actions v.seat.view.plan (task_of v.seat.view)) ≡ length (actions w.seat.view.plan (task_of w.seat.view)) =
@@ -90,7 +90,7 @@ counts_still f n w v c acts =
 abbrev pub left_to_task : Working → ℕ
 left_to_task w = (length (actions w.seat.view.plan (task_of w.seat.view)) + 1) - progress_of w
 
-pub leaves_by : (f : Frame) (own : List Action) (w v : Working) → Acts f own w v → 0 < length own → left_to_task v < left_to_task w
+pub leaves_by : (f : Frame) (own : List Action) (w v : Working) → MakesActions f own w v → 0 < length own → left_to_task v < left_to_task w
 leaves_by f [] w v acts some = absurd (omega arith)
 leaves_by f (x ∷ own) w v acts some = elim (no_drop (own_place w.seat.view).dropped) [
   | inl none ↦
@@ -109,7 +109,7 @@ pub leaves_less : (f : Frame) (made : ℕ) (w v : Working) → MakesSome f made 
 leaves_less f made w v m = leaves_by f m.own w v m.acts (let n = m.counted in let s = m.some in omega arith)
 
 -- who has forked a task has made a step
-pub forked_some : (f : Frame) (own : List Action) (w v : Working) (seat : Known) → Acts f own w v → v.children ≡ w.children ++ seat ∷ [] → 0 < length own
+pub forked_some : (f : Frame) (own : List Action) (w v : Working) (seat : Known) → MakesActions f own w v → v.children ≡ w.children ++ seat ∷ [] → 0 < length own
 forked_some f [] w v seat acts forked =
     (let a = ap length (acts.children ∙ ap (λ ks. w.children ++ ks) (no_seats acts.seats)) in
     let b = ap length forked in

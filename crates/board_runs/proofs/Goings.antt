@@ -17,7 +17,7 @@ use Rattle.board.proofs.Seated.{next_there}
 use Rattle.board.proofs.Walking.{moved_here}
 use Rattle.phase_scan.specs.calls.Looks.{LoadsAlone}
 use Rattle.phase_scan.proofs.Loads.{prefix_both}
-use Rattle.board_runs.specs.calls.Turns.{Acts, AreChildSeats, Goes, LeadsByCode, Working, tasks_forked, no_child, one_child}
+use Rattle.board_runs.specs.calls.Turns.{MakesActions, AreChildSeats, Goes, LeadsByCode, Working, tasks_forked, no_child, one_child}
 use Rattle.board_runs.specs.inside.Tasks.{MakesSome}
 
 -- steps after steps
@@ -188,18 +188,18 @@ unrefused_next plan t k None xs e some = absurd (false≢true some)
 unrefused_next plan t k (Some d) xs e some = absurd (cc)
 
 -- and the children with them
-pub acts_alone : (f : Frame) (own : List Action) (k m : Known) (cs : List Known) → tasks_forked own ≡ [] → Goes own k m → (IsSome (own_place k.view).dropped → own ≡ []) → Acts f own (record { seat = k; children = cs }) (record { seat = m; children = cs })
+pub acts_alone : (f : Frame) (own : List Action) (k m : Known) (cs : List Known) → tasks_forked own ≡ [] → Goes own k m → (IsSome (own_place k.view).dropped → own ≡ []) → MakesActions f own (record { seat = k; children = cs }) (record { seat = m; children = cs })
 acts_alone f own k m cs none goes refused =
     record { goes = goes; refused = refused; new = []; children = sym (append-nil cs); seats = subst (λ ds. AreChildSeats f ds []) (sym none) no_child }
 
-pub acts_itself : (f : Frame) (w : Working) → IsSeat w.seat → Acts f [] w w
+pub acts_itself : (f : Frame) (w : Working) → IsSeat w.seat → MakesActions f [] w w
 acts_itself f w seat = acts_alone f [] w.seat w.seat w.children refl (goes_itself w.seat seat) (λ _. refl)
 
 -- who has made no step has forked nobody
-pub no_child_made : (f : Frame) (w v : Working) → Acts f [] w v → v.children ≡ w.children
+pub no_child_made : (f : Frame) (w v : Working) → MakesActions f [] w v → v.children ≡ w.children
 no_child_made f w v acts = acts.children ∙ ap (λ ks. w.children ++ ks) (no_seats acts.seats) ∙ append-nil w.children
 
-pub acts_on : (f : Frame) (a b c : Working) (xs ys : List Action) → Acts f xs a b → Acts f ys b c → Acts f (xs ++ ys) a c
+pub acts_on : (f : Frame) (a b c : Working) (xs ys : List Action) → MakesActions f xs a b → MakesActions f ys b c → MakesActions f (xs ++ ys) a c
 acts_on f a b c xs ys p q =
     record {
       refused = λ was.
@@ -251,7 +251,7 @@ of_on f own k m of goes = record { table = goes.table ∙ of.table; plan = goes.
 
 -- a task has made these steps, so many, and is one of this board, without its lock
 pub record HasActed (f : Frame) (own : List Action) (n : ℕ) (was is : Working) : Type 0 where
-  pub acts : Acts f own was is
+  pub acts : MakesActions f own was is
   pub made : IsOf is.seat f
   pub free : is.seat.view.holds ≡ false
   pub counted : n ≡ length own
@@ -260,7 +260,7 @@ pub acted_not : (f : Frame) (w : Working) → IsSeat w.seat → IsOf w.seat f �
 acted_not f w seat made free = record { acts = acts_itself f w seat; made = made; free = free; counted = refl }
 
 pub acted_on :
-    (f : Frame) (own more : List Action) (n k : ℕ) (a b c : Working) → HasActed f own n a b → Acts f more b c → k ≡ length more →
+    (f : Frame) (own more : List Action) (n k : ℕ) (a b c : Working) → HasActed f own n a b → MakesActions f more b c → k ≡ length more →
     HasActed f (own ++ more) (n + k) a c
 acted_on f own more n k a b c first acts count =
     record {

@@ -11,20 +11,20 @@ use Rattle.pl_core.specs.declared.place.Place.{Place as KeptPlace}
 use Rattle.board.specs.calls.Seats.{Frame, Known, TakesIn}
 use Rattle.board.specs.calls.Views.{seen, task_of}
 use Rattle.board_runs.specs.calls.Turns.{Working, standing_of}
-use Rattle.board_runs.specs.calls.TaskSeats.{ArePlacesOf, AreTaskSeats, IsSeatIn, KnowsTasks, number}
+use Rattle.board_runs.specs.calls.TaskSeats.{ArePlacesOf, AreTaskSeats, IsSeatIn, KnowsTasks, own_number}
 use Rattle.board_runs.specs.calls.Endings.{NotesPlaces, TakesAll}
 use Rattle.board_runs.proofs.Between.{seats_of_tasks}
 use Rattle.board_runs.proofs.Settling.{closed, taken_here, takes_more, whose}
 
 pub one_noted :
-    (tasks : List Working) (w : Working) (before now : List KeptPlace) (p : KeptPlace) → NotesPlaces tasks before now → number w < length before → p ≡ standing_of w.seat →
-    NotesPlaces (tasks ++ w ∷ []) before (set now (number w) p)
-one_noted tasks w before now p noted within is = record { count = length-set now (number w) p ∙ noted.count; each = each }
+    (tasks : List Working) (w : Working) (before now : List KeptPlace) (p : KeptPlace) → NotesPlaces tasks before now → own_number w < length before → p ≡ standing_of w.seat →
+    NotesPlaces (tasks ++ w ∷ []) before (set now (own_number w) p)
+one_noted tasks w before now p noted within is = record { count = length-set now (own_number w) p ∙ noted.count; each = each }
   where
     each : (t : ℕ) → t < length before →
-        ((v : Working) × Contains (tasks ++ w ∷ []) v × number v ≡ t × slice_get (set now (number w) p) t ≡ Some (standing_of v.seat))
-        ⊎ (((v : Working) → Contains (tasks ++ w ∷ []) v → number v ≢ t) × slice_get (set now (number w) p) t ≡ slice_get before t)
-    each t l = elim (cases_eq (number w) t) [
+        ((v : Working) × Contains (tasks ++ w ∷ []) v × own_number v ≡ t × slice_get (set now (own_number w) p) t ≡ Some (standing_of v.seat))
+        ⊎ (((v : Working) → Contains (tasks ++ w ∷ []) v → own_number v ≢ t) × slice_get (set now (own_number w) p) t ≡ slice_get before t)
+    each t l = elim (cases_eq (own_number w) t) [
       | inl same ↦
           inl (
             w,
@@ -34,17 +34,17 @@ one_noted tasks w before now p noted within is = record { count = length-set now
                 (slice_get-set_same now t p (let c = noted.count in omega arith) ∙ ap Some is),
           )
       | inr other ↦ elim (noted.each t l) [
-        | inl r ↦ inl (r.0, Contains-append_left tasks (w ∷ []) r.0 r.1, r.2, slice_get-set_other now (number w) t p (λ e. other (sym e)) ∙ r.3)
+        | inl r ↦ inl (r.0, Contains-append_left tasks (w ∷ []) r.0 r.1, r.2, slice_get-set_other now (own_number w) t p (λ e. other (sym e)) ∙ r.3)
         | inr r ↦
             inr (
               (λ v i. elim (Contains-append_cases tasks (w ∷ []) v i) [
                 | inl there ↦ r.0 v there
                 | inr last ↦ elim (Contains-cons_cases w [] v last) [
-                  | inl here ↦ (λ e. other (ap number here ∙ e))
+                  | inl here ↦ (λ e. other (ap own_number here ∙ e))
                   | inr no_way ↦ absurd (nothing_in_nil v no_way)
                 ]
               ]),
-              slice_get-set_other now (number w) t p (λ e. other (sym e)) ∙ r.1,
+              slice_get-set_other now (own_number w) t p (λ e. other (sym e)) ∙ r.1,
             )
       ]
     ]
@@ -55,8 +55,8 @@ pub noted_more :
 noted_more plan xs ys before now are noted = record { one_each = noted.count ∙ are.one_each; each = each }
   where
     each : (t : ℕ) → t < length plan.parents →
-        ((v : Working) × Contains (xs ++ ys) v × number v ≡ t × slice_get now t ≡ Some (standing_of v.seat))
-        ⊎ (((v : Working) → Contains (xs ++ ys) v → number v ≢ t) × slice_get now t ≡ Some (record { events = 0; refused = false }))
+        ((v : Working) × Contains (xs ++ ys) v × own_number v ≡ t × slice_get now t ≡ Some (standing_of v.seat))
+        ⊎ (((v : Working) → Contains (xs ++ ys) v → own_number v ≢ t) × slice_get now t ≡ Some (record { events = 0; refused = false }))
     each t l = elim (noted.each t (let c = are.one_each in omega arith)) [
       | inl r ↦ inl (r.0, Contains-append_right xs ys r.0 r.1, r.2, r.3)
       | inr r ↦ elim (are.each t l) [

@@ -18,7 +18,7 @@ use Rattle.board.proofs.Walking.{IsBefore, before_next}
 use Rattle.board_runs.specs.declared.beginning.Attempt.TheVariants.{Begun, LockedOut, Refused}
 use Rattle.board_runs.specs.inside.Attempts.{BeginsOp, IsRefusedAt, drops_below}
 use Rattle.board_runs.specs.inside.Tasks.{AreLeft, HasCome, MakesSome}
-use Rattle.board_runs.specs.calls.Turns.{Acts, AreChildSeats, EndsTurn, Goes, LeadsByCode, Working, tasks_forked}
+use Rattle.board_runs.specs.calls.Turns.{MakesActions, AreChildSeats, EndsTurn, Goes, LeadsByCode, Working, tasks_forked}
 use Rattle.board_runs.proofs.Begun.{left_on}
 use Rattle.board_runs.proofs.Goings.{acts_alone, same_task, some_steps}
 use Rattle.board_runs.proofs.Halting.{one_more_fits, left_there, no_refusal}
@@ -130,12 +130,12 @@ module _ (f : Frame) (ops : List Op) (count : ℕ) (k m : Known) (cs ds : List K
   pub nothing_come : Goes [] k m → HasCome m ops count false
   nothing_come goes = still_come ops count (task_of k.view) k m b.own w goes
 
-  pub nothing_acts : ds ≡ cs → Goes [] k m → Acts f [] before now
-  nothing_acts same goes = subst (λ es. Acts f [] before (record { seat = m; children = es })) (sym same) (acts_alone f [] k m cs refl goes (λ _. refl))
+  pub nothing_acts : ds ≡ cs → Goes [] k m → MakesActions f [] before now
+  nothing_acts same goes = subst (λ es. MakesActions f [] before (record { seat = m; children = es })) (sym same) (acts_alone f [] k m cs refl goes (λ _. refl))
 
   module _ (new : List Known) (grown : ds ≡ cs ++ new) (seats : AreChildSeats f (tasks_forked (begins op ∷ [])) new) where
     -- the lock was taken
-    pub locked_out : BeginsOp op k m LockedOut → (Acts f [] before now × EndsTurn k m) × HasCome m ops count false
+    pub locked_out : BeginsOp op k m LockedOut → (MakesActions f [] before now × EndsTurn k m) × HasCome m ops count false
     locked_out is =
         let r = locked_goes op k m is in (
           (record { goes = r.1; refused = λ _. refl; new = new; children = grown; seats = no_seat f (tasks_forked (begins op ∷ [])) new r.0 seats }, r.2),

@@ -13,7 +13,7 @@ use Rattle.armus_base.proofs.Elements.{Contains-cons_cases, nothing_in_nil}
 use Rattle.board.specs.calls.Seats.{Frame, IsNewSeat, IsOf, Known, nothing_seen}
 use Rattle.board_runs.specs.calls.Turns.{ActsNoMore, EachActs, MayTakeTurn, Working, in_32_bits, loads_between}
 use Rattle.board_runs.specs.declared.board_tasks.Rounded.{Rounded}
-use Rattle.board_runs.specs.calls.TaskSeats.{AreTasksOf, AreTaskSeatsOf, Tasks, all_of, all_steps, left_to, number, progress_of}
+use Rattle.board_runs.specs.calls.TaskSeats.{AreTasksOf, AreTaskSeatsOf, Tasks, all_of, all_steps, left_to, own_number, progress_of}
 use Rattle.board_runs.specs.calls.Rounds.{HasTakenTurn, HaveEnded, MakesRound, all_forked, emptied, fresh_of}
 use Rattle.board_runs.proofs.Advancing.{all_further, emptied_sum, within_all}
 use Rattle.board_runs.proofs.Apart.{IsFamily, family_after}
@@ -213,9 +213,9 @@ module _ (f : Frame) (tasks : Tasks) (are : AreTasksOf f tasks) where
   pub both_none : All (λ (w : Working). w.children ≡ []) tasks.live × All (λ (w : Working). w.children ≡ []) tasks.ended
   both_none = of_both (λ (w : Working). w.children ≡ []) (to_each (λ (w : Working). w.children ≡ []) (all_of tasks) are.all.no_child)
 
-  pub both_within : (n : ℕ) → length f.plan.parents ≡ n → All (λ (w : Working). number w < n) tasks.live × All (λ (w : Working). number w < n) tasks.ended
+  pub both_within : (n : ℕ) → length f.plan.parents ≡ n → All (λ (w : Working). own_number w < n) tasks.live × All (λ (w : Working). own_number w < n) tasks.ended
   both_within n e =
-      of_both (λ (w : Working). number w < n)
+      of_both (λ (w : Working). own_number w < n)
       (λ w i.
       let s = are.all.board_tasks.each w.seat (w, i, refl) in
       let l : s.task < length f.plan.parents = subst (λ (q : Plan). s.task < length q.parents) s.of_board.plan (s.kept.own s.task s.own).0 in
@@ -254,8 +254,8 @@ first_tasks f w new none = record {
   all = record {
     board_tasks = first_task_seats f w new;
     no_child = all_from (λ (v : Working). v.children ≡ []) (w ∷ []) (λ v i. ap (λ (x : Working). x.children) (sym (only v i)) ∙ none);
-    once = differ_once (w ∷ []) ((λ i. nothing_in_nil (number w) i), tt);
-    origin = λ v i. inl (ap number (sym (only v i)) ∙ task_is w.seat 0 new.own_is);
+    once = differ_once (w ∷ []) ((λ i. nothing_in_nil (own_number w) i), tt);
+    origin = λ v i. inl (ap own_number (sym (only v i)) ∙ task_is w.seat 0 new.own_is);
   };
   ended = λ k d l. absurd (omega arith);
 }

@@ -4,7 +4,7 @@ use Rattle.std.proofs.lemmas.List.{map-append, map-id}
 use Rattle.std.proofs.lemmas.List.Sums.{sum_by-append, sum_by-cons}
 use Rattle.armus_base.specs.Plans.{Action}
 use Rattle.board.specs.calls.Seats.{Frame, Known}
-use Rattle.board_runs.specs.calls.Turns.{Acts, EachActs, EachEndsTurn, EndsTurnWithin, MayTakeTurn, TakesInOrder, TakesTurns, Working, by_one_worker, by_several, in_32_bits, in_64_bits, loads_between, loads_made_by, no_task, no_turn, one_task, one_turn}
+use Rattle.board_runs.specs.calls.Turns.{MakesActions, EachActs, EachEndsTurn, EndsTurnWithin, MayTakeTurn, TakesInOrder, TakesTurns, Working, by_one_worker, by_several, in_32_bits, in_64_bits, loads_between, loads_made_by, no_task, no_turn, one_task, one_turn}
 use Rattle.board_runs.proofs.Goings.{acts_itself}
 
 -- what is read and written in a list, through a function
@@ -23,7 +23,7 @@ map_set f (x ∷ xs) (suc n) v = ap (λ ys. f x ∷ ys) (map_set f xs n v)
 pub data IsSoFar (bound : ℕ) (f : Frame) : ℕ → ℕ → ℕ → List (List Action) → List Working → List Working → Type 0 where
   at_rest : {loads : ℕ} {rest : List Working} → IsSoFar bound f 0 loads loads [] rest rest
   one_done :
-      {n loads total : ℕ} {own : List Action} {owns : List (List Action)} {a b : Working} {olds news : List Working} (made : ℕ) → Acts f own a b →
+      {n loads total : ℕ} {own : List Action} {owns : List (List Action)} {a b : Working} {olds news : List Working} (made : ℕ) → MakesActions f own a b →
       b.seat.view.loads ≡ a.seat.view.loads + made → EndsTurnWithin bound (loads + made) a.seat b.seat → IsSoFar bound f n (loads + made) total owns olds news →
       IsSoFar bound f (suc n) loads total (own ∷ owns) (a ∷ olds) (b ∷ news)
 
@@ -53,7 +53,7 @@ next_is P d at_rest all l = first_is P d _ all l
 next_is P d (one_done made acts more ends p) all l = next_is P d p (all_rest P _ _ all) (omega arith)
 
 first_done :
-    (bound loads made : ℕ) (f : Frame) (own : List Action) (d w : Working) (rest : List Working) → 0 < length rest → Acts f own (get_or rest 0 d) w →
+    (bound loads made : ℕ) (f : Frame) (own : List Action) (d w : Working) (rest : List Working) → 0 < length rest → MakesActions f own (get_or rest 0 d) w →
     w.seat.view.loads ≡ (get_or rest 0 d).seat.view.loads + made → EndsTurnWithin bound (loads + made) (get_or rest 0 d).seat w.seat →
     IsSoFar bound f 1 loads (loads + made) (own ∷ []) rest (set rest 0 w)
 first_done bound loads made f own d w [] l acts more ends = absurd (omega arith)
@@ -62,7 +62,7 @@ first_done bound loads made f own d w (b ∷ rest) l acts more ends = one_done m
 -- the next has had its turn
 pub next_done :
     {bound : ℕ} {f : Frame} {n loads total : ℕ} {owns : List (List Action)} {olds news : List Working} (made : ℕ) (own : List Action) (d w : Working) →
-    IsSoFar bound f n loads total owns olds news → n < length news → Acts f own (get_or news n d) w →
+    IsSoFar bound f n loads total owns olds news → n < length news → MakesActions f own (get_or news n d) w →
     w.seat.view.loads ≡ (get_or news n d).seat.view.loads + made → EndsTurnWithin bound (total + made) (get_or news n d).seat w.seat →
     IsSoFar bound f (suc n) loads (total + made) (owns ++ own ∷ []) olds (set news n w)
 next_done {bound = bound} {loads = loads} made own d w at_rest l acts more ends = first_done bound loads made _ own d w _ l acts more ends
@@ -74,7 +74,7 @@ rest_each f [] all = no_task
 rest_each f (w ∷ rest) all = one_task (acts_itself f w (all_first (MayTakeTurn f) w rest all).kept) (rest_each f rest (all_rest (MayTakeTurn f) w rest all))
 
 first_stops :
-    (f : Frame) (own : List Action) (d w : Working) (rest : List Working) → All (MayTakeTurn f) rest → 0 < length rest → Acts f own (get_or rest 0 d) w →
+    (f : Frame) (own : List Action) (d w : Working) (rest : List Working) → All (MayTakeTurn f) rest → 0 < length rest → MakesActions f own (get_or rest 0 d) w →
     (owns : List (List Action)) × EachActs f owns rest (set rest 0 w)
 first_stops f own d w [] all l acts = absurd (omega arith)
 first_stops f own d w (b ∷ rest) all l acts = (own ∷ map (λ w. []) rest, one_task acts (rest_each f rest (all_rest (MayTakeTurn f) b rest all)))
@@ -82,7 +82,7 @@ first_stops f own d w (b ∷ rest) all l acts = (own ∷ map (λ w. []) rest, on
 -- the next has made some steps, and no other acts then
 pub next_stops :
     {bound : ℕ} {f : Frame} {n loads total : ℕ} {owns : List (List Action)} {olds news : List Working} (own : List Action) (d w : Working) →
-    IsSoFar bound f n loads total owns olds news → All (MayTakeTurn f) olds → n < length news → Acts f own (get_or news n d) w → (owns' : List (List Action)) × EachActs f owns' olds (set news n w)
+    IsSoFar bound f n loads total owns olds news → All (MayTakeTurn f) olds → n < length news → MakesActions f own (get_or news n d) w → (owns' : List (List Action)) × EachActs f owns' olds (set news n w)
 next_stops own d w at_rest all l acts = first_stops _ own d w _ all l acts
 next_stops own d w (one_done {own = own'} made' acts' more' ends' p) all l acts =
     let r = next_stops own d w p (all_rest (MayTakeTurn _) _ _ all) (omega arith) acts in

@@ -8,7 +8,7 @@ use Rattle.armus_base.specs.Runs.{IsByCode, Place, next_place}
 use Rattle.armus_base.proofs.Elements.{Contains-cons_cases, Contains-head, Contains-tail, nothing_in_nil}
 use Rattle.board.specs.calls.Views.{own_place, task_of}
 use Rattle.board.specs.calls.Seats.{Frame, Known}
-use Rattle.board_runs.specs.calls.Turns.{Acts, AreChildSeats, EachActs, Goes, IsChildSeat, LeadsByCode, Working, tasks_forked, no_child, no_task, one_child, one_task}
+use Rattle.board_runs.specs.calls.Turns.{MakesActions, AreChildSeats, EachActs, Goes, IsChildSeat, LeadsByCode, Working, tasks_forked, no_child, no_task, one_child, one_task}
 use Rattle.board_runs.specs.calls.TaskSeats.{HasSeatOf, AreTaskSeats, IsTaskSeat, IsSeatIn}
 use Rattle.board_runs.specs.inside.Rounds.{IsAtStart, IsChildIn}
 use Rattle.board_runs.proofs.Goings.{of_on, same_task}
@@ -95,17 +95,17 @@ child_is {f = f} k (one_child {c = d} {cs = cs} {seat = m} {seats = ks} child p)
 ]
 
 -- what became of each task, and what each task was
-pub became : {f : Frame} {owns : List (List Action)} {olds news : List Working} (w : Working) → EachActs f owns olds news → Contains olds w → (v : Working) × (own : List Action) × Contains news v × Acts f own w v
+pub became : {f : Frame} {owns : List (List Action)} {olds news : List Working} (w : Working) → EachActs f owns olds news → Contains olds w → (v : Working) × (own : List Action) × Contains news v × MakesActions f own w v
 became w no_task i = absurd (nothing_in_nil w i)
 became {f = f} w (one_task {own = own} {before = a} {now = b} {befores = olds} {nows = news} acts p) i = elim (Contains-cons_cases a olds w i) [
-  | inl here ↦ (b, own, Contains-head b news, subst (λ (x : Working). Acts f own x b) here acts)
+  | inl here ↦ (b, own, Contains-head b news, subst (λ (x : Working). MakesActions f own x b) here acts)
   | inr there ↦ (let r = became w p there in (r.0, r.1, Contains-tail b news r.0 r.2, r.3))
 ]
 
-pub was : {f : Frame} {owns : List (List Action)} {olds news : List Working} (v : Working) → EachActs f owns olds news → Contains news v → (w : Working) × (own : List Action) × Contains olds w × Acts f own w v
+pub was : {f : Frame} {owns : List (List Action)} {olds news : List Working} (v : Working) → EachActs f owns olds news → Contains news v → (w : Working) × (own : List Action) × Contains olds w × MakesActions f own w v
 was v no_task i = absurd (nothing_in_nil v i)
 was {f = f} v (one_task {own = own} {before = a} {now = b} {befores = olds} {nows = news} acts p) i = elim (Contains-cons_cases b news v i) [
-  | inl here ↦ (a, own, Contains-head a olds, subst (λ (x : Working). Acts f own a x) here acts)
+  | inl here ↦ (a, own, Contains-head a olds, subst (λ (x : Working). MakesActions f own a x) here acts)
   | inr there ↦ (let r = was v p there in (r.0, r.1, Contains-tail a olds r.0 r.2, r.3))
 ]
 
@@ -150,7 +150,7 @@ module _ (f : Frame) (owns : List (List Action)) (olds news : List Working) (Oth
     | inr other ↦ (has.0, inr other, has.2)
   ]
 
-  new_children : (w v : Working) (own : List Action) → Contains olds w → Acts f own w v → AreChildSeats f (tasks_forked own) v.children
+  new_children : (w v : Working) (own : List Action) → Contains olds w → MakesActions f own w v → AreChildSeats f (tasks_forked own) v.children
   new_children w v own i acts = subst (AreChildSeats f (tasks_forked own)) (sym (acts.children ∙ ap (λ ks. ks ++ acts.new) (none w i))) acts.seats
 
   each_after : (k : Known) → After k → IsTaskSeat f k

@@ -3,7 +3,7 @@ ghost use Rattle.std.specs.Prelude.{◌≡◌, ◌<◌, All, IfOk, [], length, m
 ghost use Rattle.board.specs.calls.Seats.{IsOf};
 ghost use Rattle.board.specs.calls.Steps.{IsSameSeat};
 ghost use Rattle.board_runs.specs.calls.Turns.{Working};
-ghost use Rattle.board_runs.specs.calls.TaskSeats.{ArePlacesOf, number};
+ghost use Rattle.board_runs.specs.calls.TaskSeats.{ArePlacesOf, own_number};
 ghost use Rattle.board_runs.specs.calls.Endings.{NotesPlaces, TakesAll};
 
 use crate::Task;
@@ -24,9 +24,9 @@ pub fn first_places(alloc: Global, plan: &Plan) -> Result<Vec<Place>, NoMemory>
     Ok(places)
 }
 
-/// Notes the place of each of these tasks under its number.
+/// Notes the place of each of these tasks under its own_number.
 pub fn note_places(tasks: &[Task<'_>], places: &mut Vec<Place>)
-    requires { All (λ task. number task < length places.old.items) tasks.now }
+    requires { All (λ task. own_number task < length places.old.items) tasks.now }
     ensures { NotesPlaces tasks.now places.old.items places.new.items }
 {
     for task in tasks {

@@ -13,5 +13,5 @@ mod worker_cells;
 pub use board_tasks::{BoardTasks, Rounded};
 pub use endings::{first_places, note_places, take_in_all};
 pub use rounds::{Calls, TurnSetting, round};
-pub use task::{Acted, Pause, Task};
+pub use task::{Pause, Stretch, Task};
 pub use worker_cells::WorkerCells;

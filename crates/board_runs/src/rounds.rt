@@ -3,7 +3,7 @@ ghost use Rattle.std.specs.Thread.{IsSync};
 ghost use Rattle.std.specs.Prelude.{◌≡◌, ◌≤◌, ◌-◌, ◌^◌, All, IfOk, List, OnOk, false, length, map};
 ghost use Rattle.armus_base.specs.Plans.{Action};
 ghost use Rattle.board.specs.calls.Seats.{IsOf};
-ghost use Rattle.board_runs.specs.calls.Turns.{Acts, CountsLoadsOf, EndsTurnWithin, MayTakeTurn, TakesTurns, max_actions};
+ghost use Rattle.board_runs.specs.calls.Turns.{MakesActions, CountsLoadsOf, EndsTurnWithin, MayTakeTurn, TakesTurns, max_actions};
 
 use crate::Task;
 use crate::worker_cells::{WorkerCells, provide};
@@ -59,7 +59,7 @@ pub(crate) trait TakeTurn {
     ) -> Result<u32, NoMemory>
         requires made { IsOf (working self.old).seat setting.now.board.now }
         requires free { (working self.old).seat.view.holds ≡ false }
-        ensures acts { (own : List Action) × Acts setting.now.board.now own (working self.old) (working self.new) × IfOk result (λ n. n ≡ length own) }
+        ensures acts { (own : List Action) × MakesActions setting.now.board.now own (working self.old) (working self.new) × IfOk result (λ n. n ≡ length own) }
         ensures few { IfOk result (λ n. n ≤ max_actions) }
         ensures counted { CountsLoadsOf (working self.old).seat (working self.new).seat cells.old cells.new }
         ensures ends { OnOk result (EndsTurnWithin setting.now.bound cells.new.loads (working self.old).seat (working self.new).seat) };

@@ -5,7 +5,7 @@ ghost use Rattle.armus_base.specs.Runs.{first_place};
 ghost use Rattle.board.specs.calls.Views.{own_place};
 ghost use Rattle.board.specs.calls.Seats.{IsOf, event_of};
 ghost use Rattle.phase_scan.specs.calls.Looks.{IsLook, LoadsAlone};
-ghost use Rattle.board_runs.specs.calls.Turns.{Acts, ActsNoMore, CountsActions, CountsLoadsOf, EndsTurn, EndsTurnWithin, PausesAt, StandsAtAwait, in_64_bits, standing_of};
+ghost use Rattle.board_runs.specs.calls.Turns.{MakesActions, ActsNoMore, CountsActions, CountsLoadsOf, EndsTurn, EndsTurnWithin, PausesAt, StandsAtAwait, in_64_bits, standing_of};
 ghost use Rattle.board_runs.specs.inside.Tasks.{MakesSome};
 
 use crate::beginning::{Attempt, await_to_decide, begin};
@@ -29,7 +29,7 @@ pub enum Pause {
 
 /// What a stretch of a turn was.
 #[derive(Clone, Copy, Debug, PartialEq, Eq)]
-pub struct Acted {
+pub struct Stretch {
     /// How many actions the task made.
     pub actions: u32,
     /// Why it acts no further.
@@ -90,7 +90,7 @@ impl<'p> Task<'p> {
         List::from_vec(std::mem::replace(&mut self.children, Vec::new(alloc)))
     }
 
-    /// Its number.
+    /// Its own_number.
     pub fn id(&self) -> TaskId
         ensures { self.now.seat.view.own ≡ Some result.0 }
     {
@@ -133,10 +133,10 @@ impl<'p> Task<'p> {
         &mut self,
         setting: &TurnSetting<'_, R, C>,
         cells: &mut WorkerCells,
-    ) -> Result<Acted, NoMemory>
+    ) -> Result<Stretch, NoMemory>
         requires made { IsOf self.old.seat setting.now.board.now }
         requires free { self.old.seat.view.holds ≡ false }
-        ensures acts { (own : List Action) × Acts setting.now.board.now own self.old self.new × IfOk result (λ acted. acted.actions ≡ length own) }
+        ensures acts { (own : List Action) × MakesActions setting.now.board.now own self.old self.new × IfOk result (λ acted. acted.actions ≡ length own) }
         ensures few { (n : ℕ) → CountsActions n self.old → IfOk result (λ acted. CountsActions (n + acted.actions) self.new) }
         ensures pause { IfOk result (λ acted. PausesAt setting.now.bound cells.new.loads acted.pause self.old self.new) }
         ensures nobody { OnErr result (self.new.children ≡ self.old.children) }
@@ -149,11 +149,11 @@ impl<'p> Task<'p> {
             actions += more;
             if self.children.len() > had {
                 let pause = Pause::Forked;
-                return Ok(Acted { actions, pause });
+                return Ok(Stretch { actions, pause });
             }
         }
         let pause = Pause::TurnOver;
-        Ok(Acted { actions, pause })
+        Ok(Stretch { actions, pause })
     }
 
     // Makes its next action, if it may, and after a refusal its drops; answers how many actions were made.
@@ -165,8 +165,8 @@ impl<'p> Task<'p> {
         requires made { IsOf self.old.seat setting.now.board.now }
         requires free { self.old.seat.view.holds ≡ false }
         ensures some { IfOk result (λ o. IfSome o (λ n. MakesSome setting.now.board.now n self.old self.new)) }
-        ensures none { IfOk result (λ o. o ≡ None → Acts setting.now.board.now [] self.old self.new × EndsTurnWithin setting.now.bound cells.new.loads self.old.seat self.new.seat) }
-        ensures err { OnErr result (Acts setting.now.board.now [] self.old self.new) }
+        ensures none { IfOk result (λ o. o ≡ None → MakesActions setting.now.board.now [] self.old self.new × EndsTurnWithin setting.now.bound cells.new.loads self.old.seat self.new.seat) }
+        ensures err { OnErr result (MakesActions setting.now.board.now [] self.old self.new) }
         ensures counted { CountsLoadsOf self.old.seat self.new.seat cells.old cells.new }
     {
         let t = self.seat.id();
@@ -230,7 +230,7 @@ impl<'p> Task<'p> {
         requires unrefused { (own_place self.old.seat.view).dropped ≡ None }
         requires event { IsSome (event_of self.old.seat) }
         ensures some { IfSome result (λ n. MakesSome board.now n self.old self.new) }
-        ensures none { result ≡ None → Acts board.now [] self.old self.new × EndsTurn self.old.seat self.new.seat }
+        ensures none { result ≡ None → MakesActions board.now [] self.old self.new × EndsTurn self.old.seat self.new.seat }
         ensures counted { CountsLoadsOf self.old.seat self.new.seat cells.old cells.new }
     {
         let _ = self.seat.id();

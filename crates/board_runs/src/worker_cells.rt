@@ -25,10 +25,10 @@ pub struct WorkerCells {
 }
 
 impl Model for WorkerCells {
-    ghost use Rattle.board_runs.specs.calls.Turns.{Worker};
+    ghost use Rattle.board_runs.specs.calls.Turns.{WorkerLoads};
     ghost use Rattle.board_runs.specs.inside.Workers.{Fit, worker_of};
 
-    ghost Value = { Worker };
+    ghost Value = { WorkerLoads };
 
     ghost view = { worker_of };
 

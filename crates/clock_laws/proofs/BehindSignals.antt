@@ -3,7 +3,7 @@ use Rattle.std.proofs.Common.{◌≡◌, ◌≢◌, ℕ, Bool, true, false, Opti
 use Rattle.std.specs.Str.{bytes_eq}
 use Rattle.std.specs.Prelude.{◌&&◌, ◌==◌, if◌then◌else◌, is_some}
 use Rattle.clock_laws.specs.calls.Direct.{ClockState, departing, forgetting, going}
-use Rattle.clock_semantics.specs.Moves.{Move, Standing, advances, drops, unregistered_from, with_pending}
+use Rattle.clock_semantics.specs.Moves.{Move, ActivityStanding, advances, drops, unregistered_from, with_pending}
 use Rattle.clock_semantics.specs.Unfolding.{ClockNames, ClockUnfolding}
 use Rattle.clock_semantics.specs.calls.ProgramPoints.{ProgramPoint}
 use Rattle.clock_laws.specs.TextMachine.{Acting, Activity, Clock, Continuation, Made, TextState, departs, goes_to, is_made, is_there, left_by, remembering, with_clock}
@@ -31,7 +31,7 @@ module _ (u : ClockUnfolding) (names : HaveNames u) (s : TextState) (m : ClockSt
   abbrev forgotten : Acting
   forgotten = record x { remembers = λ q. if is_made p q then None else x.remembers q }
 
-  module _ (c : Continuation) (left : List Move) (point : ProgramPoint) (ns : ClockNames) (standing : Standing) (rest_is : x.rest ≡ c) (left_is : m.left t ≡ left)
+  module _ (c : Continuation) (left : List Move) (point : ProgramPoint) (ns : ClockNames) (standing : ActivityStanding) (rest_is : x.rest ≡ c) (left_is : m.left t ≡ left)
       (knows : Knows u x c ns standing (registered u s a)) (d : Continuation) (at : ProgramPoint) (ms : List Move) (fits : Fits u at d) (finishes : Finishes u d)
       (bottoms : bottom u d ≡ bottom u c) where
     abbrev y : Acting

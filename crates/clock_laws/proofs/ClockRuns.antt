@@ -6,7 +6,7 @@ use Rattle.armus_base.specs.Plans.{maker_of}
 use Rattle.armus_base.specs.Runs.{state_after}
 use Rattle.armus_base.specs.States.{Step}
 use Rattle.armus_base.proofs.Elements.{Contains-cons_cases}
-use Rattle.clock_semantics.specs.Moves.{Move, Standing, after_move, begins, opens}
+use Rattle.clock_semantics.specs.Moves.{Move, ActivityStanding, after_move, begins, opens}
 use Rattle.clock_semantics.specs.Unfolding.{ClockUnfolding, activities, plan_of_moves}
 use Rattle.clock_laws.specs.calls.Direct.{ClockState}
 use Rattle.clock_laws.specs.calls.Laws.{AgreesOnClock, AgreesOnFinish, DirectRunsAreBounded, DirectRunsEnd, DirectRunsMatch, IsClockNumber, IsFinishNumber, IsMatchedBy, moves_of}
@@ -26,7 +26,7 @@ runs_end p u ts s e run = run_ends u.moves (activities u) (omega (arith, many_mo
 
 -- what is opened is a clock, and what is begun a finish
 module _ (clock : ClockKinds) (maker : ℕ → ℕ) (t : ℕ) where
-  opened_clock : (p : ℕ) (ms : List Move) (s : Standing) → AreLawfulMoves clock maker t s ms → Contains ms (opens p) → clock.is p ≡ true
+  opened_clock : (p : ℕ) (ms : List Move) (s : ActivityStanding) → AreLawfulMoves clock maker t s ms → Contains ms (opens p) → clock.is p ≡ true
   opened_clock p [] s lawful has = absurd (let l = has.1 in omega arith)
   opened_clock p (m ∷ ms) s lawful has =
       elim (Contains-cons_cases m ms (opens p) has) [
@@ -34,7 +34,7 @@ module _ (clock : ClockKinds) (maker : ℕ → ℕ) (t : ℕ) where
         | inr later ↦ opened_clock p ms (after_move m s) lawful.2 later
       ]
 
-  begun_finish : (f : ℕ) (ms : List Move) (s : Standing) → AreLawfulMoves clock maker t s ms → Contains ms (begins f) → clock.is f ≡ false
+  begun_finish : (f : ℕ) (ms : List Move) (s : ActivityStanding) → AreLawfulMoves clock maker t s ms → Contains ms (begins f) → clock.is f ≡ false
   begun_finish f [] s lawful has = absurd (let l = has.1 in omega arith)
   begun_finish f (m ∷ ms) s lawful has =
       elim (Contains-cons_cases m ms (begins f) has) [

@@ -5,7 +5,7 @@ use Rattle.std.specs.Option.{option_map}
 use Rattle.armus_base.specs.Places.{some_before}
 use Rattle.clock_syntax.specs.Trees.{ClockTree, advance, plain}
 use Rattle.clock_laws.specs.calls.Direct.{ClockState, is_through, settled}
-use Rattle.clock_semantics.specs.Moves.{Move, Standing, begins, made_by, opens, started_by}
+use Rattle.clock_semantics.specs.Moves.{Move, ActivityStanding, begins, made_by, opens, started_by}
 use Rattle.clock_semantics.specs.Unfolding.{ClockNames, ClockUnfolding, activities}
 use Rattle.clock_semantics.proofs.MoveCodes.{moves_at}
 use Rattle.clock_semantics.specs.calls.ProgramPoints.{ProgramPoint, before, closing, last, turning}
@@ -70,7 +70,7 @@ module _ (u : ClockUnfolding) where
   target_at x rest = None
 
   -- what is known of an activity that has this still to do, with the names and the standing of the unfolding, and with the clocks on which it is registered
-  pub record Knows (x : Acting) (c : Continuation) (names : ClockNames) (standing : Standing) (on : Made → Bool) : Type 0 where
+  pub record Knows (x : Acting) (c : Continuation) (names : ClockNames) (standing : ActivityStanding) (on : Made → Bool) : Type 0 where
     pub named : (y : List ℕ) → names y ≡ option_map (made_in u) (x.names y)
     pub clocks : (y : List ℕ) (p : Made) → x.names y ≡ Some p → IsClock p
     pub members : (p : Made) → IsClock p → standing.members (made_in u p) ≡ on p
@@ -81,7 +81,7 @@ module _ (u : ClockUnfolding) where
   pub record Stands (x : Acting) (c : Continuation) (left : List Move) (on : Made → Bool) : Type 0 where
     pub point : ProgramPoint
     pub names : ClockNames
-    pub standing : Standing
+    pub standing : ActivityStanding
     pub fits : Fits point c
     pub makes : Makes u point names standing left
     pub knows : Knows x c names standing on

@@ -13,11 +13,11 @@ use Rattle.armus_base.specs.States.{Phases, next_phase, updated}
 use Rattle.armus_base.specs.Places.{first_phases, own_phases, own_step, phases_after}
 use Rattle.armus_base.proofs.Steps.{updated_other, updated_same}
 use Rattle.pl_plan.proofs.Growth.{own_steps}
-use Rattle.clock_semantics.specs.Moves.{Move, Standing, after_move, code_from, no_standing, opens, starts, advances, resumes, drops, begins, ends, stops}
+use Rattle.clock_semantics.specs.Moves.{Move, ActivityStanding, after_move, code_from, no_standing, opens, starts, advances, resumes, drops, begins, ends, stops}
 use Rattle.clock_laws.proofs.Lawful.{AreLawfulMoves, ClockKinds}
 
 -- the members are those who have a phase
-abbrev pub SameMembers : Standing → Phases → Type 0
+abbrev pub SameMembers : ActivityStanding → Phases → Type 0
 SameMembers s m = (q : ℕ) → s.members q ≡ is_some (m q)
 
 nobody : (o : Option ℕ) → is_some o ≡ false → o ≡ None
@@ -90,7 +90,7 @@ by_pending false p rest m q pending idle = idle
 module _ (clock : ClockKinds) (maker : ℕ → ℕ) (t : ℕ) where
   -- whoever makes these moves is a member of nothing then
   pub leaves_nothing :
-      (ms : List Move) (s : Standing) (m : Phases) → AreLawfulMoves clock maker t s ms → SameMembers s m → (q : ℕ) → own_steps (actions_of (code_from s ms)) m q ≡ None
+      (ms : List Move) (s : ActivityStanding) (m : Phases) → AreLawfulMoves clock maker t s ms → SameMembers s m → (q : ℕ) → own_steps (actions_of (code_from s ms)) m q ≡ None
   leaves_nothing [] s m lawful same q = nobody (m q) (sym (same q) ∙ lawful q)
   leaves_nothing (opens p ∷ ms) s m lawful same q =
       leaves_nothing ms (after_move (opens p) s) (updated m p (Some 0)) lawful.2 (members_updated s.members m p true (Some 0) refl same) q
@@ -140,7 +140,7 @@ last_phases_are plan t = all_steps (actions plan t) (first_phases plan t)
 
 -- so the phases after its whole code are none, where it begins as it stands first
 pub last_phases_none :
-    (plan : Plan) (clock : ClockKinds) (maker : ℕ → ℕ) (t : ℕ) (s : Standing) (ms : List Move) → code_of plan t ≡ code_from s ms → AreLawfulMoves clock maker t s ms →
+    (plan : Plan) (clock : ClockKinds) (maker : ℕ → ℕ) (t : ℕ) (s : ActivityStanding) (ms : List Move) → code_of plan t ≡ code_from s ms → AreLawfulMoves clock maker t s ms →
     SameMembers s (first_phases plan t) → (q : ℕ) → phases_after plan t (length (actions plan t)) q ≡ None
 unfolding actions
 last_phases_none plan clock maker t s ms code lawful same q =

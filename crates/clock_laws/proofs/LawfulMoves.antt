@@ -19,7 +19,7 @@ use Rattle.pl_plan.proofs.Places.{at_more}
 use Rattle.pl_plan.proofs.Tables.{slice_get-last}
 use Rattle.pl_plan.proofs.VisitsLeave.{bind_ok, ok_is}
 use Rattle.clock_syntax.specs.Trees.{ClockTree, async, clock_count, done, finish, loop, plain}
-use Rattle.clock_semantics.specs.Moves.{Move, Standing, after_move, code_from, code_of_moves, no_standing, ops_of, opens, starts, advances, resumes, drops, begins, ends, stops}
+use Rattle.clock_semantics.specs.Moves.{Move, ActivityStanding, after_move, code_from, code_of_moves, no_standing, ops_of, opens, starts, advances, resumes, drops, begins, ends, stops}
 use Rattle.clock_semantics.specs.Unfolding.{ClockComing, ClockPart, ClockStart, ClockUnfolding, Current, a_close, a_finish, a_loop, a_plain, a_turn, an_async, clock_act, clock_opening, clock_plan_of, clock_unfolded, come, come_all, coming, comings_of, counted_coming, governed_by, innermost, naming, nothing_known, numbers_of, plan_of_moves, standing_on, start_at, stop, unfold_activities, unfold_started, with_activity, with_clock_made, with_known, with_move}
 use Rattle.clock_semantics.specs.calls.Making.{AreClocksOf, MayMake}
 use Rattle.clock_semantics.proofs.ClockPlanIsChecked.{IsBetween, activity_keeps, begins_known, clock_plan_is_checked, move_keeps, opening_between, unfolded_between, visits_keep}
@@ -43,11 +43,11 @@ AreFinishes kinds [] = Unit {0}
 AreFinishes kinds (f ∷ fs) = (slice_get kinds f ≡ Some false) × AreFinishes kinds fs
 
 -- how an activity is started
-abbrev pub StartsOn : List ClockStart → ℕ → Standing → Type 0
+abbrev pub StartsOn : List ClockStart → ℕ → ActivityStanding → Type 0
 StartsOn beginnings c standing = (start : ClockStart) × (slice_get beginnings c ≡ Some start) × start.known.standing ≡ standing
 
 -- activity t, which stands so, can make this move, which is not its end
-abbrev pub IsMoveIn : List Bool → List TaskId → List ClockStart → ℕ → Standing → Move → Type 0
+abbrev pub IsMoveIn : List Bool → List TaskId → List ClockStart → ℕ → ActivityStanding → Move → Type 0
 IsMoveIn kinds makers beginnings t s (opens p) = slice_get kinds p ≡ Some true
 IsMoveIn kinds makers beginnings t s (starts c ps f) =
     AreIdleIn kinds s.pending ps × AreFinishes kinds (option_to_list f) × StartsOn beginnings c (standing_on ps f)
@@ -58,7 +58,7 @@ IsMoveIn kinds makers beginnings t s (begins f) = slice_get kinds f ≡ Some fal
 IsMoveIn kinds makers beginnings t s (ends f) = slice_get kinds f ≡ Some false × slice_get makers f ≡ Some (task t)
 IsMoveIn kinds makers beginnings t s (stops ps) = ⊥
 
-abbrev pub AreMovesIn : List Bool → List TaskId → List ClockStart → ℕ → Standing → List Move → Type 0
+abbrev pub AreMovesIn : List Bool → List TaskId → List ClockStart → ℕ → ActivityStanding → List Move → Type 0
 AreMovesIn kinds makers beginnings t s [] = Unit {0}
 AreMovesIn kinds makers beginnings t s (m ∷ ms) = IsMoveIn kinds makers beginnings t s m × AreMovesIn kinds makers beginnings t (after_move m s) ms
 
@@ -82,7 +82,7 @@ module _ (kinds kinds' : List Bool) (more : Stays kinds kinds') where
   finishes_grow (f ∷ fs) h = (more f false h.0, finishes_grow fs h.1)
 
   module _ (makers makers' : List TaskId) (made : Stays makers makers') (beginnings beginnings' : List ClockStart) (begun : Stays beginnings beginnings') (t : ℕ) where
-    move_grow : (s : Standing) (m : Move) → IsMoveIn kinds makers beginnings t s m → IsMoveIn kinds' makers' beginnings' t s m
+    move_grow : (s : ActivityStanding) (m : Move) → IsMoveIn kinds makers beginnings t s m → IsMoveIn kinds' makers' beginnings' t s m
     move_grow s (opens p) h = more p true h
     move_grow s (starts c ps f) h =
         (idle_grow s.pending ps h.0, finishes_grow (option_to_list f) h.1, (h.2.0, begun c h.2.0 h.2.1, h.2.2))
@@ -93,12 +93,12 @@ module _ (kinds kinds' : List Bool) (more : Stays kinds kinds') where
     move_grow s (ends f) h = (more f false h.0, made f (task t) h.1)
     move_grow s (stops ps) h = h
 
-    moves_grow : (s : Standing) (ms : List Move) → AreMovesIn kinds makers beginnings t s ms → AreMovesIn kinds' makers' beginnings' t s ms
+    moves_grow : (s : ActivityStanding) (ms : List Move) → AreMovesIn kinds makers beginnings t s ms → AreMovesIn kinds' makers' beginnings' t s ms
     moves_grow s [] h = tt
     moves_grow s (m ∷ ms) h = (move_grow s m h.0, moves_grow (after_move m s) ms h.1)
 
 moves_snoc :
-    (kinds : List Bool) (makers : List TaskId) (beginnings : List ClockStart) (t : ℕ) (s : Standing) (ms : List Move) (m : Move) →
+    (kinds : List Bool) (makers : List TaskId) (beginnings : List ClockStart) (t : ℕ) (s : ActivityStanding) (ms : List Move) (m : Move) →
     AreMovesIn kinds makers beginnings t s ms → IsMoveIn kinds makers beginnings t (stood s ms) m → AreMovesIn kinds makers beginnings t s (ms ++ m ∷ [])
 moves_snoc kinds makers beginnings t s [] m h now = (now, tt)
 moves_snoc kinds makers beginnings t s (n ∷ ms) m h now = (h.0, moves_snoc kinds makers beginnings t (after_move n s) ms m h.1 now)
@@ -503,7 +503,7 @@ stops_lawful t k u w h s =
               is = get_or-set_same u.moves t (moves_at u t ++ stops ps ∷ []) [] here;
               lawful = h.1.now;
               covers = λ q e.
-                  (let member : u.now.standing.members q ≡ true = ap (λ (z : Standing). z.members q) h.1.stands ∙ e in
+                  (let member : u.now.standing.members q ≡ true = ap (λ (z : ActivityStanding). z.members q) h.1.stands ∙ e in
                   any_numbers u.now.standing.members q member (length u.makers) (h.0.knows.below q member));
             })
         | inr other ↦
@@ -567,7 +567,7 @@ unfolded_lawful p u e = activities_lawful max_tasks 0 (clock_opening p) u (openi
 
 -- ---- so the plan is one of these moves
 
-pub first_standing : Option ClockStart → Standing
+pub first_standing : Option ClockStart → ActivityStanding
 first_standing None = no_standing
 first_standing (Some start) = start.known.standing
 
@@ -587,11 +587,11 @@ module _ (kinds : List Bool) (makers : List TaskId) (beginnings : List ClockStar
   finish_of None h = tt
   finish_of (Some f) h = ap (λ o. unwrap_or o false) h.0
 
-  lawful_move : (t : ℕ) (s : Standing) (m : Move) (ms : List Move) → IsMoveIn kinds makers beginnings t s m → IsLawfulMove all_kinds maker t s m × IsLastIfEnd m ms
+  lawful_move : (t : ℕ) (s : ActivityStanding) (m : Move) (ms : List Move) → IsMoveIn kinds makers beginnings t s m → IsLawfulMove all_kinds maker t s m × IsLastIfEnd m ms
   unfolding first_standing
   lawful_move t s (opens p) ms h = (ap (λ o. unwrap_or o false) h, tt)
   lawful_move t s (starts c ps f) ms h =
-      ((idle_of s.pending ps h.0, finish_of f h.1, λ q. ap (λ (z : Standing). z.members q) (ap first_standing h.2.1 ∙ h.2.2)), tt)
+      ((idle_of s.pending ps h.0, finish_of f h.1, λ q. ap (λ (z : ActivityStanding). z.members q) (ap first_standing h.2.1 ∙ h.2.2)), tt)
   lawful_move t s (advances p) ms h = (ap (λ o. unwrap_or o false) h, tt)
   lawful_move t s (resumes p) ms h = ((ap (λ o. unwrap_or o false) h.0, h.1), tt)
   lawful_move t s (drops p) ms h = (ap (λ o. unwrap_or o false) h, tt)
@@ -600,7 +600,7 @@ module _ (kinds : List Bool) (makers : List TaskId) (beginnings : List ClockStar
   lawful_move t s (stops ps) ms h = absurd h
 
   lawful_whole :
-      (t : ℕ) (s : Standing) (before : List Move) (last : List ℕ) → AreMovesIn kinds makers beginnings t s before →
+      (t : ℕ) (s : ActivityStanding) (before : List Move) (last : List ℕ) → AreMovesIn kinds makers beginnings t s before →
       ((q : ℕ) → (stood s before).members q ≡ true → list_any (λ p. p == q) last ≡ true) → AreLawfulMoves all_kinds maker t s (before ++ stops last ∷ [])
   lawful_whole t s [] last h covers = (covers, refl, λ q. refl)
   lawful_whole t s (m ∷ ms) last h covers =
@@ -608,7 +608,7 @@ module _ (kinds : List Bool) (makers : List TaskId) (beginnings : List ClockStar
       (now.0, now.1, lawful_whole t (after_move m s) ms last h.1 covers)
 
 -- the ops of moves go by the pending clocks alone
-same_code : (s s' : Standing) (ms : List Move) → SamePending s s' → code_from s ms ≡ code_from s' ms
+same_code : (s s' : ActivityStanding) (ms : List Move) → SamePending s s' → code_from s ms ≡ code_from s' ms
 same_code s s' [] same = refl
 same_code s s' (m ∷ ms) same =
     ap (λ os. os ++ code_from (after_move m s) ms) (same_ops s s' m same)
@@ -689,7 +689,7 @@ module _ (p : ClockTree) (u : ClockUnfolding) (e : clock_unfolded p ≡ Ok u) wh
   plan_is_of_moves =
       record {
         checked = plan_checked;
-        root = λ q. ap (λ (z : Standing). z.members q) (ap first_standing lawful.root.1 ∙ lawful.root.2);
+        root = λ q. ap (λ (z : ActivityStanding). z.members q) (ap first_standing lawful.root.1 ∙ lawful.root.2);
         idle = starts_idle;
         codes = λ t. code_at u.moves t ∙ same_code no_standing (kinds_now.first t) (unwrap_or (slice_get u.moves t) []) (λ q. sym (starts_idle t q));
         lawful = are_lawful;

@@ -9,7 +9,7 @@ use Rattle.armus_base.proofs.Lists.{slice_get-append}
 use Rattle.clock_syntax.specs.Trees.{ClockPlain, ClockTree, advance, async, clock, clock_count, done, drop, finish, loop, plain, resume, skip}
 use Rattle.pl_plan.proofs.Tables.{slice_get-last}
 use Rattle.clock_semantics.specs.calls.ClockTests.{ClockRow, PassesClockTable, after_end, clock_named, clock_table, left_at_end, names_rows, no_activity_left, no_clock_cell_left, no_clock_left, no_clock_op_left, visited}
-use Rattle.clock_semantics.specs.Moves.{Move, Standing, advances, begins, drops, ends, opens, registered_on, resumes, starts, stops, unregistered_from, with_pending}
+use Rattle.clock_semantics.specs.Moves.{Move, ActivityStanding, advances, begins, drops, ends, opens, registered_on, resumes, starts, stops, unregistered_from, with_pending}
 use Rattle.clock_semantics.specs.Unfolding.{ClockComing, ClockNames, ClockPart, ClockStart, ClockUnfolding, a_close, a_finish, a_loop, a_plain, a_turn, an_async, coming, innermost, start_at}
 use Rattle.clock_semantics.specs.calls.ClockUnfolds.{GoesToEnd, after_part, comes, stops_there}
 use Rattle.clock_semantics.specs.calls.ProgramPoints.{ProgramPoint, before, behind, closing, finishes_around, last, part_at, turning}
@@ -18,7 +18,7 @@ use Rattle.clock_semantics.proofs.AddsMoves.{Adds, adds_both, adds_move, move_of
 -- ---- names
 
 -- the names of an async behind these earlier ones stand for these clocks: registered, named once, and not pending
-abbrev pub AreNamed : ClockNames → Standing → List (List ℕ) → List (List ℕ) → List ℕ → Type 0
+abbrev pub AreNamed : ClockNames → ActivityStanding → List (List ℕ) → List (List ℕ) → List ℕ → Type 0
 AreNamed names standing earlier [] [] = Unit {0}
 AreNamed names standing earlier (x ∷ xs) (p ∷ ps) =
     (names x ≡ Some p) × (standing.members p ≡ true) × (list_any (bytes_eq x) earlier ≡ false) × (standing.pending p ≡ false)
@@ -36,50 +36,50 @@ pub record IsStart (start : ClockStart) (body : ClockTree) (names : ClockNames) 
 -- ---- from a point to the end
 
 -- an activity of an unfolding u that stands at this point, with these names, and so on clocks and finishes, makes just these moves up to its end
-pub data Makes (u : ClockUnfolding) : ProgramPoint → ClockNames → Standing → List Move → Type 0 where
+pub data Makes (u : ClockUnfolding) : ProgramPoint → ClockNames → ActivityStanding → List Move → Type 0 where
   has_read :
-      {n : ℕ} {rest : ProgramPoint} {names : ClockNames} {s : Standing} {ms : List Move} → Makes u rest names s ms → Makes u (before n done rest) names s ms
+      {n : ℕ} {rest : ProgramPoint} {names : ClockNames} {s : ActivityStanding} {ms : List Move} → Makes u rest names s ms → Makes u (before n done rest) names s ms
   has_turned :
-      {n : ℕ} {body : ClockTree} {rest : ProgramPoint} {names : ClockNames} {s : Standing} {ms : List Move} → Makes u rest names s ms →
+      {n : ℕ} {body : ClockTree} {rest : ProgramPoint} {names : ClockNames} {s : ActivityStanding} {ms : List Move} → Makes u rest names s ms →
       Makes u (turning n zero body rest) names s ms
   skips :
-      {n : ℕ} {more : ClockTree} {rest : ProgramPoint} {names : ClockNames} {s : Standing} {ms : List Move} → Makes u (before (n + 1) more rest) names s ms →
+      {n : ℕ} {more : ClockTree} {rest : ProgramPoint} {names : ClockNames} {s : ActivityStanding} {ms : List Move} → Makes u (before (n + 1) more rest) names s ms →
       Makes u (before n (plain skip more) rest) names s ms
   loops :
-      {n k : ℕ} {body more : ClockTree} {rest : ProgramPoint} {names : ClockNames} {s : Standing} {ms : List Move} →
+      {n k : ℕ} {body more : ClockTree} {rest : ProgramPoint} {names : ClockNames} {s : ActivityStanding} {ms : List Move} →
       Makes u (turning n k body (before (n + 1 + clock_count body) more rest)) names s ms → Makes u (before n (loop k body more) rest) names s ms
   turns_on :
-      {n k : ℕ} {body : ClockTree} {rest : ProgramPoint} {names : ClockNames} {s : Standing} {ms : List Move} →
+      {n k : ℕ} {body : ClockTree} {rest : ProgramPoint} {names : ClockNames} {s : ActivityStanding} {ms : List Move} →
       Makes u (before (n + 1) body (turning n k body rest)) names s ms → Makes u (turning n (suc k) body rest) names s ms
   opens_one :
-      {n : ℕ} {x : List ℕ} {more : ClockTree} {rest : ProgramPoint} {names : ClockNames} {s : Standing} {ms : List Move} (p : ℕ) →
+      {n : ℕ} {x : List ℕ} {more : ClockTree} {rest : ProgramPoint} {names : ClockNames} {s : ActivityStanding} {ms : List Move} (p : ℕ) →
       Makes u (before (n + 1) more rest) (λ y. if bytes_eq x y then Some p else names y) (registered_on p s) ms →
       Makes u (before n (plain (clock x) more) rest) names s (opens p ∷ ms)
   advances_on :
-      {n : ℕ} {x : List ℕ} {more : ClockTree} {rest : ProgramPoint} {names : ClockNames} {s : Standing} {ms : List Move} (p : ℕ) → names x ≡ Some p →
+      {n : ℕ} {x : List ℕ} {more : ClockTree} {rest : ProgramPoint} {names : ClockNames} {s : ActivityStanding} {ms : List Move} (p : ℕ) → names x ≡ Some p →
       s.members p ≡ true → Makes u (before (n + 1) more rest) names (with_pending p false s) ms →
       Makes u (before n (plain (advance x) more) rest) names s (advances p ∷ ms)
   resumes_on :
-      {n : ℕ} {x : List ℕ} {more : ClockTree} {rest : ProgramPoint} {names : ClockNames} {s : Standing} {ms : List Move} (p : ℕ) → names x ≡ Some p →
+      {n : ℕ} {x : List ℕ} {more : ClockTree} {rest : ProgramPoint} {names : ClockNames} {s : ActivityStanding} {ms : List Move} (p : ℕ) → names x ≡ Some p →
       s.members p ≡ true → s.pending p ≡ false → Makes u (before (n + 1) more rest) names (with_pending p true s) ms →
       Makes u (before n (plain (resume x) more) rest) names s (resumes p ∷ ms)
   drops_from :
-      {n : ℕ} {x : List ℕ} {more : ClockTree} {rest : ProgramPoint} {names : ClockNames} {s : Standing} {ms : List Move} (p : ℕ) → names x ≡ Some p →
+      {n : ℕ} {x : List ℕ} {more : ClockTree} {rest : ProgramPoint} {names : ClockNames} {s : ActivityStanding} {ms : List Move} (p : ℕ) → names x ≡ Some p →
       s.members p ≡ true → Makes u (before (n + 1) more rest) names (unregistered_from p s) ms →
       Makes u (before n (plain (drop x) more) rest) names s (drops p ∷ ms)
   starts_one :
-      {n : ℕ} {xs : List (List ℕ)} {body more : ClockTree} {rest : ProgramPoint} {names : ClockNames} {s : Standing} {ms : List Move} (c : ℕ) (ps : List ℕ)
+      {n : ℕ} {xs : List (List ℕ)} {body more : ClockTree} {rest : ProgramPoint} {names : ClockNames} {s : ActivityStanding} {ms : List Move} (c : ℕ) (ps : List ℕ)
       (start : ClockStart) → AreNamed names s [] xs ps → slice_get u.starts c ≡ Some start → IsStart start body names ps (innermost (finishes_around rest)) →
       Makes u (before (n + 1 + clock_count body) more rest) names s ms →
       Makes u (before n (async xs body more) rest) names s (starts c ps (innermost (finishes_around rest)) ∷ ms)
   begins_one :
-      {n : ℕ} {body more : ClockTree} {rest : ProgramPoint} {names : ClockNames} {s : Standing} {ms : List Move} (f : ℕ) →
+      {n : ℕ} {body more : ClockTree} {rest : ProgramPoint} {names : ClockNames} {s : ActivityStanding} {ms : List Move} (f : ℕ) →
       Makes u (before (n + 1) body (closing n f (before (n + 1 + clock_count body) more rest))) names (registered_on f s) ms →
       Makes u (before n (finish body more) rest) names s (begins f ∷ ms)
   ends_one :
-      {n f : ℕ} {rest : ProgramPoint} {names : ClockNames} {s : Standing} {ms : List Move} → Makes u rest names (unregistered_from f s) ms →
+      {n f : ℕ} {rest : ProgramPoint} {names : ClockNames} {s : ActivityStanding} {ms : List Move} → Makes u rest names (unregistered_from f s) ms →
       Makes u (closing n f rest) names s (ends f ∷ ms)
-  stops_here : {n : ℕ} {f : Option ℕ} {names : ClockNames} {s : Standing} (ps : List ℕ) → Makes u (last n f) names s (stops ps ∷ [])
+  stops_here : {n : ℕ} {f : Option ℕ} {names : ClockNames} {s : ActivityStanding} (ps : List ℕ) → Makes u (last n f) names s (stops ps ∷ [])
 
 -- ---- what the table gives
 
@@ -250,7 +250,7 @@ module _ (u : ClockUnfolding) (t : ℕ) (v : ClockUnfolding) (here : t < length 
 
 -- where an activity comes to nothing, it stops
 nothing_makes :
-    (u : ClockUnfolding) (point : ProgramPoint) (names : ClockNames) (s : Standing) (ps : List ℕ) → part_at point ≡ None → Makes u point names s (stops ps ∷ [])
+    (u : ClockUnfolding) (point : ProgramPoint) (names : ClockNames) (s : ActivityStanding) (ps : List ℕ) → part_at point ≡ None → Makes u point names s (stops ps ∷ [])
 nothing_makes u (before n done rest) names s ps none = has_read (nothing_makes u rest names s ps none)
 nothing_makes u (before n (plain x more) rest) names s ps none = absurd cc
 nothing_makes u (before n (async xs body more) rest) names s ps none = absurd cc

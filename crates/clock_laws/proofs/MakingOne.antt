@@ -6,7 +6,7 @@ use Rattle.std.specs.Option.{option_map}
 use Rattle.std.proofs.lemmas.Bool.{false≢true}
 use Rattle.armus_base.specs.States.{updated}
 use Rattle.clock_laws.specs.calls.Direct.{ClockState, going, opening_clock}
-use Rattle.clock_semantics.specs.Moves.{Move, Standing, opens, registered_on}
+use Rattle.clock_semantics.specs.Moves.{Move, ActivityStanding, opens, registered_on}
 use Rattle.clock_semantics.specs.Unfolding.{ClockNames, ClockUnfolding}
 use Rattle.clock_semantics.specs.calls.ProgramPoints.{ProgramPoint}
 use Rattle.clock_laws.specs.TextMachine.{Acting, Activity, Clock, Continuation, Made, TextState, goes_to, is_made, is_there, opens_clock, next_made, with_clock}
@@ -19,7 +19,7 @@ use Rattle.clock_laws.proofs.OnOneClock.{inside, moves_by}
 use Rattle.clock_laws.proofs.Tables.{HaveNames, bytes_itself, entry_agrees, in_more, is_in, other_bytes, other_made, same_made}
 
 module _ (u : ClockUnfolding) (names : HaveNames u) (s : TextState) (m : ClockState) (h : Corresponds u s m) (a : Activity) (there : is_there s a ≡ true)
-    (c : Continuation) (left : List Move) (ns : ClockNames) (standing : Standing) (rest_is : (s.acting a).rest ≡ c) (left_is : m.left (number_in u a) ≡ left)
+    (c : Continuation) (left : List Move) (ns : ClockNames) (standing : ActivityStanding) (rest_is : (s.acting a).rest ≡ c) (left_is : m.left (number_in u a) ≡ left)
     (knows : Knows u (s.acting a) c ns standing (registered u s a)) (target : target_at u (s.acting a) c ≡ None) (d : Continuation) (at : ProgramPoint)
     (ms : List Move) (fits : Fits u at d) (bottoms : bottom u d ≡ bottom u c) where
   abbrev t : ℕ

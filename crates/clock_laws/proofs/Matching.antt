@@ -7,7 +7,7 @@ use Rattle.armus_base.specs.Runs.{IsPlainRun, state_after}
 use Rattle.armus_base.specs.Places.{first_phases}
 use Rattle.armus_base.specs.CheckedPlans.{IsCheckedPlan}
 use Rattle.armus_base.proofs.Members.{other_step}
-use Rattle.clock_semantics.specs.Moves.{Move, Standing, code_from}
+use Rattle.clock_semantics.specs.Moves.{Move, ActivityStanding, code_from}
 use Rattle.clock_laws.specs.calls.Direct.{ClockState}
 use Rattle.clock_laws.proofs.Lawful.{AreLawfulMoves, ClockKinds}
 use Rattle.clock_laws.proofs.Acting.{actions_left, acts_legally, step_of, then_left}
@@ -15,7 +15,7 @@ use Rattle.clock_laws.proofs.Cells.{AgreesAt}
 
 -- these actions are those of these moves, for an activity that remembers this
 pub record HasLeft (clock : ClockKinds) (maker : ℕ → ℕ) (t : ℕ) (memory : ℕ → Option ℕ) (ms : List Move) (xs : List Action) : Type 0 where
-  pub standing : Standing
+  pub standing : ActivityStanding
   pub pending : (p : ℕ) → standing.pending p ≡ is_some (memory p)
   pub code : xs ≡ actions_of (code_from standing ms)
   pub lawful : AreLawfulMoves clock maker t standing ms

@@ -4,7 +4,7 @@ use Rattle.std.specs.Str.{bytes_eq}
 use Rattle.std.specs.Prelude.{◌==◌, if◌then◌else◌}
 use Rattle.std.proofs.lemmas.Bool.{false≢true}
 use Rattle.clock_laws.specs.calls.Direct.{ClockState, departing_all, going}
-use Rattle.clock_semantics.specs.Moves.{Move, Standing, begins, ends, registered_on, stops, unregistered_from}
+use Rattle.clock_semantics.specs.Moves.{Move, ActivityStanding, begins, ends, registered_on, stops, unregistered_from}
 use Rattle.clock_semantics.specs.Unfolding.{ClockNames, ClockUnfolding}
 use Rattle.clock_semantics.specs.calls.ProgramPoints.{ProgramPoint}
 use Rattle.clock_laws.specs.TextMachine.{Acting, Activity, Clock, Continuation, Made, TextState, departs_from_all, goes_to, is_made, is_there, leaves, left_by, has_made, next_made, over, with_open_set, without_activity}
@@ -17,7 +17,7 @@ use Rattle.clock_laws.proofs.OnOneClock.{inside, less, lists_acting, made_kept, 
 use Rattle.clock_laws.proofs.Tables.{HaveNames, bytes_itself, column_agrees, in_without, is_in, made_itself, made_same, other_bytes, other_made, same_bytes, same_made}
 
 module _ (u : ClockUnfolding) (names : HaveNames u) (s : TextState) (m : ClockState) (h : Corresponds u s m) (a : Activity) (there : is_there s a ≡ true)
-    (c : Continuation) (left : List Move) (ns : ClockNames) (standing : Standing) (rest_is : (s.acting a).rest ≡ c) (left_is : m.left (number_in u a) ≡ left)
+    (c : Continuation) (left : List Move) (ns : ClockNames) (standing : ActivityStanding) (rest_is : (s.acting a).rest ≡ c) (left_is : m.left (number_in u a) ≡ left)
     (knows : Knows u (s.acting a) c ns standing (registered u s a)) (target : target_at u (s.acting a) c ≡ None) where
   abbrev t : ℕ
   t = number_in u a

@@ -4,7 +4,7 @@ use Rattle.std.specs.Str.{bytes_eq}
 use Rattle.std.specs.Prelude.{◌&&◌, ◌==◌, if◌then◌else◌, is_some}
 use Rattle.std.proofs.lemmas.Bool.{eq-eqb, false≢true}
 use Rattle.clock_laws.specs.calls.Direct.{ClockState, going, signalling, with_entry}
-use Rattle.clock_semantics.specs.Moves.{Move, Standing, made_by, resumes, started_by, with_pending}
+use Rattle.clock_semantics.specs.Moves.{Move, ActivityStanding, made_by, resumes, started_by, with_pending}
 use Rattle.clock_semantics.specs.Unfolding.{ClockNames, ClockUnfolding}
 use Rattle.clock_semantics.specs.calls.ProgramPoints.{ProgramPoint}
 use Rattle.clock_laws.specs.TextMachine.{Acting, Activity, Clock, Continuation, Made, TextState, goes_to, is_made, is_there, over, signalled_by, signals, with_clock}
@@ -184,7 +184,7 @@ module _ (u : ClockUnfolding) (names : HaveNames u) (s : TextState) (m : ClockSt
     pub remembered_other : (o : Option ℕ) (q : Made) → q ≢ p → (if is_made p q then o else x.remembers q) ≡ x.remembers q
     remembered_other o q n = ap (λ b. if b then o else x.remembers q) (other_made p q (λ e. n (sym e)))
 
-    module _ (c : Continuation) (left : List Move) (point : ProgramPoint) (ns : ClockNames) (standing : Standing) (rest_is : x.rest ≡ c) (left_is : m.left t ≡ left)
+    module _ (c : Continuation) (left : List Move) (point : ProgramPoint) (ns : ClockNames) (standing : ActivityStanding) (rest_is : x.rest ≡ c) (left_is : m.left t ≡ left)
         (knows : Knows u x c ns standing (registered u s a)) where
       -- ---- a signal at an advance, which stays there
 

@@ -16,7 +16,7 @@ use Rattle.armus_base.specs.Runs.{state_after}
 use Rattle.armus_base.specs.Places.{first_phases, phases_after, some_before}
 use Rattle.armus_base.specs.CheckedPlans.{HasFork, IsCheckedPlan}
 use Rattle.armus_base.proofs.Steps.{updated_other, updated_same}
-use Rattle.clock_semantics.specs.Moves.{Move, Standing, after_move, code_from, no_standing, with_pending, opens, starts, advances, resumes, drops, begins, ends, stops}
+use Rattle.clock_semantics.specs.Moves.{Move, ActivityStanding, after_move, code_from, no_standing, with_pending, opens, starts, advances, resumes, drops, begins, ends, stops}
 use Rattle.clock_laws.specs.calls.Direct.{ClockState, advance_of, direct_opening, clock_run, clock_step, enrolling, enrolling_all, forgetting, going, joining, departing, departing_all, move_of, opening_clock, settled, signalling, starting, step_from, with_entry}
 use Rattle.clock_laws.proofs.Lawful.{AreLawfulMoves, ClockKinds}
 use Rattle.clock_laws.proofs.Acting.{actions_left, step_of}
@@ -70,7 +70,7 @@ module _ (plan : Plan) (clock : ClockKinds) (moves : ℕ → List Move) (of : Is
 
   -- a move that leaves the activity with these moves
   ends_with :
-      (s : ClockState) (h : List Step) (ms : List Move) (standing : Standing) → ((p : ℕ) → standing.pending p ≡ is_some (s.remembered p t)) →
+      (s : ClockState) (h : List Step) (ms : List Move) (standing : ActivityStanding) → ((p : ℕ) → standing.pending p ≡ is_some (s.remembered p t)) →
       AreLawfulMoves clock (maker_of plan) t standing ms → Midst plan clock t None s h (actions_of (code_from standing ms)) →
       Follows (settled (length plan.parents) (going t ms s))
   ends_with s h ms standing pending lawful m = (
@@ -96,10 +96,10 @@ module _ (plan : Plan) (clock : ClockKinds) (moves : ℕ → List Move) (of : Is
       ]
 
   -- a pending clock that is waited for, and one that is not pending, leave the same
-  abbrev pended : ℕ → Standing → Standing
+  abbrev pended : ℕ → ActivityStanding → ActivityStanding
   pended p standing = with_pending p true standing
 
-  same_standing : (p : ℕ) (standing : Standing) → after_move (advances p) (pended p standing) ≡ after_move (advances p) standing
+  same_standing : (p : ℕ) (standing : ActivityStanding) → after_move (advances p) (pended p standing) ≡ after_move (advances p) standing
   same_standing p standing =
       ap (λ f. record standing { pending = f }) (fun_ext (λ q. elim (cases_eq q p) [
         | inl same ↦ updated_same (updated standing.pending p true) p q false same ∙ sym (updated_same standing.pending p q false same)

@@ -8,7 +8,7 @@ use Rattle.std.proofs.lemmas.Bool.{eqb-true, eq-eqb, false≢true}
 use Rattle.armus_base.specs.States.{updated}
 use Rattle.clock_syntax.specs.Trees.{ClockTree}
 use Rattle.clock_laws.specs.calls.Direct.{ClockState, enrolling_all, going, joining, starting, with_entry}
-use Rattle.clock_semantics.specs.Moves.{Move, Standing, starts}
+use Rattle.clock_semantics.specs.Moves.{Move, ActivityStanding, starts}
 use Rattle.clock_semantics.specs.Unfolding.{ClockNames, ClockStart, ClockUnfolding, activities, innermost}
 use Rattle.clock_semantics.proofs.MoveCodes.{moves_at}
 use Rattle.clock_semantics.specs.calls.ProgramPoints.{ProgramPoint, before, first_point, last}
@@ -67,7 +67,7 @@ or_true true y e = inl refl
 or_true false y e = inr e
 
 module _ (u : ClockUnfolding) (names : HaveNames u) (each : (t : ℕ) → t < activities u → IsMade u t) (s : TextState) (m : ClockState) (h : Corresponds u s m)
-    (a : Activity) (there : is_there s a ≡ true) (c : Continuation) (left : List Move) (ns : ClockNames) (standing : Standing)
+    (a : Activity) (there : is_there s a ≡ true) (c : Continuation) (left : List Move) (ns : ClockNames) (standing : ActivityStanding)
     (rest_is : (s.acting a).rest ≡ c) (left_is : m.left (number_in u a) ≡ left) (knows : Knows u (s.acting a) c ns standing (registered u s a))
     (target : target_at u (s.acting a) c ≡ None) where
   abbrev t : ℕ

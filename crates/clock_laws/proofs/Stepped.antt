@@ -6,7 +6,7 @@ use Rattle.std.specs.Prelude.{◌&&◌, if◌then◌else◌, is_some}
 use Rattle.std.specs.Option.{option_map}
 use Rattle.std.proofs.lemmas.List.{length-append}
 use Rattle.clock_laws.specs.calls.Direct.{ClockState, clock_step, move_of, settled}
-use Rattle.clock_semantics.specs.Moves.{Move, Standing, made_by, started_by}
+use Rattle.clock_semantics.specs.Moves.{Move, ActivityStanding, made_by, started_by}
 use Rattle.clock_semantics.specs.Unfolding.{ClockNames, ClockUnfolding, activities}
 use Rattle.clock_semantics.specs.calls.ProgramPoints.{ProgramPoint}
 use Rattle.clock_laws.specs.TextMachine.{Acting, Activity, Continuation, Made, TextState, TextStep, and_clocks, clock_here, clock_or_kind, clocks_go_on, clocks_here, goes, goes_on, goes_to, is_there, or_fails, over, then_clocks}
@@ -138,7 +138,7 @@ module _ (u : ClockUnfolding) (names : HaveNames u) (s : TextState) (m : ClockSt
         bottom_same = λ p e. bottoms;
       }
 
-  module _ (c : Continuation) (left : List Move) (point : ProgramPoint) (ns : ClockNames) (standing : Standing) (rest_is : (s.acting a).rest ≡ c)
+  module _ (c : Continuation) (left : List Move) (point : ProgramPoint) (ns : ClockNames) (standing : ActivityStanding) (rest_is : (s.acting a).rest ≡ c)
       (left_is : m.left t ≡ left) (knows : Knows u (s.acting a) c ns standing (registered u s a)) where
     abbrev x : Acting
     x = s.acting a

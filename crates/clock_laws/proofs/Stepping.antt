@@ -4,7 +4,7 @@ use Rattle.std.specs.Prelude.{if◌then◌else◌, nat_lt}
 use Rattle.std.specs.Option.{option_map}
 use Rattle.clock_syntax.specs.Trees.{ClockTree, advance, async, clock, clock_count, done, drop, finish, loop, plain, resume, skip}
 use Rattle.clock_laws.specs.calls.Direct.{ClockState, advance_of, departing, departing_all, enrolling_all, forgetting, going, joining, move_of, opening_clock, signalling, starting}
-use Rattle.clock_semantics.specs.Moves.{Move, Standing, advances, begins, drops, ends, opens, registered_on, resumes, starts, stops, unregistered_from, with_pending}
+use Rattle.clock_semantics.specs.Moves.{Move, ActivityStanding, advances, begins, drops, ends, opens, registered_on, resumes, starts, stops, unregistered_from, with_pending}
 use Rattle.clock_semantics.specs.Unfolding.{ClockNames, ClockUnfolding, activities, innermost}
 use Rattle.clock_semantics.specs.calls.ProgramPoints.{ProgramPoint, before, closing, finishes_around, turning}
 use Rattle.clock_laws.specs.TextMachine.{Acting, Activity, Continuation, Made, TextState, advance_on, clock_here, clocks_here, closes, departs, departs_from_all, does_next, goes, goes_to, governing, is_empty, is_there, has_made, leaves, opens_clock, next_made, over, reads, remembering, signals, text_step, then_clocks, turns, waits, with_open_set, without_activity}
@@ -48,13 +48,13 @@ module _ (u : ClockUnfolding) (names : HaveNames u) (each : (t : ℕ) → t < ac
   next_is left is o e = ap (λ ms. move_of T t ms m) is ∙ e
 
   -- the clock of a name by the text and by its number
-  same_clock : (c : Continuation) (ns : ClockNames) (standing : Standing) → Knows u x c ns standing (registered u s a) → (name : List ℕ) (p : ℕ) (q : Made) → ns name ≡ Some p →
+  same_clock : (c : Continuation) (ns : ClockNames) (standing : ActivityStanding) → Knows u x c ns standing (registered u s a) → (name : List ℕ) (p : ℕ) (q : Made) → ns name ≡ Some p →
       x.names name ≡ Some q → p ≡ made_in u q
   same_clock c ns standing knows name p q named is = number_is p (made_in u q) (sym named ∙ knows.named name ∙ ap (option_map (made_in u)) is)
 
   -- ---- an advance
 
-  module _ (n : ℕ) (name : List ℕ) (more : ClockTree) (rest : Continuation) (point : ProgramPoint) (ns : ClockNames) (standing : Standing) (p : ℕ) (ms : List Move)
+  module _ (n : ℕ) (name : List ℕ) (more : ClockTree) (rest : Continuation) (point : ProgramPoint) (ns : ClockNames) (standing : ActivityStanding) (p : ℕ) (ms : List Move)
       (fits : Fits u point rest) (named : ns name ≡ Some p) (on : standing.members p ≡ true) (makes_on : Makes u (before (n + 1) more point) ns (with_pending p false standing) ms)
       (knows : Knows u x (reads (plain (advance name) more) rest) ns standing (registered u s a)) (rest_is : x.rest ≡ reads (plain (advance name) more) rest)
       (left_is : m.left t ≡ advances p ∷ ms) (r : TextState) (q : Made) (names_it : x.names name ≡ Some q) where
@@ -102,7 +102,7 @@ module _ (u : ClockUnfolding) (names : HaveNames u) (each : (t : ℕ) → t < ac
     advances_case step = by_memory (x.remembers q) refl step
 
   -- the number of a finish that begins
-  begun_of : (c : Continuation) (ns : ClockNames) (standing : Standing) → Knows u x c ns standing (registered u s a) → x.rest ≡ c → (q : ℕ) (ms : List Move) →
+  begun_of : (c : Continuation) (ns : ClockNames) (standing : ActivityStanding) → Knows u x c ns standing (registered u s a) → x.rest ≡ c → (q : ℕ) (ms : List Move) →
       m.left t ≡ begins q ∷ ms → made_in u (next_made a s) ≡ q
   begun_of c ns standing knows rest_is q ms left_is =
       next_number u a x here (m.left t) (registered u s a) (h.acts a there) (begins q) ms left_is q false refl refl
@@ -110,7 +110,7 @@ module _ (u : ClockUnfolding) (names : HaveNames u) (each : (t : ℕ) → t < ac
   -- ---- an end of a finish
 
   closes_case :
-      (n : ℕ) (f : Made) (rest : Continuation) (point : ProgramPoint) (ns : ClockNames) (standing : Standing) (ms : List Move) → Fits u point rest →
+      (n : ℕ) (f : Made) (rest : Continuation) (point : ProgramPoint) (ns : ClockNames) (standing : ActivityStanding) (ms : List Move) → Fits u point rest →
       Makes u point ns (unregistered_from (made_in u f) standing) ms → Knows u x (closes f rest) ns standing (registered u s a) → x.rest ≡ closes f rest →
       m.left t ≡ ends (made_in u f) ∷ ms → (r : TextState) → then_clocks (if is_empty (s.open_set f) then goes (goes_to a rest s) else waits) ≡ goes r → Step r
   closes_case n f rest point ns standing ms fits makes_on knows rest_is left_is r step = by (is_empty (s.open_set f)) refl
@@ -130,7 +130,7 @@ module _ (u : ClockUnfolding) (names : HaveNames u) (each : (t : ℕ) → t < ac
   -- ---- each kind of step
 
   by_makes :
-      {point : ProgramPoint} {c : Continuation} {ns : ClockNames} {standing : Standing} {left : List Move} → Fits u point c → Makes u point ns standing left →
+      {point : ProgramPoint} {c : Continuation} {ns : ClockNames} {standing : ActivityStanding} {left : List Move} → Fits u point c → Makes u point ns standing left →
       Knows u x c ns standing (registered u s a) → x.rest ≡ c → m.left t ≡ left → (r : TextState) → then_clocks (does_next a c s) ≡ goes r → Step r
   by_makes {ns = ns} {standing = standing} {left = left} (reads_so {point = point} {rest = rest} fits) (has_read makes_on) knows rest_is left_is r step =
       silent u names s m h steady a there (goes_to a rest s) r

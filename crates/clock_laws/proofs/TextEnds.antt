@@ -15,7 +15,7 @@ use Rattle.clock_laws.proofs.ClockEnds.{ends_are_those_of_tasks}
 use Rattle.clock_laws.specs.calls.Direct.{ClockState, IsClockEnd, StandsAs, advance_of, clock_step, going, has_ended, forgetting, move_of, settled, unstarted, waits_at_advance, waits_at_end}
 use Rattle.clock_laws.specs.calls.Laws.{IsDirectEnd, moves_of}
 use Rattle.clock_semantics.proofs.MoveCodes.{moves_at}
-use Rattle.clock_semantics.specs.Moves.{Move, Standing, advances, ends}
+use Rattle.clock_semantics.specs.Moves.{Move, ActivityStanding, advances, ends}
 use Rattle.clock_semantics.specs.Unfolding.{ClockNames, ClockUnfolding, activities, clock_unfolded, plan_of_moves}
 use Rattle.clock_semantics.specs.calls.ProgramPoints.{ProgramPoint}
 use Rattle.clock_laws.specs.calls.TextLaws.{NoRunFails, TextEndsAreThoseOfTasks, TextRunsAreDirect}
@@ -68,7 +68,7 @@ module _ (u : ClockUnfolding) (names : HaveNames u) (s : TextState) (m : ClockSt
   at_an_end f rest ms rest_is left_is made false e = closes_now f rest ms refl rest_is left_is e made
 
   classified :
-      {point : ProgramPoint} {c : Continuation} {ns : ClockNames} {standing : Standing} {left : List Move} → Fits u point c → Makes u point ns standing left →
+      {point : ProgramPoint} {c : Continuation} {ns : ClockNames} {standing : ActivityStanding} {left : List Move} → Fits u point c → Makes u point ns standing left →
       Knows u x c ns standing (registered u s a) → x.rest ≡ c → m.left t ≡ left → ActsOrRests (then_clocks (does_next a c s))
   classified (reads_so fits) (has_read makes_on) knows rest_is left_is = goes_now _ refl
   classified (turns_so fits) (has_turned makes_on) knows rest_is left_is = goes_now _ refl

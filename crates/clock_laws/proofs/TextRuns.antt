@@ -9,7 +9,7 @@ use Rattle.std.proofs.lemmas.Option.{unwrap_or-slice_get}
 use Rattle.clock_syntax.specs.Trees.{ClockTree}
 use Rattle.clock_laws.specs.calls.Direct.{ClockState, clock_step, direct_opening, step_from}
 use Rattle.clock_laws.specs.calls.Laws.{IsDirectRun, moves_of}
-use Rattle.clock_semantics.specs.Moves.{Standing}
+use Rattle.clock_semantics.specs.Moves.{ActivityStanding}
 use Rattle.clock_semantics.specs.Unfolding.{ClockNames, ClockStart, ClockUnfolding, activities, clock_unfolded}
 use Rattle.clock_semantics.proofs.MoveCodes.{moves_at}
 use Rattle.clock_semantics.specs.calls.ProgramPoints.{before, first_point, last}
@@ -207,7 +207,7 @@ module _ (u : ClockUnfolding) (s : TextState) (m : ClockState) (h : Corresponds 
       ∙ ap (λ o. if o then Err 3 else (if idle && is_some (x.remembers q) then Err 4 else Ok q)) once
       ∙ ap (λ o. if o then Err 4 else Ok q) rested
 
-  module _ (c : Continuation) (ns : ClockNames) (standing : Standing) (knows : Knows u x c ns standing (registered u s a)) where
+  module _ (c : Continuation) (ns : ClockNames) (standing : ActivityStanding) (knows : Knows u x c ns standing (registered u s a)) where
     -- the clock of a name of the unfolding
     pub found_here :
         (idle : Bool) (earlier : List (List ℕ)) (name : List ℕ) (p : ℕ) → ns name ≡ Some p → standing.members p ≡ true → list_any (bytes_eq name) earlier ≡ false →

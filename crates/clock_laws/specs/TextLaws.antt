@@ -6,13 +6,13 @@ use Rattle.armus_base.specs.Finals.{end_of}
 use Rattle.armus_base.specs.States.{State, event_at}
 use Rattle.clock_syntax.specs.Trees.{ClockTree}
 use Rattle.clock_semantics.specs.Unfolding.{ClockUnfolding, activities}
-use Rattle.clock_laws.specs.TextMachine.{Activity, IsTextEnd, Made, Stand, TextState, at_advance, at_end, elsewhere, ended, is_there, stand_of, unstarted}
+use Rattle.clock_laws.specs.TextMachine.{Activity, IsTextEnd, Made, ActivityStand, TextState, at_advance, at_end, elsewhere, ended, is_there, stand_of, unstarted}
 use Rattle.clock_laws.specs.TextNumbers.{IsActivityIn, IsClockIn, IsFinishIn, made_in, number_in}
 
 -- ---- ends
 
 -- the end of the task of an activity that stands so and cannot go, by the numbers of the clocks and finishes
-abbrev pub end_as : (Made → ℕ) → Stand → Option TaskEnd
+abbrev pub end_as : (Made → ℕ) → ActivityStand → Option TaskEnd
 end_as number unstarted = Some Unforked
 end_as number ended = Some Done
 end_as number (at_advance p k) = Some (Blocked (event_at (number p) (k + 1)))
@@ -20,7 +20,7 @@ end_as number (at_end f) = Some (Blocked (event_at (number f) 1))
 end_as number elsewhere = None
 
 -- an activity that stands so waits at an advance of a clock of the unfolding, or at the end of one of its finishes, if it waits
-abbrev pub WaitsAtOne : ClockUnfolding → Stand → Type 0
+abbrev pub WaitsAtOne : ClockUnfolding → ActivityStand → Type 0
 WaitsAtOne u (at_advance p k) = IsClockIn u p
 WaitsAtOne u (at_end f) = IsFinishIn u f
 WaitsAtOne u unstarted = Unit {0}

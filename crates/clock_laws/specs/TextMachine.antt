@@ -270,25 +270,25 @@ is_there s a = list_any (bytes_eq a) s.there
 
 -- how an activity stands: it is not started; it has ended; at an advance of this clock, whose signal it remembers with this phase; at the end of this finish;
 -- or elsewhere
-pub data Stand : Type 0 where
-  unstarted : Stand
-  ended : Stand
-  at_advance : Made → ℕ → Stand
-  at_end : Made → Stand
-  elsewhere : Stand
+pub data ActivityStand : Type 0 where
+  unstarted : ActivityStand
+  ended : ActivityStand
+  at_advance : Made → ℕ → ActivityStand
+  at_end : Made → ActivityStand
+  elsewhere : ActivityStand
 
 -- at an advance of clock p, by what is remembered
-abbrev pub stand_on : Made → Option ℕ → Stand
+abbrev pub stand_on : Made → Option ℕ → ActivityStand
 stand_on p None = elsewhere
 stand_on p (Some k) = at_advance p k
 
 -- at an advance of a name, by what it stands for
-abbrev pub stand_at : Acting → Option Made → Stand
+abbrev pub stand_at : Acting → Option Made → ActivityStand
 stand_at x None = elsewhere
 stand_at x (Some p) = stand_on p (x.remembers p)
 
 -- how an activity stands with this still to do
-abbrev pub stand_with : Bool → Acting → Continuation → Stand
+abbrev pub stand_with : Bool → Acting → Continuation → ActivityStand
 stand_with true x over = ended
 stand_with false x over = unstarted
 stand_with b x (reads (plain (advance y) more) rest) = stand_at x (x.names y)
@@ -296,5 +296,5 @@ stand_with b x (closes f rest) = at_end f
 stand_with b x rest = elsewhere
 
 -- how activity a stands
-abbrev pub stand_of : TextState → Activity → Stand
+abbrev pub stand_of : TextState → Activity → ActivityStand
 stand_of s a = stand_with (is_there s a) (s.acting a) (s.acting a).rest

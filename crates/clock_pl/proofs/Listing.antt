@@ -10,7 +10,7 @@ use Rattle.armus_base.specs.declared.ids.TaskId.{TaskId}
 use Rattle.armus_base.specs.declared.op.Op.{Op}
 use Rattle.armus_base.specs.declared.op.Op.TheVariants.{Reg, Fork}
 use Rattle.clock_syntax.specs.Trees.{ClockTree}
-use Rattle.clock_semantics.specs.Moves.{ops_of, starts, Standing}
+use Rattle.clock_semantics.specs.Moves.{ops_of, starts, ActivityStanding}
 use Rattle.clock_semantics.specs.Unfolding.{Current, as_clock, clock_of, clocks_of, innermost, listed_twice, not_registered, still_pending}
 use Rattle.clock_semantics.proofs.ByClockTable.{bind_assoc}
 use Rattle.armus_base.specs.Numbers.{phaser}
@@ -131,7 +131,7 @@ governed_regs : (c : TaskId) (fs : List PhaserId) → map (λ (p : ℕ). Reg c (
 governed_regs c [] = refl
 governed_regs c (f ∷ fs) = refl
 
-start_ops_are : (s : Standing) (c : TaskId) (ps fs : List PhaserId) →
+start_ops_are : (s : ActivityStanding) (c : TaskId) (ps fs : List PhaserId) →
     ops_of s (starts c.0 (map (λ (p : PhaserId). p.0) ps) (innermost (map (λ (p : PhaserId). p.0) fs))) ≡ start_ops c (ps ++ innermost_alone fs)
 start_ops_are s c ps fs =
     ap (λ xs. xs ++ (map (λ (p : ℕ). Reg c (phaser p)) (option_to_list (innermost (map (λ (p : PhaserId). p.0) fs))) ++ Fork c ∷ [])) (regs_back c ps)

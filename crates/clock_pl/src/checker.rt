@@ -9,7 +9,7 @@ ghost use Rattle.clock_syntax.specs.Trees.{clock_count};
 ghost use Rattle.clock_pl.specs.inside.ClockChecker.{ClockChecker as ClockCheckerValue, KeptStart, clock_by_name, clock_number, names_with, spelled_names};
 ghost use Rattle.clock_pl.specs.inside.ClockCheckerSteps.{with_ops, with_known_changed, with_kept_clock, with_kept_name, with_governing, with_kept_activity, with_activity_begun, opening_checker};
 
-use crate::known::{Known, lengthen_clocks};
+use crate::known::{KnownClocks, lengthen_clocks};
 use armus_base::{List, MAX_OPS, MAX_PHASERS, MAX_TASKS, NoMemory, Op, PhaserId, TaskId};
 use clock_syntax::ClockBody;
 use indexmap::IndexSet;
@@ -51,10 +51,10 @@ impl<'p> Model for ActivityStart<'p> {
 
 impl<'p> ActivityStart<'p> {
     // What is known of the activity, in memory of its own.
-    fn known(&self, alloc: Global) -> Result<Known, AllocError>
+    fn known(&self, alloc: Global) -> Result<KnownClocks, AllocError>
         ensures { IfOk result (λ k. k ≡ self.now.known) }
     {
-        Ok(Known {
+        Ok(KnownClocks {
             clocks: Vec::from_slice(alloc, &self.clocks)?,
             members: self.members.copied(alloc)?,
             pending: Membership::new(alloc),
@@ -81,7 +81,7 @@ pub(crate) struct ClockChecker<'p> {
     codes: Vec<List<Op>>,
     starts: Vec<ActivityStart<'p>>,
     activity: TaskId,
-    known: Known,
+    known: KnownClocks,
     shared: Option<Rc<Vec<Option<PhaserId>>>>,
     counts: Counts,
 }
@@ -142,7 +142,7 @@ impl<'p> ClockChecker<'p> {
             codes,
             starts,
             activity: TaskId(0),
-            known: Known::nothing(alloc),
+            known: KnownClocks::nothing(alloc),
             shared: None,
             counts: Counts { ops: 0, visits: 0 },
         })

@@ -11,14 +11,14 @@ use std::marker::Model;
 // The clock of each name, by the name's number; the clocks and finishes on which the activity is registered; the clocks that are pending; and the finishes
 // that govern it, the innermost first.
 #[derive(Drop)]
-pub(crate) struct Known {
+pub(crate) struct KnownClocks {
     pub clocks: Vec<Option<PhaserId>>,
     pub members: Membership,
     pub pending: Membership,
     pub governing: Vec<PhaserId>,
 }
 
-impl Model for Known {
+impl Model for KnownClocks {
     ghost use Rattle.clock_pl.specs.inside.ClockChecker.{KeptKnown};
 
     ghost Value = { KeptKnown };
@@ -26,12 +26,12 @@ impl Model for Known {
     ghost view = { λ k. record { clocks = k.clocks.items; members = k.members; pending = k.pending; governing = k.governing.items } };
 }
 
-impl Known {
+impl KnownClocks {
     // No names, registered on nothing, and governed by no finish; it takes no memory.
-    pub(crate) fn nothing(alloc: Global) -> Known
+    pub(crate) fn nothing(alloc: Global) -> KnownClocks
         ensures { result ≡ record { clocks = []; members = []; pending = []; governing = [] } }
     {
-        Known {
+        KnownClocks {
             clocks: Vec::new(alloc),
             members: Membership::new(alloc),
             pending: Membership::new(alloc),

@@ -18,28 +18,28 @@ pub data Move : Type 0 where
   stops : (members : List ℕ) → Move  -- ends, and leaves these clocks and finishes
 
 -- how an activity stands before a move: of which clocks and finishes it is a member, and which clocks are pending: it has signalled on them, and not waited since
-pub record Standing : Type 0 where
+pub record ActivityStanding : Type 0 where
   pub members : ℕ → Bool
   pub pending : ℕ → Bool
 
 -- a member of nothing, with nothing pending
-abbrev pub no_standing : Standing
+abbrev pub no_standing : ActivityStanding
 no_standing = record { members = λ p. false; pending = λ p. false }
 
 -- a member of p too
-abbrev pub registered_on : ℕ → Standing → Standing
+abbrev pub registered_on : ℕ → ActivityStanding → ActivityStanding
 registered_on p s = record s { members = updated s.members p true }
 
 -- no member of p, which is not pending either
-abbrev pub unregistered_from : ℕ → Standing → Standing
+abbrev pub unregistered_from : ℕ → ActivityStanding → ActivityStanding
 unregistered_from p s = record { members = updated s.members p false; pending = updated s.pending p false }
 
 -- p is pending, or not
-abbrev pub with_pending : ℕ → Bool → Standing → Standing
+abbrev pub with_pending : ℕ → Bool → ActivityStanding → ActivityStanding
 with_pending p v s = record s { pending = updated s.pending p v }
 
 -- how an activity stands after a move
-abbrev pub after_move : Move → Standing → Standing
+abbrev pub after_move : Move → ActivityStanding → ActivityStanding
 after_move (opens p) s = registered_on p s
 after_move (starts c ps f) s = s
 after_move (advances p) s = with_pending p false s
@@ -50,7 +50,7 @@ after_move (ends f) s = unregistered_from f s
 after_move (stops ps) s = no_standing
 
 -- the phaser of a clock or finish is the one with its number, and the task of an activity the one with its number: the ops of a move
-abbrev pub ops_of : Standing → Move → List Op
+abbrev pub ops_of : ActivityStanding → Move → List Op
 ops_of s (opens p) = Make (phaser p) ∷ []
 ops_of s (starts c ps f) =
     map (λ p. Reg (task c) (phaser p)) ps ++ (map (λ p. Reg (task c) (phaser p)) (option_to_list f) ++ Fork (task c) ∷ [])
@@ -62,7 +62,7 @@ ops_of s (ends f) = Adv (phaser f) ∷ Await (phaser f) Here ∷ Drop (phaser f)
 ops_of s (stops ps) = map (λ p. Drop (phaser p)) ps
 
 -- the ops of moves, one after the other
-abbrev pub code_from : Standing → List Move → List Op
+abbrev pub code_from : ActivityStanding → List Move → List Op
 code_from s [] = []
 code_from s (m ∷ ms) = ops_of s m ++ code_from (after_move m s) ms
 

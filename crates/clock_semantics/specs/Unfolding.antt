@@ -11,7 +11,7 @@ use Rattle.armus_base.specs.Numbers.{task}
 use Rattle.armus_base.specs.Plans.{Plan, straight_plan}
 use Rattle.armus_base.specs.declared.ids.TaskId.{TaskId}
 use Rattle.clock_syntax.specs.Trees.{ClockPlain, ClockTree, clock, advance, resume, drop, skip, done, plain, async, finish, loop, clock_count}
-use Rattle.clock_semantics.specs.Moves.{Move, Standing, advances, after_move, begins, code_of_moves, drops, ends, no_standing, opens, ops_of, resumes, starts, stops}
+use Rattle.clock_semantics.specs.Moves.{Move, ActivityStanding, advances, after_move, begins, code_of_moves, drops, ends, no_standing, opens, ops_of, resumes, starts, stops}
 use Rattle.pl_plan.specs.Limits.{max_visits}
 use Rattle.pl_plan.specs.Unfolding.{Outcome, ◌>>=◌, fault, fault_unless, has_cells}
 
@@ -54,7 +54,7 @@ ClockNames = List ℕ → Option ℕ
 -- what is known of the activity that is unfolded: its names, how it stands, and the finishes that govern it, the innermost first
 pub record Current : Type 0 where
   pub names : ClockNames
-  pub standing : Standing
+  pub standing : ActivityStanding
   pub governing : List ℕ
 
 -- with what an activity is started: the body, the number of its first statement, and what is known of it before its first move
@@ -203,7 +203,7 @@ act_plain t n (drop x) s = do
 act_plain t n skip s = Ok s
 
 -- how an activity stands that is started on these clocks under this finish: a member of them all, with nothing pending
-abbrev pub standing_on : List ℕ → Option ℕ → Standing
+abbrev pub standing_on : List ℕ → Option ℕ → ActivityStanding
 standing_on ps f = record no_standing { members = λ q. list_any (λ p. p == q) (ps ++ option_to_list f) }
 
 -- with what an activity is started at statement n: a copy of the names, these clocks, and the finish that governs the async, if one does

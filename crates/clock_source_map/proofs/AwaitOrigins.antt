@@ -15,7 +15,7 @@ use Rattle.armus_base.specs.Numbers.{phaser, task}
 use Rattle.armus_base.specs.Plans.{code_of}
 use Rattle.armus_base.proofs.Lists.{some_at}
 use Rattle.clock_syntax.specs.Trees.{advance, clock, drop, resume, skip}
-use Rattle.clock_semantics.specs.Moves.{Move, Standing, advances, after_move, begins, code_from, code_of_moves, drops, ends, no_standing, opens, ops_of, resumes, starts, stops}
+use Rattle.clock_semantics.specs.Moves.{Move, ActivityStanding, advances, after_move, begins, code_from, code_of_moves, drops, ends, no_standing, opens, ops_of, resumes, starts, stops}
 use Rattle.clock_semantics.specs.Unfolding.{ClockComing, ClockPart, a_close, a_finish, a_loop, a_plain, a_turn, an_async, plan_of_moves}
 use Rattle.clock_source_map.specs.ClockOps.{is_await, makes_move, moving_comings, op_origins_from, op_origins_of}
 use Rattle.clock_source_map.specs.ClockOrigins.{StartedActivity, all_begun, all_waits, comings_by, wait_at, waits_in}
@@ -85,7 +85,7 @@ advance_first false n p ops origins waits rest =
     other_first (op.Await (phaser p) Here ∷ ops) (Some n ∷ origins) (n ∷ waits) (await_first ops origins waits rest (phaser p) Here n) (op.Adv (phaser p)) (Some n) refl
 
 move_first :
-    (n : ℕ) (part : ClockPart) (move : Move) (s : Standing) (ops : List Op) (origins : List (Option ℕ)) (waits : List ℕ) → IsMoveAt part move →
+    (n : ℕ) (part : ClockPart) (move : Move) (s : ActivityStanding) (ops : List Op) (origins : List (Option ℕ)) (waits : List ℕ) → IsMoveAt part move →
     ComeFromWaits ops origins waits →
     ComeFromWaits (ops_of s move ++ ops) (replicate (length (ops_of s move)) (Some n) ++ origins) (wait_at n part ++ waits)
 move_first n (a_plain (clock x)) (opens p) s ops origins waits is rest = other_first ops origins waits rest (op.Make (phaser p)) (Some n) refl
@@ -108,7 +108,7 @@ move_first n part move s ops origins waits is rest = absurd is
 abbrev statements : List ClockComing → List (Option ℕ)
 statements ms = map (λ (m : ClockComing). Some m.statement) ms ++ None ∷ []
 
-moves_wait : (ms : List ClockComing) (s : Standing) (moves : List Move) → AreMovesAt ms moves →
+moves_wait : (ms : List ClockComing) (s : ActivityStanding) (moves : List Move) → AreMovesAt ms moves →
     ComeFromWaits (code_from s moves) (op_origins_from s (zip (statements ms) moves)) (waits_in ms)
 moves_wait [] s (stops ps ∷ []) are = others_first (map (λ p. op.Drop (phaser p)) ps) [] None [] [] (no_drop ps) (nothing [] [])
 moves_wait [] s moves are = absurd are

@@ -7,7 +7,7 @@ use Rattle.armus_base.specs.declared.op.Op.{Op}
 use Rattle.armus_base.specs.declared.op.Op.TheVariants as op
 use Rattle.armus_base.specs.Numbers.{phaser, task}
 use Rattle.clock_syntax.specs.Trees.{advance, clock, drop, resume, skip}
-use Rattle.clock_semantics.specs.Moves.{Move, Standing, advances, after_move, begins, code_from, code_of_moves, drops, ends, no_standing, opens, ops_of, resumes, starts, stops}
+use Rattle.clock_semantics.specs.Moves.{Move, ActivityStanding, advances, after_move, begins, code_from, code_of_moves, drops, ends, no_standing, opens, ops_of, resumes, starts, stops}
 use Rattle.clock_semantics.specs.Unfolding.{ClockComing, ClockPart, a_close, a_finish, a_loop, a_plain, a_turn, an_async}
 use Rattle.clock_semantics.proofs.PlanSteps.{map-append}
 use Rattle.clock_source_map.specs.ClockOps.{makes_move, moving_comings, op_origins_from, op_origins_of}
@@ -37,7 +37,7 @@ regs_noted n c (p ∷ ps) ops os =
     regs_noted n c ps ops (os ++ Some n ∷ [])
     ∙ ap (start_noted n ops) (append_assoc os (Some n ∷ []) (each_from (Some n) (map (λ q. op.Reg (task c) (phaser q)) ps)))
 
-start_ops_noted : (n c : ℕ) (s : Standing) (ps : List ℕ) (f : Option ℕ) (rest : List Op) (os : List (Option ℕ)) →
+start_ops_noted : (n c : ℕ) (s : ActivityStanding) (ps : List ℕ) (f : Option ℕ) (rest : List Op) (os : List (Option ℕ)) →
     start_noted n (ops_of s (starts c ps f) ++ rest) os ≡ notes rest (os ++ each_from (Some n) (ops_of s (starts c ps f)))
 start_ops_noted n c s ps f rest os =
     let regs = λ (qs : List ℕ). map (λ p. op.Reg (task c) (phaser p)) qs in
@@ -64,7 +64,7 @@ advance_noted n p true x rest os = refl
 advance_noted n p false x rest os = ap (notes rest) (append_assoc os (Some n ∷ []) (Some n ∷ []))
 
 -- what is noted of the ops of a move at its part
-part_is : (n : ℕ) (part : ClockPart) (move : Move) (s : Standing) (rest : List Op) (os : List (Option ℕ)) → IsMoveAt part move →
+part_is : (n : ℕ) (part : ClockPart) (move : Move) (s : ActivityStanding) (rest : List Op) (os : List (Option ℕ)) → IsMoveAt part move →
     part_noted n part (notes (ops_of s move ++ rest) os) ≡ notes rest (os ++ each_from (Some n) (ops_of s move))
 part_is n (a_plain (clock x)) (opens p) s rest os is = refl
 part_is n (a_plain (advance x)) (advances p) s rest os is = advance_noted n p (s.pending p) x rest os
@@ -104,7 +104,7 @@ statements ms = map (λ (m : ClockComing). Some m.statement) ms ++ None ∷ []
 pub moving_more : (m : ClockComing) (ms : List ClockComing) (b : Bool) → makes_move m.part ≡ b → moving_comings (m ∷ ms) ≡ (if b then m ∷ moving_comings ms else moving_comings ms)
 moving_more m ms b is = ap (λ z. if z then m ∷ moving_comings ms else moving_comings ms) is
 
-moves_noted : (ms : List ClockComing) (s : Standing) (moves : List Move) (os : List (Option ℕ)) → AreMovesAt (moving_comings ms) moves →
+moves_noted : (ms : List ClockComing) (s : ActivityStanding) (moves : List Move) (os : List (Option ℕ)) → AreMovesAt (moving_comings ms) moves →
     all_noted (ops_noted ms (notes (code_from s moves) os)) ≡ notes [] (os ++ op_origins_from s (zip (statements (moving_comings ms)) moves))
 moves_noted [] s (stops ps ∷ []) os are =
     stop_is (ops_of s (stops ps) ++ []) os
@@ -117,7 +117,7 @@ moves_noted (m ∷ ms) s moves os are =
   where
     by :
         (b : Bool) → makes_move m.part ≡ b → (moves : List Move) → AreMovesAt (if b then m ∷ moving_comings ms else moving_comings ms) moves →
-        ((s : Standing) (moves : List Move) (os : List (Option ℕ)) → AreMovesAt (moving_comings ms) moves →
+        ((s : ActivityStanding) (moves : List Move) (os : List (Option ℕ)) → AreMovesAt (moving_comings ms) moves →
         all_noted (ops_noted ms (notes (code_from s moves) os)) ≡ notes [] (os ++ op_origins_from s (zip (statements (moving_comings ms)) moves))) →
         all_noted (ops_noted (m ∷ ms) (notes (code_from s moves) os))
         ≡ notes [] (os ++ op_origins_from s (zip (statements (if b then m ∷ moving_comings ms else moving_comings ms)) moves))
@@ -143,7 +143,7 @@ many_more : (n : Option ℕ) (ops : List Op) (os : List (Option ℕ)) (more : Li
 many_more n [] os more same = same
 many_more n (o ∷ ops) os more same = ap suc (many_more n ops os more same)
 
-origins_many : (ms : List ClockComing) (s : Standing) (moves : List Move) → AreMovesAt ms moves →
+origins_many : (ms : List ClockComing) (s : ActivityStanding) (moves : List Move) → AreMovesAt ms moves →
     length (op_origins_from s (zip (statements ms) moves)) ≡ length (code_from s moves)
 origins_many [] s (stops ps ∷ []) are = many_more None (ops_of s (stops ps)) [] [] refl
 origins_many [] s moves are = absurd are

@@ -10,7 +10,7 @@ use Rattle.clock_syntax.specs.calls.Bodies.{clock_followed_by}
 use Rattle.clock_semantics.specs.Unfolding.{ClockComing, a_close, a_finish, a_turn, an_async, coming, comings_of}
 use Rattle.clock_source_map.specs.ClockOrigins.{StartedActivity, MadeThing, made_thing_at, things_in, wait_at, waits_in}
 use Rattle.clock_source_map.specs.calls.Begun.{activity_started_at, activities_started_in}
-use Rattle.clock_source_map.specs.inside.Notes.{NotesValue, noted, noted_all}
+use Rattle.clock_source_map.specs.inside.VisitNotes.{NotesValue, noted, noted_all}
 use Rattle.clock_source_map.proofs.NotedInTurn.{InTurn}
 
 same_notes :

@@ -4,7 +4,7 @@ use Rattle.std.specs.List.{filter, zip}
 use Rattle.armus_base.specs.declared.op.Op.{Op}
 use Rattle.armus_base.specs.declared.op.Op.TheVariants.{Await}
 use Rattle.clock_syntax.specs.Trees.{skip}
-use Rattle.clock_semantics.specs.Moves.{Move, Standing, after_move, no_standing, ops_of}
+use Rattle.clock_semantics.specs.Moves.{Move, ActivityStanding, after_move, no_standing, ops_of}
 use Rattle.clock_semantics.specs.Unfolding.{ClockComing, ClockPart, ClockUnfolding, a_loop, a_plain, a_turn}
 use Rattle.clock_source_map.specs.ClockOrigins.{StartedActivity, all_begun, comings_by}
 
@@ -29,7 +29,7 @@ abbrev pub move_origins : StartedActivity → List (Option ℕ)
 move_origins b = map (λ (m : ClockComing). Some m.statement) (moving_comings (comings_by b)) ++ None ∷ []
 
 -- from which statement each op of these moves comes, each move beside its own statement, where the activity stands so before them
-abbrev pub op_origins_from : Standing → List (Option ℕ × Move) → List (Option ℕ)
+abbrev pub op_origins_from : ActivityStanding → List (Option ℕ × Move) → List (Option ℕ)
 op_origins_from s [] = []
 op_origins_from s (m ∷ ms) = replicate (length (ops_of s m.1)) m.0 ++ op_origins_from (after_move m.1 s) ms
 

@@ -2,7 +2,7 @@
 ghost use Rattle.std.specs.Prelude.{◌≡◌, ◌+◌, ◌-◌, ◌<◌, ◌^◌, ◌++◌, [], ◌∷◌, ℕ, List as Seq, OnOk, Some, length, option_map, slice_get};
 ghost use Rattle.clock_syntax.specs.Trees.{advance, clock, clock_count};
 ghost use Rattle.clock_semantics.specs.Unfolding.{a_close, a_finish, a_plain, an_async, coming};
-ghost use Rattle.clock_source_map.specs.inside.Notes.{noted};
+ghost use Rattle.clock_source_map.specs.inside.VisitNotes.{noted};
 
 use armus_base::{List, NoMemory};
 use clock_syntax::{ClockBody, ClockName};
@@ -80,16 +80,16 @@ impl<'p> ClockThing<'p> {
 
 // The activities that are started, the clocks and finishes that are made, and the statements at which one waits, in order.
 #[derive(Drop)]
-pub(crate) struct Notes<'p> {
+pub(crate) struct VisitNotes<'p> {
     pub begun: Vec<ClockBegun<'p>>,
     pub things: Vec<ClockThing<'p>>,
     pub waits: Vec<u32>,
 }
 
-impl<'p> Model for Notes<'p> {
+impl<'p> Model for VisitNotes<'p> {
     ghost use Rattle.std.specs.Coded.{codes};
     ghost use Rattle.clock_syntax.specs.calls.Trees.{clock_tree_code};
-    ghost use Rattle.clock_source_map.specs.inside.Notes.{NotesValue};
+    ghost use Rattle.clock_source_map.specs.inside.VisitNotes.{NotesValue};
 
     ghost Value = { NotesValue };
 
@@ -98,12 +98,12 @@ impl<'p> Model for Notes<'p> {
     ghost view = { λ k. record { begun = k.begun.items; things = k.things.items; waits = k.waits.items } };
 }
 
-impl<'p> Notes<'p> {
+impl<'p> VisitNotes<'p> {
     // Of nothing.
-    pub(crate) fn new(alloc: Global) -> Notes<'p>
+    pub(crate) fn new(alloc: Global) -> VisitNotes<'p>
         ensures { result ≡ record { begun = []; things = []; waits = [] } }
     {
-        Notes {
+        VisitNotes {
             begun: Vec::new(alloc),
             things: Vec::new(alloc),
             waits: Vec::new(alloc),

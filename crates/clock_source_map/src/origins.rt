@@ -4,9 +4,9 @@ ghost use Rattle.clock_syntax.specs.Trees.{clock_count};
 ghost use Rattle.clock_semantics.specs.Unfolding.{ClockUnfolding, clock_unfolded, comings_of};
 ghost use Rattle.clock_source_map.specs.ClockOrigins.{waits_in};
 ghost use Rattle.clock_source_map.specs.calls.Values.{AreOriginsOf};
-ghost use Rattle.clock_source_map.specs.inside.Notes.{noted_all};
+ghost use Rattle.clock_source_map.specs.inside.VisitNotes.{noted_all};
 
-use crate::notes::{ClockBegun, ClockThing, Notes};
+use crate::notes::{ClockBegun, ClockThing, VisitNotes};
 use crate::walk::walk_body;
 use armus_base::{List, NoMemory};
 use clock_syntax::{ClockBody, ClockProgram};
@@ -37,10 +37,10 @@ impl<'p> Model for ClockOrigins<'p> {
     ghost invariant = { λ o. length o.things.items < 2 ^ 32 };
 }
 
-// Notes what an activity of this body does, and answers at which statements it waits.
+// VisitNotes what an activity of this body does, and answers at which statements it waits.
 fn note_activity<'p>(
     alloc: Global,
-    notes: &mut Notes<'p>,
+    notes: &mut VisitNotes<'p>,
     first: u32,
     body: &'p ClockBody,
 ) -> Result<List<u32>, NoMemory>
@@ -54,7 +54,7 @@ fn note_activity<'p>(
 }
 
 // What is noted of all activities, and at which statements each waits.
-fn origins_of<'p>(notes: Notes<'p>, waits: Vec<List<u32>>) -> ClockOrigins<'p>
+fn origins_of<'p>(notes: VisitNotes<'p>, waits: Vec<List<u32>>) -> ClockOrigins<'p>
     requires { length notes.things < 2 ^ 32 }
     ensures { result ≡ record { begun = notes.entry.begun; things = notes.entry.things; waits = waits.items } }
 {
@@ -72,7 +72,7 @@ impl<'p> ClockOrigins<'p> {
         requires unfolds { (u : ClockUnfolding) × (clock_unfolded program.now.body ≡ Ok u) }
         ensures { IfOk result (λ o. (u : ClockUnfolding) → clock_unfolded program.now.body ≡ Ok u → AreOriginsOf u o) }
     {
-        let mut notes = Notes::new(alloc);
+        let mut notes = VisitNotes::new(alloc);
         notes.begin(&program.body)?;
         let mut waits = Vec::new(alloc);
         let mut t = 0;

@@ -4,16 +4,16 @@ ghost use Rattle.armus_base.specs.Pieces.{times};
 ghost use Rattle.clock_syntax.specs.Trees.{clock_count, done};
 ghost use Rattle.clock_syntax.specs.calls.Bodies.{clock_followed_by};
 ghost use Rattle.clock_semantics.specs.Unfolding.{a_turn, coming, comings_of};
-ghost use Rattle.clock_source_map.specs.inside.Notes.{noted_all};
+ghost use Rattle.clock_source_map.specs.inside.VisitNotes.{noted_all};
 
-use crate::notes::Notes;
+use crate::notes::VisitNotes;
 use armus_base::NoMemory;
 use clock_syntax::{ClockBody, ClockStmt};
 
 // The turns of loop `n`.
 #[cycle(walk)]
 fn walk_turns<'p>(
-    notes: &mut Notes<'p>,
+    notes: &mut VisitNotes<'p>,
     n: u32,
     turns: u16,
     body: &'p ClockBody,
@@ -29,7 +29,11 @@ fn walk_turns<'p>(
 
 // Statement `n`.
 #[cycle(walk)]
-fn walk_statement<'p>(notes: &mut Notes<'p>, n: u32, stmt: &'p ClockStmt) -> Result<(), NoMemory>
+fn walk_statement<'p>(
+    notes: &mut VisitNotes<'p>,
+    n: u32,
+    stmt: &'p ClockStmt,
+) -> Result<(), NoMemory>
     requires { n + clock_count (clock_followed_by stmt.now done) < 2 ^ 32 }
     ensures { OnOk result (notes.new ≡ noted_all (comings_of n (clock_followed_by stmt.now done)) notes.old) }
 {
@@ -50,7 +54,7 @@ fn walk_statement<'p>(notes: &mut Notes<'p>, n: u32, stmt: &'p ClockStmt) -> Res
 // A body of which the first statement has number n.
 #[cycle(walk)]
 pub(crate) fn walk_body<'p>(
-    notes: &mut Notes<'p>,
+    notes: &mut VisitNotes<'p>,
     n: u32,
     body: &'p ClockBody,
 ) -> Result<(), NoMemory>

@@ -13,7 +13,7 @@ ghost use Rattle.explain.specs.calls.Requested.{file_bytes};
 
 use crate::answer::Answer;
 use armus_base::{List, NoMemory};
-use explain_check::{Scene, Statements, check_refusal, scene_of};
+use explain_check::{Scene, StatementPlaces, check_refusal, scene_of};
 use explain_syntax::{length_refusal, syntax_refusal};
 use pl_syntax::{Program, SyntaxFault, statement_offsets};
 use program_io::ExitStatus;
@@ -69,7 +69,7 @@ fn refuse_scene(
 {
     let text = places.text();
     let offsets = statement_offsets(alloc, text, program)?;
-    let statements = Statements {
+    let statements = StatementPlaces {
         places,
         offsets,
         end: text.len() as u32,

@@ -13,7 +13,7 @@ use crate::avoiding::AvoidedRun;
 use armus_base::{List, NoMemory, TaskId};
 use explain_deadlock::put_paragraphs;
 use explain_facts::{Account, put_words};
-use explain_tasks::{Facts, passing_below, put_by_number, put_list, standing_at};
+use explain_tasks::{Facts, passing_below, put_by_number, put_list, task_standing};
 use report::{Outline, Standing, outline_of};
 use source_map::TextPlaces;
 use std::alloc::Global;
@@ -53,7 +53,7 @@ fn refused(alloc: Global, standings: &[Standing]) -> Result<Vec<TaskId>, NoMemor
     ensures { IfOk result (λ v. v.items ≡ tasks_with was_refused standings.now) }
 {
     passing_below(alloc, standings.len() as u32, |t| {
-        is_refused(standing_at(standings, t))
+        is_refused(task_standing(standings, t))
     })
 }
 
@@ -63,7 +63,7 @@ fn waiting(alloc: Global, standings: &[Standing]) -> Result<Vec<TaskId>, NoMemor
     ensures { IfOk result (λ v. v.items ≡ tasks_with waits_at_the_end standings.now) }
 {
     passing_below(alloc, standings.len() as u32, |t| {
-        is_waiting(standing_at(standings, t))
+        is_waiting(task_standing(standings, t))
     })
 }
 

@@ -35,7 +35,7 @@ use Rattle.explain_check.specs.declared.seek.FoundFault.{FoundFault}
 use Rattle.explain_check.specs.declared.sight.StepSight.{StepSight}
 use Rattle.explain_check.specs.inside.Framed.{Comes, to_adv, to_await, to_dereg, to_fork, to_loop, to_new_phaser, to_new_task, to_reg, to_skip, to_turn}
 use Rattle.explain_check.specs.inside.Noted.{MarkTells, NotesTell, a_deed, last_noted, means_drew, means_forked, means_left, means_made, means_registered, task_in}
-use Rattle.explain_check.specs.inside.Seeks.{AtVisit, IsAt, Source, Stopped}
+use Rattle.explain_check.specs.inside.Seeks.{AtVisit, IsAt, NamedProgram, Stopped}
 use Rattle.explain_check.specs.inside.Seen.{sight_of}
 use Rattle.explain_check.specs.inside.Told.{EndScene, PlaceCanBeTold, PlaceScene, VisitScene, cells_told, drawn_told, forked_told, member_told, name_noted, names_told, parent_told, phaser_told, reg_told, registered_told, statement_noted, task_told, thing_told, turn_told, visit_told, wanted_told}
 use Rattle.explain_check.proofs.Coming.{statement_is}
@@ -250,7 +250,7 @@ turns_same f h same first (loop k body rest) s l =
 first_failing : (s : UnfoldingState) (t : ℕ) (m : Visit) (f : CheckFault) → FailsAt s (comes t m) f → first_kind table s t m.coming ≡ Some f.kind
 first_failing s t m f (at_visit first is) = kind_some s t m.coming f.kind first
 
-module _ (g : Source) (stop : FoundFault) (notes : List Note) (last_turns : List LastTurn) (st : Stopped g stop notes last_turns) where
+module _ (g : NamedProgram) (stop : FoundFault) (notes : List Note) (last_turns : List LastTurn) (st : Stopped g stop notes last_turns) where
   abbrev past : Past
   past = record { first = opening_state g.program.body; stages = st.stages; there = st.there }
 

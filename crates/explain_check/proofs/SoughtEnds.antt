@@ -26,7 +26,7 @@ use Rattle.explain_check.specs.declared.notes.Note.{Note}
 use Rattle.explain_check.specs.declared.seek.FaultPlace.TheVariants as p
 use Rattle.explain_check.specs.declared.seek.FoundFault.{FoundFault}
 use Rattle.explain_check.specs.inside.Noted.{LastTurnsTell, MeansDeed, NotesTell, means_drew, means_forked, means_left, means_made, means_registered}
-use Rattle.explain_check.specs.inside.Seeks.{HasLeaving, IsAt, Leaving, Source, Stands, Stopped}
+use Rattle.explain_check.specs.inside.Seeks.{HasLeaving, IsAt, Leaving, NamedProgram, Stands, Stopped}
 use Rattle.explain_check.proofs.TurnCounts.{among_append}
 use Rattle.explain_check.proofs.Last.{tells_more}
 use Rattle.explain_check.proofs.SoughtSteps.{start_later}
@@ -75,7 +75,7 @@ ok_is x = cc
 err_is : {a b : CheckFault} → ◌≡◌ {A = Outcome UnfoldingState} (Err a) (Err b) → a ≡ b
 err_is x = cc
 
-module _ (g : Source) where
+module _ (g : NamedProgram) where
   abbrev two : Bool
   two = g.program.two
 
@@ -239,4 +239,4 @@ module _ (g : Source) where
 -- a task ends: there is something that is unfolded so, and whatever was, still is
 pub record GoesAway (t first after : ℕ) (old : Checker) (old_notes : List Note) (old_last_turns : List LastTurn) (q : ℕ) (k : Checker) (notes : List Note) (last_turns : List LastTurn) : Type 0 where
   pub some : HasLeaving t first after q k notes last_turns
-  pub all : (g : Source) → Leaving g t first after 0 old old_notes old_last_turns → Leaving g t first after q k notes last_turns
+  pub all : (g : NamedProgram) → Leaving g t first after 0 old old_notes old_last_turns → Leaving g t first after q k notes last_turns

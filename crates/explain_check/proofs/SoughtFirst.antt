@@ -21,7 +21,7 @@ use Rattle.pl_plan.proofs.Unfolds as unfolds
 use Rattle.explain_check.specs.declared.notes.LastTurn.{LastTurn}
 use Rattle.explain_check.specs.declared.notes.Note.{Note}
 use Rattle.explain_check.specs.inside.Noted.{LastTurnsTell, MarkTells, last_noted, no_turn, turn_by}
-use Rattle.explain_check.specs.inside.Seeks.{Before, HasSource, Passed, Source}
+use Rattle.explain_check.specs.inside.Seeks.{Before, HasSource, Passed, NamedProgram}
 
 -- ---- what is kept first fits
 
@@ -95,7 +95,7 @@ none_tell n last_turns is = subst (λ ls. LastTurnsTell 0 n 0 [] ls) (sym is) (r
 module _ (program : Program) (a b : List (Bor (List ℕ))) (old steps : List Step) (names : ℕ) (k : Checker) (notes : List Note) (last_turns : List LastTurn)
     (empty : old ≡ []) (many : names ≡ length b) (adds : AddsSteps a b old steps program.body) (o : IsOpeningChecker steps names k) (few : count program.body < 2 ^ 32)
     (none : notes ≡ []) (no_turns : last_turns ≡ replicate (length steps) no_turn) where
-  abbrev source : Source
+  abbrev source : NamedProgram
   source = record { program = program; names = spelling b; steps = steps }
 
   pub few_steps : length steps < 2 ^ 32
@@ -133,7 +133,7 @@ module _ (program : Program) (a b : List (Bor (List ℕ))) (old steps : List Ste
 longer : (run : List Stage) (v : Stage) (rest : List Stage) → run ≡ run ++ (v ∷ rest) → ⊥
 longer run v rest e = absurd (omega (arith, ap length e, length-append run (v ∷ rest)))
 
-module _ (g : Source) (passed : Passed g) where
+module _ (g : NamedProgram) (passed : Passed g) where
   abbrev two : Bool
   two = g.program.two
 

@@ -23,7 +23,7 @@ use Rattle.explain_check.specs.declared.seek.FoundFault.{FoundFault}
 use Rattle.explain_check.specs.inside.Framed.{Comes, FramesAre, frames_after, next_item}
 use Rattle.explain_check.specs.inside.Noted.{LastTurnsTell, NotesTell, TurnsTold, turn_at, with_last_turn, with_notes, notes_at}
 use Rattle.explain_check.specs.inside.Seen.{visit_checked, sight_of}
-use Rattle.explain_check.specs.inside.Seeks.{AtVisit, CameTo, HasMidst, HasStart, IsAt, IsShown, Midst, Source, Stands, Stopped}
+use Rattle.explain_check.specs.inside.Seeks.{AtVisit, CameTo, HasMidst, HasStart, IsAt, IsShown, Midst, NamedProgram, Stands, Stopped}
 use Rattle.explain_check.proofs.Coming.{came_fails, came_past, has_names, CamePast}
 use Rattle.explain_check.proofs.FrameVisits.{Popped, WentOn, frames_few, frames_pop, idled, went_on}
 use Rattle.explain_check.proofs.LastTurnsOn.{last_turns_on, turn_few, turns_on}
@@ -46,7 +46,7 @@ visits_after t n a_turn s = refl
 visit_left : (s : UnfoldingState) (t : ℕ) (c : Coming) → Passes s t c → s.visits < 4194304
 visit_left s t c passes = ltb-true s.visits 4194304 (not-false (nat_lt s.visits 4194304) (passes _ (0, omega arith, refl)))
 
-module _ (g : Source) where
+module _ (g : NamedProgram) where
   abbrev two : Bool
   two = g.program.two
 
@@ -287,12 +287,12 @@ module _ (g : Source) where
 pub record GoesOn (t first after : ℕ) (was : List OpenBody) (old : Checker) (old_notes : List Note) (old_last_turns : List LastTurn) (frames : List OpenBody) (k : Checker) (notes : List Note)
     (last_turns : List LastTurn) : Type 0 where
   pub some : HasMidst t first after frames k notes last_turns
-  pub all : (g : Source) → Midst g t first after was old old_notes old_last_turns → Midst g t first after frames k notes last_turns
+  pub all : (g : NamedProgram) → Midst g t first after was old old_notes old_last_turns → Midst g t first after frames k notes last_turns
 
 pub goes_further :
     (t first after : ℕ) (was : List OpenBody) (old : Checker) (old_notes : List Note) (old_last_turns : List LastTurn) (frames : List OpenBody) (k : Checker) (notes : List Note) (last_turns : List LastTurn)
     (new_frames : List OpenBody) (new : Checker) (new_notes : List Note) (new_last_turns : List LastTurn) → GoesOn t first after was old old_notes old_last_turns frames k notes last_turns →
-    ((g : Source) → Midst g t first after frames k notes last_turns → Midst g t first after new_frames new new_notes new_last_turns) →
+    ((g : NamedProgram) → Midst g t first after frames k notes last_turns → Midst g t first after new_frames new new_notes new_last_turns) →
     GoesOn t first after was old old_notes old_last_turns new_frames new new_notes new_last_turns
 goes_further t first after was old old_notes old_last_turns frames k notes last_turns new_frames new new_notes new_last_turns go on =
     record { some = (go.some.0, on go.some.0 go.some.1); all = λ g m. on g (go.all g m) }

@@ -19,7 +19,7 @@ use Rattle.explain_check.specs.declared.notes.Note.{Note}
 use Rattle.explain_check.specs.declared.seek.FoundFault.{FoundFault}
 use Rattle.armus_base.specs.declared.errors.NoMemory.{NoMemory}
 use Rattle.explain_check.specs.inside.Noted.{LastTurnsTell, no_turn, turn_by}
-use Rattle.explain_check.specs.inside.Seeks.{Before, HasBefore, Leaving, Midst, Passed, SoughtEnd, SoughtTask, Source, Stands, whole}
+use Rattle.explain_check.specs.inside.Seeks.{Before, HasBefore, Leaving, Midst, Passed, SoughtEnd, SoughtTask, NamedProgram, Stands, whole_body}
 use Rattle.explain_check.proofs.SoughtEnds.{begins_quiet, quiet_on}
 
 -- the last turns of the next task
@@ -73,7 +73,7 @@ none_by names k (Some a) (Some b) m e = absurd cc
 none_by names k None (Some b) m e = absurd m
 none_by names k (Some a) None m e = absurd m
 
-module _ (g : Source) where
+module _ (g : NamedProgram) where
   abbrev two : Bool
   two = g.program.two
 
@@ -133,7 +133,7 @@ module _ (g : Source) where
           (record { drawn = now.stands.past.kept.drawn; many = now.stands.past.kept.many; few = now.stands.past.kept.few }) refl new keeps
           (subst (λ z. ShowsState g.names z begun) (sym is) f.shows)
 
-      pub task_begins : Midst g t.0 first after (whole first after ∷ []) new notes last_turns
+      pub task_begins : Midst g t.0 first after (whole_body first after ∷ []) new notes last_turns
       unfolding quiet_on stands
       task_begins =
           let r = ready k new t.0 first after now.stands.shown.fits range is in
@@ -222,4 +222,4 @@ module _ (g : Source) where
 -- the tasks go on: there is something that is unfolded so, and whatever was, still is
 pub record GoesThrough (two : Bool) (old : Checker) (old_notes : List Note) (old_last_turns : List LastTurn) (t : ℕ) (k : Checker) (notes : List Note) (last_turns : List LastTurn) : Type 0 where
   pub some : HasBefore two t k notes last_turns
-  pub all : (g : Source) → g.program.two ≡ two → Before g 0 old old_notes old_last_turns → Before g t k notes last_turns
+  pub all : (g : NamedProgram) → g.program.two ≡ two → Before g 0 old old_notes old_last_turns → Before g t k notes last_turns

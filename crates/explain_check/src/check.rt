@@ -11,7 +11,7 @@ ghost use Rattle.explain_check.specs.StatementPlaces.{statement_offset};
 use crate::matter::put_matter;
 use crate::note::put_note;
 use crate::scene::Scene;
-use crate::statements::Statements;
+use crate::statements::StatementPlaces;
 use crate::whereabouts::put_whereabouts;
 use armus_base::{List, NoMemory};
 use explain_syntax::put_line_and_caret;
@@ -54,7 +54,7 @@ pub fn check_refusal(
     alloc: Global,
     text: &[u8],
     program: &Program,
-    statements: &Statements,
+    statements: &StatementPlaces,
     file: Option<&[u8]>,
     scene: &Scene,
 ) -> Result<List<u8>, NoMemory>

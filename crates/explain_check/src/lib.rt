@@ -26,4 +26,4 @@ pub use laws::{
     fault_has_one_scene, fault_has_scene, text_has_check_refusal, text_has_one_check_refusal,
 };
 pub use scene::{LoopTurn, Matter, NamedPhaser, NamedTask, Scene, Verb};
-pub use statements::Statements;
+pub use statements::StatementPlaces;

@@ -5,7 +5,7 @@ ghost use Rattle.explain_check.specs.NameWords.{phaser_words, task_words};
 
 use crate::names::{put_phaser, put_task};
 use crate::scene::{Matter, NamedPhaser, NamedTask};
-use crate::statements::Statements;
+use crate::statements::StatementPlaces;
 use armus_base::NoMemory;
 use source_map::{TextPlace, TextPlaces};
 use std::alloc::Global;
@@ -64,7 +64,7 @@ fn put_task_at(
 pub(crate) fn put_note(
     alloc: Global,
     out: &mut Vec<u8>,
-    statements: &Statements,
+    statements: &StatementPlaces,
     forked_by: u32,
     matter: &Matter,
 ) -> Result<(), NoMemory>

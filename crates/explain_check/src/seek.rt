@@ -4,7 +4,7 @@ ghost use Rattle.std.specs.Prelude.{◌≡◌, ◌+◌, ◌<◌, ◌^◌, ◌∷
 ghost use Rattle.pl_plan.specs.inside.Checker.{IsChecker};
 ghost use Rattle.pl_plan.specs.inside.CheckerSteps.{HasNames};
 ghost use Rattle.explain_check.specs.inside.Noted.{turn_at};
-ghost use Rattle.explain_check.specs.inside.Seeks.{Before, CameTo, HasBefore, HasLeaving, HasMidst, Leaving, Midst, SoughtAll, SoughtEnd, SoughtTask, SoughtVisits, Source, whole};
+ghost use Rattle.explain_check.specs.inside.Seeks.{Before, CameTo, HasBefore, HasLeaving, HasMidst, Leaving, Midst, SoughtAll, SoughtEnd, SoughtTask, SoughtVisits, NamedProgram, whole_body};
 
 use crate::frames::{Item, OpenBody, go_on};
 use crate::notes::{LastTurn, Note, count_turn, put_note};
@@ -77,8 +77,8 @@ fn seek_visits(
     first: u32,
     after: u32,
 ) -> Result<Option<FoundFault>, NoMemory>
-    requires begun { HasMidst t.0 first after (whole first after ∷ []) seeker.old.checker seeker.old.notes seeker.old.last_turns.items }
-    ensures { (g : Source) → Midst g t.0 first after (whole first after ∷ []) seeker.old.checker seeker.old.notes seeker.old.last_turns.items →
+    requires begun { HasMidst t.0 first after (whole_body first after ∷ []) seeker.old.checker seeker.old.notes seeker.old.last_turns.items }
+    ensures { (g : NamedProgram) → Midst g t.0 first after (whole_body first after ∷ []) seeker.old.checker seeker.old.notes seeker.old.last_turns.items →
         SoughtVisits g t.0 first after result seeker.new.checker seeker.new.notes seeker.new.last_turns.items }
 {
     let mut frames = Vec::new(alloc);
@@ -107,7 +107,7 @@ fn seek_end(
     after: u32,
 ) -> Result<Option<FoundFault>, NoMemory>
     requires done { HasLeaving t.0 first after 0 seeker.old.checker seeker.old.notes seeker.old.last_turns.items }
-    ensures { (g : Source) → Leaving g t.0 first after 0 seeker.old.checker seeker.old.notes seeker.old.last_turns.items →
+    ensures { (g : NamedProgram) → Leaving g t.0 first after 0 seeker.old.checker seeker.old.notes seeker.old.last_turns.items →
         SoughtEnd g t.0 first after result seeker.new.checker seeker.new.notes seeker.new.last_turns.items }
 {
     for p in 0..MAX_PHASERS {
@@ -132,7 +132,7 @@ fn seek_task(
 ) -> Result<Option<FoundFault>, NoMemory>
     requires next { HasBefore two t.0 seeker.old.checker seeker.old.notes seeker.old.last_turns.items }
     requires here { t.0 < length seeker.old.checker.parents }
-    ensures { (g : Source) → g.program.two ≡ two → Before g t.0 seeker.old.checker seeker.old.notes seeker.old.last_turns.items →
+    ensures { (g : NamedProgram) → g.program.two ≡ two → Before g t.0 seeker.old.checker seeker.old.notes seeker.old.last_turns.items →
         SoughtTask g (t.0 + 1) result seeker.new.checker seeker.new.notes seeker.new.last_turns.items }
 {
     let Some((first, after)) = seeker.checker.begin(alloc, t)? else {
@@ -154,7 +154,7 @@ pub(crate) fn seek_tasks(
     two: bool,
 ) -> Result<Option<FoundFault>, NoMemory>
     requires next { HasBefore two 0 seeker.old.checker seeker.old.notes seeker.old.last_turns.items }
-    ensures { (g : Source) → g.program.two ≡ two → Before g 0 seeker.old.checker seeker.old.notes seeker.old.last_turns.items →
+    ensures { (g : NamedProgram) → g.program.two ≡ two → Before g 0 seeker.old.checker seeker.old.notes seeker.old.last_turns.items →
         SoughtAll g result seeker.new.notes seeker.new.last_turns.items }
 {
     let mut t = 0;

@@ -7,7 +7,7 @@ use source_map::{TextPlace, TextPlaces};
 
 /// The places of a text; how many bytes stand before each of its statements, in the order of their numbers; and how many bytes it has.
 #[derive(Drop)]
-pub struct Statements<'t> {
+pub struct StatementPlaces<'t> {
     pub places: TextPlaces<'t>,
     pub offsets: List<u32>,
     pub end: u32,
@@ -23,7 +23,7 @@ fn offset_or(offsets: &[u32], index: u32, end: u32) -> u32
     }
 }
 
-impl<'t> Statements<'t> {
+impl<'t> StatementPlaces<'t> {
     /// How many bytes stand before statement n; all bytes of the text for 0.
     pub(crate) fn offset(&self, n: u32) -> u32
         ensures { result ≡ statement_offset self.now.offsets self.now.end n }

@@ -6,7 +6,7 @@ ghost use Rattle.explain_check.specs.Whereabouts.{forked_at_words, is_none, more
 
 use crate::names::put_task;
 use crate::scene::{LoopTurn, NamedTask};
-use crate::statements::Statements;
+use crate::statements::StatementPlaces;
 use armus_base::NoMemory;
 use source_map::{TextPlace, TextPlaces};
 use std::alloc::Global;
@@ -31,7 +31,7 @@ fn put_forked_at(
 fn put_forked(
     alloc: Global,
     out: &mut Vec<u8>,
-    statements: &Statements,
+    statements: &StatementPlaces,
     task: &NamedTask,
     forked: u32,
 ) -> Result<(), NoMemory>
@@ -73,7 +73,7 @@ fn put_turn_at(
 fn put_turn(
     alloc: Global,
     out: &mut Vec<u8>,
-    statements: &Statements,
+    statements: &StatementPlaces,
     turn: LoopTurn,
 ) -> Result<(), NoMemory>
     ensures { OnOk result (out.new.items ≡ out.old.items ++ loop_turn_words statements.now.places statements.now.offsets statements.now.end turn) }
@@ -91,7 +91,7 @@ fn put_turn(
 fn put_next_turn(
     alloc: Global,
     out: &mut Vec<u8>,
-    statements: &Statements,
+    statements: &StatementPlaces,
     turn: LoopTurn,
 ) -> Result<(), NoMemory>
     ensures { OnOk result (out.new.items ≡ out.old.items ++ (codes "; " ++ loop_turn_words statements.now.places statements.now.offsets statements.now.end turn)) }
@@ -104,7 +104,7 @@ fn put_next_turn(
 fn put_more_turns(
     alloc: Global,
     out: &mut Vec<u8>,
-    statements: &Statements,
+    statements: &StatementPlaces,
     turns: &[LoopTurn],
 ) -> Result<(), NoMemory>
     ensures { OnOk result (out.new.items ≡ out.old.items ++ more_turns statements.now.places statements.now.offsets statements.now.end turns.now) }
@@ -119,7 +119,7 @@ fn put_more_turns(
 fn put_turns(
     alloc: Global,
     out: &mut Vec<u8>,
-    statements: &Statements,
+    statements: &StatementPlaces,
     turns: &[LoopTurn],
 ) -> Result<(), NoMemory>
     ensures { OnOk result (out.new.items ≡ out.old.items ++ turns_words statements.now.places statements.now.offsets statements.now.end turns.now) }
@@ -137,7 +137,7 @@ fn put_turns(
 fn put_parts(
     alloc: Global,
     out: &mut Vec<u8>,
-    statements: &Statements,
+    statements: &StatementPlaces,
     task: &NamedTask,
     forked: u32,
     turns: &[LoopTurn],
@@ -162,7 +162,7 @@ fn is_none(turns: &[LoopTurn]) -> bool
 pub(crate) fn put_whereabouts(
     alloc: Global,
     out: &mut Vec<u8>,
-    statements: &Statements,
+    statements: &StatementPlaces,
     task: &NamedTask,
     forked: u32,
     turns: &[LoopTurn],

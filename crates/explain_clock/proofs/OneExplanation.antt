@@ -16,7 +16,7 @@ use Rattle.clock_source_map.specs.ClockOffsets.{clock_offsets}
 use Rattle.clock_source_map.specs.ClockOrigins.{StartedActivity, MadeThing, all_begun, all_things, all_waits}
 use Rattle.clock_source_map.specs.ClockOps.{is_await}
 use Rattle.explain_clock.specs.ClockExplanations.{clock_lines, some_activity_waits}
-use Rattle.explain_clock.specs.ClockFacts.{AreClockFacts, AreTextFacts, ClockFacts, ClockWait, IsWaitBy, TextFacts, is_pending}
+use Rattle.explain_clock.specs.ClockFacts.{AreClockFacts, AreTextFacts, ClockFacts, ClockWait, IsWaitBy, ClockTextValue, is_pending}
 use Rattle.explain_clock.specs.calls.Laws.{ClockExplanationExists, OneClockExplanation}
 use Rattle.explain_clock.proofs.Told.{AreTold, one_list, told_all, told_more, told_none}
 
@@ -24,18 +24,18 @@ use Rattle.explain_clock.proofs.Told.{AreTold, one_list, told_all, told_more, to
 
 same_text_facts :
     (a a' : List ℕ) (b b' : Option (List ℕ)) (c c' : List ℕ) (d d' : List StartedActivity) (e e' : List MadeThing) → a ≡ a' → b ≡ b' → c ≡ c' → d ≡ d' → e ≡ e' →
-    let x : TextFacts = record { text = a; file = b; offsets = c; begun = d; things = e } in
-    let y : TextFacts = record { text = a'; file = b'; offsets = c'; begun = d'; things = e' } in x ≡ y
+    let x : ClockTextValue = record { text = a; file = b; offsets = c; begun = d; things = e } in
+    let y : ClockTextValue = record { text = a'; file = b'; offsets = c'; begun = d'; things = e' } in x ≡ y
 same_text_facts a a' b b' c c' d d' e e' p q r s t = cc
 
 pub one_text_facts :
-    (file : Option (List ℕ)) (text : List ℕ) (p : ClockTree) (u : ClockUnfolding) (f g : TextFacts) → AreTextFacts file text p u f → AreTextFacts file text p u g → f ≡ g
+    (file : Option (List ℕ)) (text : List ℕ) (p : ClockTree) (u : ClockUnfolding) (f g : ClockTextValue) → AreTextFacts file text p u f → AreTextFacts file text p u g → f ≡ g
 one_text_facts file text p u f g x y =
     same_text_facts f.text g.text f.file g.file f.offsets g.offsets f.begun g.begun f.things g.things
     (x.text_is ∙ sym y.text_is) (x.file_is ∙ sym y.file_is) (x.offsets_are ∙ sym y.offsets_are) (x.begun_are ∙ sym y.begun_are) (x.things_are ∙ sym y.things_are)
 
 same_facts :
-    (a a' : TextFacts) (f f' : List TaskEnd) (g g' : List Status) (h h' : List ClockWait) → a ≡ a' → f ≡ f' → g ≡ g' → h ≡ h' →
+    (a a' : ClockTextValue) (f f' : List TaskEnd) (g g' : List Status) (h h' : List ClockWait) → a ≡ a' → f ≡ f' → g ≡ g' → h ≡ h' →
     let x : ClockFacts = record { of_text = a; ends = f; blocked = g; waits = h } in
     let y : ClockFacts = record { of_text = a'; ends = f'; blocked = g'; waits = h' } in x ≡ y
 same_facts a a' f f' g g' h h' p u v w = cc
@@ -75,7 +75,7 @@ module _ (waits : List (List ℕ)) (plan : Plan) (a : ℕ → Place) where
       (ws ++ w ∷ [], subst (λ k. AreTold waits plan a k (ws ++ w ∷ [])) (let same : n + 1 ≡ suc n = omega arith in same) (told_more waits plan a n ws (ws ++ w ∷ []) w told refl is))
 
 -- a text has some
-abbrev pub facts_of_text : Option (List ℕ) → List ℕ → ClockTree → ClockUnfolding → TextFacts
+abbrev pub facts_of_text : Option (List ℕ) → List ℕ → ClockTree → ClockUnfolding → ClockTextValue
 facts_of_text file text p u = record { text = text; file = file; offsets = clock_offsets text p; begun = all_begun u; things = all_things u }
 
 pub are_facts_of_text : (file : Option (List ℕ)) (text : List ℕ) (p : ClockTree) (u : ClockUnfolding) → AreTextFacts file text p u (facts_of_text file text p u)

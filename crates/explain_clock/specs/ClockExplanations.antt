@@ -13,7 +13,7 @@ use Rattle.clock_syntax.specs.Grammar.{IsClockText}
 use Rattle.clock_syntax.specs.Trees.{ClockTree}
 use Rattle.clock_semantics.specs.Unfolding.{ClockUnfolding, clock_unfolded, plan_of_moves}
 use Rattle.clock_source_map.specs.ClockOrigins.{StartedActivity, MadeThing}
-use Rattle.explain_clock.specs.ClockFacts.{AreClockFacts, ClockFacts, ClockWait, TextFacts}
+use Rattle.explain_clock.specs.ClockFacts.{AreClockFacts, ClockFacts, ClockWait, ClockTextValue}
 use Rattle.explain_clock.specs.ClockWords.{activity_words, front_of, made_clock_words, made_finish_words, standing_words, waits_at}
 
 -- ---- how activities stand
@@ -85,12 +85,12 @@ lines_below l zero = []
 lines_below l (suc n) = lines_below l n ++ l n
 
 -- a clock of this name, made at statement n, that is pending; a finish has no such line
-abbrev pub pending_named : TextFacts → Option (List ℕ) → ℕ → List ℕ
+abbrev pub pending_named : ClockTextValue → Option (List ℕ) → ℕ → List ℕ
 pending_named f None n = []
 pending_named f (Some x) n = line (codes "  resume left " ++ made_clock_words f x n ++ codes " pending")
 
 -- the line of this clock, if there is such a clock
-abbrev pub pending_line : TextFacts → Option MadeThing → List ℕ
+abbrev pub pending_line : ClockTextValue → Option MadeThing → List ℕ
 pending_line f None = []
 pending_line f (Some thing) = pending_named f thing.name thing.statement
 
@@ -110,7 +110,7 @@ pending_lines f e t = lines_below (line_if_pending f e (pending_in (slice_get f.
 -- ---- paragraphs
 
 -- for what one waits: at its advance for phase 1 of clock c made at 1:1, or at the end of the finish at 2:1
-abbrev pub wait_words : TextFacts → Event → Option (List ℕ) → ℕ → List ℕ
+abbrev pub wait_words : ClockTextValue → Event → Option (List ℕ) → ℕ → List ℕ
 wait_words f e (Some x) n = codes " waits at its advance for phase " ++ decimal e.n ++ codes " of " ++ made_clock_words f x n
 wait_words f e None n = codes " waits at the end of " ++ made_finish_words f n
 
@@ -132,7 +132,7 @@ started_at None = None
 started_at (Some b) = Some (b.first - 1)
 
 -- the line of an activity that is not started
-abbrev pub unstarted_line : TextFacts → ℕ → List ℕ
+abbrev pub unstarted_line : ClockTextValue → ℕ → List ℕ
 unstarted_line f t = line (front_of f (started_at (slice_get f.begun t)) ++ activity_words f t ++ codes " is not started")
 
 -- what is said of activity t, which has ended so

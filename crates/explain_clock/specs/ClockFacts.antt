@@ -24,7 +24,7 @@ pub record ClockWait : Type 0 where
 
 -- what is known of the text alone: its bytes, and the name of its file, if it comes from one; the offsets of its statements; and its activities, clocks and
 -- finishes, by their numbers
-pub record TextFacts : Type 0 where
+pub record ClockTextValue : Type 0 where
   pub text : List ℕ
   pub file : Option (List ℕ)
   pub offsets : List ℕ
@@ -33,7 +33,7 @@ pub record TextFacts : Type 0 where
 
 -- what is known of the text; how each activity has ended, as its task; the statuses of those that wait; and where each waits
 pub record ClockFacts : Type 0 where
-  pub of_text : TextFacts
+  pub of_text : ClockTextValue
   pub ends : List TaskEnd
   pub blocked : List Status
   pub waits : List ClockWait
@@ -76,7 +76,7 @@ pub record AreWaitsAt (waits : List (List ℕ)) (plan : Plan) (a : ℕ → Place
 -- ---- facts
 
 -- these are the facts of a text, of the file with this name or of none, that is this program, with its unfolding
-pub record AreTextFacts (file : Option (List ℕ)) (text : List ℕ) (p : ClockTree) (u : ClockUnfolding) (f : TextFacts) : Type 0 where
+pub record AreTextFacts (file : Option (List ℕ)) (text : List ℕ) (p : ClockTree) (u : ClockUnfolding) (f : ClockTextValue) : Type 0 where
   pub text_is : f.text ≡ text
   pub file_is : f.file ≡ file
   pub offsets_are : f.offsets ≡ clock_offsets text p

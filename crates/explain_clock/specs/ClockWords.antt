@@ -4,7 +4,7 @@ use Rattle.source_map.specs.TextPlaces.{text_place}
 use Rattle.source_map.specs.PlaceWords.{front_words, place_words}
 use Rattle.source_map.specs.declared.place.TextPlace.{TextPlace}
 use Rattle.clock_source_map.specs.ClockOrigins.{StartedActivity}
-use Rattle.explain_clock.specs.ClockFacts.{ClockFacts, ClockWait, TextFacts}
+use Rattle.explain_clock.specs.ClockFacts.{ClockFacts, ClockWait, ClockTextValue}
 
 -- ---- places
 
@@ -19,41 +19,41 @@ offset_of text offsets zero = length text
 offset_of text offsets (suc i) = offset_or_end text (slice_get offsets i)
 
 -- the place of statement n
-abbrev pub clock_statement_place : TextFacts → ℕ → TextPlace
+abbrev pub clock_statement_place : ClockTextValue → ℕ → TextPlace
 clock_statement_place f n = text_place f.text (offset_of f.text f.offsets n)
 
 -- the place within a line
-abbrev pub statement_place_words : TextFacts → ℕ → List ℕ
+abbrev pub statement_place_words : ClockTextValue → ℕ → List ℕ
 statement_place_words f n = place_words f.text (clock_statement_place f n)
 
 -- the place with which a line begins, of a statement or else of none
-abbrev pub front_of : TextFacts → Option ℕ → List ℕ
+abbrev pub front_of : ClockTextValue → Option ℕ → List ℕ
 front_of f None = []
 front_of f (Some n) = front_words f.text f.file (clock_statement_place f n) ++ codes ": "
 
 -- ---- activities
 
 -- where an activity is started by an async, the number of its statement given
-abbrev pub async_words : TextFacts → ℕ → List ℕ
+abbrev pub async_words : ClockTextValue → ℕ → List ℕ
 async_words f n = if n == 0 then [] else codes " (async at " ++ statement_place_words f n ++ codes ")"
 
 -- where it is started, if there is such an activity
-abbrev pub started_words : TextFacts → Option StartedActivity → List ℕ
+abbrev pub started_words : ClockTextValue → Option StartedActivity → List ℕ
 started_words f None = []
 started_words f (Some b) = async_words f (b.first - 1)
 
 -- activity 1 (async at 3:5)
-abbrev pub activity_words : TextFacts → ℕ → List ℕ
+abbrev pub activity_words : ClockTextValue → ℕ → List ℕ
 activity_words f t = codes "activity " ++ decimal t ++ started_words f (slice_get f.begun t)
 
 -- ---- clocks and finishes
 
 -- a clock of this name, made at statement n: clock c made at 1:1
-abbrev pub made_clock_words : TextFacts → List ℕ → ℕ → List ℕ
+abbrev pub made_clock_words : ClockTextValue → List ℕ → ℕ → List ℕ
 made_clock_words f x n = codes "clock " ++ x ++ codes " made at " ++ statement_place_words f n
 
 -- the finish of statement n: the finish at 2:1
-abbrev pub made_finish_words : TextFacts → ℕ → List ℕ
+abbrev pub made_finish_words : ClockTextValue → ℕ → List ℕ
 made_finish_words f n = codes "the finish at " ++ statement_place_words f n
 
 -- ---- where an activity waits
@@ -68,6 +68,6 @@ abbrev pub waits_at : ClockFacts → ℕ → Option ℕ
 waits_at f t = wait_statement (slice_get f.waits t)
 
 -- : it waits at 5:5
-abbrev pub standing_words : TextFacts → Option ℕ → List ℕ
+abbrev pub standing_words : ClockTextValue → Option ℕ → List ℕ
 standing_words f None = []
 standing_words f (Some n) = codes ": it waits at " ++ statement_place_words f n

@@ -55,9 +55,9 @@ impl<'a> Model for ClockTextFacts<'a> {
     ghost use Rattle.std.specs.Prelude.{option_copied};
     ghost use Rattle.std.specs.Coded.{codes};
     ghost use Rattle.clock_syntax.specs.calls.Trees.{clock_tree_code};
-    ghost use Rattle.explain_clock.specs.ClockFacts.{TextFacts};
+    ghost use Rattle.explain_clock.specs.ClockFacts.{ClockTextValue};
 
-    ghost Value = { TextFacts };
+    ghost Value = { ClockTextValue };
 
     ghost coded = { Prim.hlevel (codes, clock_tree_code) };
 

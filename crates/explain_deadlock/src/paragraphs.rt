@@ -15,7 +15,7 @@ use crate::numbers::numbers_of;
 use armus_base::{NoMemory, TaskId};
 use explain_facts::put_words;
 use explain_tasks::{
-    Facts, Grouping, Saying, is_unforked, is_waiting, passing_below, put_by_number, put_kept,
+    Facts, Grouping, Saying, is_waiting, never_forked, passing_below, put_by_number, put_kept,
     put_list,
 };
 use pl_core::World;
@@ -88,7 +88,7 @@ fn unforked(facts: &Facts) -> Result<Vec<TaskId>, NoMemory>
     passing_below(
         facts.alloc(),
         facts.count(),
-        |t| is_unforked(facts.situation(t)),
+        |t| never_forked(facts.situation(t)),
     )
 }
 

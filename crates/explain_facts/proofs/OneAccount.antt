@@ -23,7 +23,7 @@ use Rattle.explain_facts.specs.Accounts.{IsLayout, IsTaskAccount, HasWait, IsWai
 use Rattle.explain_facts.specs.calls.Laws.{OneAccount}
 use Rattle.explain_facts.specs.declared.account.Account.{Account}
 use Rattle.explain_facts.specs.declared.account.Drawn.{Drawn}
-use Rattle.explain_facts.specs.declared.account.Ended.{Ended}
+use Rattle.explain_facts.specs.declared.account.CodeEnd.{CodeEnd}
 use Rattle.explain_facts.specs.declared.account.Forked.{Forked}
 use Rattle.explain_facts.specs.declared.account.TaskAccount.{TaskAccount}
 use Rattle.explain_facts.specs.declared.account.Turn.{Turn}
@@ -100,7 +100,7 @@ module _ (l : Layout) (p : Program) (plan : Plan) (a : ℕ → Place) (t : ℕ) 
   one_wait Unforked v w x y = x ∙ sym y
 
   same_task :
-      (drawn drawn' : Option Drawn) (fork fork' : Option Forked) (ended ended' : Option Ended) (wait wait' : Option Waiting) →
+      (drawn drawn' : Option Drawn) (fork fork' : Option Forked) (ended ended' : Option CodeEnd) (wait wait' : Option Waiting) →
       drawn ≡ drawn' → fork ≡ fork' → ended ≡ ended' → wait ≡ wait' →
       let v : TaskAccount = record { drawn = drawn; fork = fork; ended = ended; wait = wait } in
       let w : TaskAccount = record { drawn = drawn'; fork = fork'; ended = ended'; wait = wait' } in v ≡ w

@@ -24,7 +24,7 @@ use Rattle.source_map.specs.declared.place.TextPlace.{TextPlace}
 use Rattle.explain_facts.specs.AwaitWords.{await_text}
 use Rattle.explain_facts.specs.declared.account.Account.{Account}
 use Rattle.explain_facts.specs.declared.account.Drawn.{Drawn}
-use Rattle.explain_facts.specs.declared.account.Ended.{Ended}
+use Rattle.explain_facts.specs.declared.account.CodeEnd.{CodeEnd}
 use Rattle.explain_facts.specs.declared.account.Forked.{Forked}
 use Rattle.explain_facts.specs.declared.account.TaskAccount.{TaskAccount}
 use Rattle.explain_facts.specs.declared.account.Turn.{Turn}
@@ -88,7 +88,7 @@ abbrev pub forked_of : Layout → Program → Plan → ℕ → Option Forked
 forked_of l p plan t = forked_by l (fork_origin p t) (slice_index_or plan.parents t None)
 
 -- where the code of task t ends, and the statement of its last visit
-abbrev pub ended_of : Layout → Program → ℕ → Option Ended
+abbrev pub ended_of : Layout → Program → ℕ → Option CodeEnd
 ended_of l p t = option_map (λ f. record { at = end_place l f; last = option_map (statement_place l) (last_origin p t) }) (fork_origin p t)
 
 -- ---- tasks that wait

@@ -20,7 +20,7 @@ pub struct TaskAccount {
     /// Who forks it; none for task 0, and for a task that no op forks.
     pub fork: Option<Forked>,
     /// Where its code ends; none for a task that no op forks.
-    pub ended: Option<Ended>,
+    pub ended: Option<CodeEnd>,
     /// Where it waits; none for a task that does not wait.
     pub wait: Option<Waiting>,
 }
@@ -45,7 +45,7 @@ pub struct Forked {
 
 /// Where the code of a task ends.
 #[derive(Clone, Copy)]
-pub struct Ended {
+pub struct CodeEnd {
     /// The place of the brace that closes the body of its fork; for task 0 that of the end of the text.
     pub at: TextPlace,
     /// The place of the statement of its last visit, which for a turn of a loop is the loop; none where it makes no visit.

@@ -8,7 +8,7 @@ ghost use Rattle.source_map.specs.inside.Tables.{coming_of};
 ghost use Rattle.explain_facts.specs.Accounts.{brace_of, drawn_of, end_place, ended_of, forked_of, drawn_name, numbered, place_or_end, statement_place};
 ghost use Rattle.explain_facts.specs.calls.Known.{AreKnownFacts, kept_layout};
 
-use crate::account::{Drawn, Ended, Forked};
+use crate::account::{CodeEnd, Drawn, Forked};
 use armus_base::{List, NoMemory, Plan, TaskId};
 use pl_syntax::{Program, Stmt, body_ends, statement_offsets};
 use source_map::{Origins, TextPlace, TextPlaces};
@@ -157,12 +157,12 @@ impl<'a> TextFacts<'a> {
     }
 
     // Where the code of a task ends.
-    pub(crate) fn ended(&self, t: TaskId) -> Option<Ended>
+    pub(crate) fn ended(&self, t: TaskId) -> Option<CodeEnd>
         requires { AreKnownFacts self.now }
         ensures { result ≡ ended_of (kept_layout self.now) self.now.program.now t.0 }
     {
         let fork = self.origins.fork(t)?;
-        Some(Ended {
+        Some(CodeEnd {
             at: self.end(fork),
             last: self.last(t),
         })

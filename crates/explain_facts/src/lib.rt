@@ -10,7 +10,7 @@ mod laws;
 mod waiting;
 mod words;
 
-pub use account::{Account, Drawn, Ended, Forked, TaskAccount, Turn, Waiting};
+pub use account::{Account, CodeEnd, Drawn, Forked, TaskAccount, Turn, Waiting};
 pub use accounts::account_of;
 pub use facts::TextFacts;
 pub use laws::{

@@ -5,7 +5,7 @@ use Rattle.explain_steps.proofs.Showing.{one_shown, some_shown}
 use Rattle.clock_syntax.specs.Trees.{ClockTree}
 use Rattle.clock_semantics.specs.Unfolding.{ClockPart, ClockUnfolding}
 use Rattle.clock_source_map.specs.ClockOps.{all_op_origins}
-use Rattle.explain_clock.specs.ClockFacts.{TextFacts}
+use Rattle.explain_clock.specs.ClockFacts.{ClockTextValue}
 use Rattle.explain_clock.proofs.OneExplanation.{are_facts_of_text, facts_of_text, one_text_facts}
 use Rattle.explain_steps.specs.OpFacts.{AreOpFacts, OpFacts, written_parts}
 use Rattle.explain_steps.specs.ClockStepWords.{clock_step_line}
@@ -14,7 +14,7 @@ use Rattle.explain_steps.specs.calls.ClockLaws.{ClockShowingExists, OneClockShow
 -- ---- one
 
 pub same_op_facts :
-    (a a' : TextFacts) (b b' : List ClockPart) (c c' : List (List (Option ℕ))) → a ≡ a' → b ≡ b' → c ≡ c' →
+    (a a' : ClockTextValue) (b b' : List ClockPart) (c c' : List (List (Option ℕ))) → a ≡ a' → b ≡ b' → c ≡ c' →
     let x : OpFacts = record { of_text = a; statements = b; origins = c } in let y : OpFacts = record { of_text = a'; statements = b'; origins = c' } in x ≡ y
 same_op_facts a a' b b' c c' p q r = cc
 

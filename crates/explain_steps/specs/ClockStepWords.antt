@@ -11,7 +11,7 @@ use Rattle.explain_steps.specs.StepWords.{phase_change, with_phase_words}
 use Rattle.clock_syntax.specs.Trees.{advance, clock, drop, resume}
 use Rattle.clock_semantics.specs.Unfolding.{ClockPart, a_finish, a_plain, an_async}
 use Rattle.clock_source_map.specs.ClockOrigins.{MadeThing}
-use Rattle.explain_clock.specs.ClockFacts.{TextFacts}
+use Rattle.explain_clock.specs.ClockFacts.{ClockTextValue}
 use Rattle.explain_clock.specs.ClockWords.{activity_words, made_clock_words, made_finish_words, statement_place_words}
 use Rattle.explain_steps.specs.OpFacts.{OpFacts, clock_op_origin}
 
@@ -49,17 +49,17 @@ clock_whence_words f o None = codes "its end"
 -- ---- what a step changes, by the name of the clock and its statement; a finish has no name
 
 -- what is made there, with phase 0
-abbrev pub making_words : TextFacts → Option (List ℕ) → ℕ → List ℕ
+abbrev pub making_words : ClockTextValue → Option (List ℕ) → ℕ → List ℕ
 making_words f (Some x) n = codes "makes clock " ++ x ++ codes " with phase 0"
 making_words f None n = codes "begins " ++ made_finish_words f n
 
 -- activity c becomes a member, with this phase
-abbrev pub registered_words : TextFacts → ℕ → Option ℕ → Option (List ℕ) → ℕ → List ℕ
+abbrev pub registered_words : ClockTextValue → ℕ → Option ℕ → Option (List ℕ) → ℕ → List ℕ
 registered_words f c phase (Some x) n = codes "registers " ++ activity_words f c ++ codes " on " ++ made_clock_words f x n ++ with_phase_words phase
 registered_words f c phase None n = made_finish_words f n ++ codes " waits for " ++ activity_words f c
 
 -- a signal from this phase to the next
-abbrev pub signalled_words : TextFacts → Option ℕ → Option (List ℕ) → ℕ → List ℕ
+abbrev pub signalled_words : ClockTextValue → Option ℕ → Option (List ℕ) → ℕ → List ℕ
 signalled_words f phase (Some x) n = codes "signals on " ++ made_clock_words f x n ++ codes ": " ++ phase_change phase
 signalled_words f phase None n = codes "comes to the end of " ++ made_finish_words f n
 
@@ -69,12 +69,12 @@ left_finish_words (Some k) = codes "has ended "
 left_finish_words None = codes "leaves "
 
 -- a member leaves, by an op of this origin
-abbrev pub left_words : TextFacts → Option ℕ → Option (List ℕ) → ℕ → List ℕ
+abbrev pub left_words : ClockTextValue → Option ℕ → Option (List ℕ) → ℕ → List ℕ
 left_words f from (Some x) n = codes "leaves " ++ made_clock_words f x n
 left_words f from None n = left_finish_words from ++ made_finish_words f n
 
 -- the event is waited for
-abbrev pub clock_wait_words : TextFacts → Event → Option (List ℕ) → ℕ → List ℕ
+abbrev pub clock_wait_words : ClockTextValue → Event → Option (List ℕ) → ℕ → List ℕ
 clock_wait_words f e (Some x) n = codes "waits for phase " ++ decimal e.n ++ codes " of " ++ made_clock_words f x n
 clock_wait_words f e None n = codes "waits at the end of " ++ made_finish_words f n
 
@@ -84,12 +84,12 @@ said_of_thing words None = []
 said_of_thing words (Some thing) = words thing.name thing.statement
 
 -- the event is waited for, if there is one
-abbrev pub awaited_event_words : TextFacts → Option Event → List ℕ
+abbrev pub awaited_event_words : ClockTextValue → Option Event → List ℕ
 awaited_event_words f None = []
 awaited_event_words f (Some e) = said_of_thing (clock_wait_words f e) (slice_get f.things e.p.0)
 
 -- what activity t changes in a state by this action, of an op of this origin
-abbrev pub clock_change_words : TextFacts → State → ℕ → Option ℕ → Action → List ℕ
+abbrev pub clock_change_words : ClockTextValue → State → ℕ → Option ℕ → Action → List ℕ
 clock_change_words f s t from (Makes q) = said_of_thing (making_words f) (slice_get f.things q)
 clock_change_words f s t from (Registers c q) = said_of_thing (registered_words f c (s.phases t q)) (slice_get f.things q)
 clock_change_words f s t from (Forks c) = codes "starts " ++ activity_words f c

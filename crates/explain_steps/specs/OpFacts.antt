@@ -3,7 +3,7 @@ use Rattle.std.specs.Prelude.{◌≡◌, ℕ, List, [], ◌∷◌, ◌++◌, Opt
 use Rattle.clock_syntax.specs.Trees.{ClockTree, async, done, finish, loop, plain}
 use Rattle.clock_semantics.specs.Unfolding.{ClockPart, ClockUnfolding, a_finish, a_loop, a_plain, an_async}
 use Rattle.clock_source_map.specs.ClockOps.{all_op_origins}
-use Rattle.explain_clock.specs.ClockFacts.{AreTextFacts, TextFacts}
+use Rattle.explain_clock.specs.ClockFacts.{AreTextFacts, ClockTextValue}
 
 -- the statements of a program, those in bodies included, in the order of their numbers: each as it is come to first
 abbrev pub written_parts : ClockTree → List ClockPart
@@ -15,7 +15,7 @@ written_parts (loop k body rest) = a_loop ∷ (written_parts body ++ written_par
 
 -- what is known of the text; its statements, in the order of their numbers; and for each activity from which statement each op of its code comes
 pub record OpFacts : Type 0 where
-  pub of_text : TextFacts
+  pub of_text : ClockTextValue
   pub statements : List ClockPart
   pub origins : List (List (Option ℕ))
 

@@ -5,7 +5,7 @@ ghost use Rattle.clock_syntax.specs.Grammar.{IsClockText};
 ghost use Rattle.clock_syntax.specs.Trees.{clock_count};
 ghost use Rattle.clock_semantics.specs.Unfolding.{ClockUnfolding, clock_plan_of, clock_unfolded};
 ghost use Rattle.clock_source_map.specs.ClockOps.{all_op_origins};
-ghost use Rattle.explain_clock.specs.ClockFacts.{TextFacts};
+ghost use Rattle.explain_clock.specs.ClockFacts.{ClockTextValue};
 ghost use Rattle.explain_steps.specs.ClockStepWords.{clock_step_line};
 ghost use Rattle.explain_steps.specs.OpFacts.{written_parts};
 ghost use Rattle.explain_steps.specs.calls.Known.{known_ops};
@@ -61,7 +61,7 @@ fn run_of_layout<'p>(
 ) -> Result<SteppedRun<'p>, NoMemory>
     requires few { clock_count program.now.body + 1 < 2 ^ 32 }
     requires plan { clock_plan_of program.now.body ≡ Ok plan.now }
-    ensures run { IfOk result (λ run. (u : ClockUnfolding) → (t : TextFacts) → clock_unfolded program.now.body ≡ Ok u → t ≡ record {
+    ensures run { IfOk result (λ run. (u : ClockUnfolding) → (t : ClockTextValue) → clock_unfolded program.now.body ≡ Ok u → t ≡ record {
       text = places.now;
       file = None;
       offsets = layout.now.offsets;

@@ -17,13 +17,13 @@ abbrev pub syntax_numbers : SyntaxFault → List ℕ
 syntax_numbers fault = codes " (syntax " ++ decimal fault.kind ++ codes ", byte " ++ decimal fault.at ++ codes ")"
 
 -- the first line: the place, what is wrong there, and the numbers; from the place on this is left of the text
-abbrev pub first_line : List ℕ → Option (List ℕ) → TextPlace → SyntaxFault → List ℕ → WantedTokens → List ℕ
-first_line text file place fault rest wanted =
+abbrev pub front_line : List ℕ → Option (List ℕ) → TextPlace → SyntaxFault → List ℕ → WantedTokens → List ℕ
+front_line text file place fault rest wanted =
     line (front_words text file place ++ codes ": " ++ syntax_sentence fault.kind rest wanted ++ syntax_numbers fault)
 
 -- the same, where the grammar says this of the place
 abbrev pub syntax_fault_line : Option (List ℕ) → List ℕ → SyntaxFault → GrammarStand → List ℕ
-syntax_fault_line file text fault stand = first_line text file (text_place text fault.at) fault (drop fault.at text) stand.wanted
+syntax_fault_line file text fault stand = front_line text file (text_place text fault.at) fault (drop fault.at text) stand.wanted
 
 -- the note on the innermost open brace, where the text has ended
 abbrev pub brace_note : List ℕ → List ℕ → Option ℕ → List ℕ

@@ -2,7 +2,7 @@
 ghost use Rattle.std.specs.Prelude.{◌≡◌, ◌<◌, ◌≤◌, ◌-◌, ◌^◌, ◌++◌, OnOk, IfOk, drop, length, option_map};
 ghost use Rattle.pl_syntax.specs.Grammar.{HasFault};
 ghost use Rattle.pl_syntax.specs.Printed.{line};
-ghost use Rattle.explain_syntax.specs.SyntaxRefusals.{IsSyntaxRefusal, first_line, syntax_numbers};
+ghost use Rattle.explain_syntax.specs.SyntaxRefusals.{IsSyntaxRefusal, front_line, syntax_numbers};
 
 use crate::caret::put_line_and_caret;
 use crate::notes::put_notes;
@@ -44,7 +44,7 @@ fn put_first_line(
     rest: &[u8],
     wanted: WantedTokens,
 ) -> Result<(), NoMemory>
-    ensures { OnOk result (out.new.items ≡ out.old.items ++ first_line places.now (option_map (λ f. f.now) file.entry) place fault rest.now wanted) }
+    ensures { OnOk result (out.new.items ≡ out.old.items ++ front_line places.now (option_map (λ f. f.now) file.entry) place fault rest.now wanted) }
 {
     places.put_front(alloc, out, file, place)?;
     out.extend_from_slice(b": ")?;

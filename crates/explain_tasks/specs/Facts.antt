@@ -6,7 +6,7 @@ use Rattle.report.specs.declared.standing.Standing.{Standing}
 use Rattle.report.specs.declared.standing.Standing.TheVariants.{Done, Dead, Held as WaitsAlive, Refused, Unforked}
 use Rattle.explain_facts.specs.declared.account.Account.{Account}
 use Rattle.explain_facts.specs.declared.account.Drawn.{Drawn}
-use Rattle.explain_facts.specs.declared.account.Ended.{Ended}
+use Rattle.explain_facts.specs.declared.account.CodeEnd.{CodeEnd}
 use Rattle.explain_facts.specs.declared.account.Forked.{Forked}
 use Rattle.explain_facts.specs.declared.account.TaskAccount.{TaskAccount}
 use Rattle.explain_facts.specs.declared.account.Waiting.{Waiting}
@@ -33,7 +33,7 @@ abbrev pub forking_of : FactsValue → ℕ → Option Forked
 forking_of f t = option_and_then (λ (a : TaskAccount). a.fork) (slice_get f.account.tasks t)
 
 -- where the code of task t ends, if it can be forked
-abbrev pub ending_of : FactsValue → ℕ → Option Ended
+abbrev pub ending_of : FactsValue → ℕ → Option CodeEnd
 ending_of f t = option_and_then (λ (a : TaskAccount). a.ended) (slice_get f.account.tasks t)
 
 -- where task t waits, if it waits

@@ -2,7 +2,7 @@
 use Rattle.std.specs.Prelude.{ℕ, List, [], ◌++◌, Option, Some, None, codes}
 use Rattle.report.specs.Words.{task_word}
 use Rattle.explain_facts.specs.declared.account.Drawn.{Drawn}
-use Rattle.explain_facts.specs.declared.account.Ended.{Ended}
+use Rattle.explain_facts.specs.declared.account.CodeEnd.{CodeEnd}
 use Rattle.explain_facts.specs.declared.account.Forked.{Forked}
 use Rattle.explain_facts.specs.declared.account.Waiting.{Waiting}
 use Rattle.source_map.specs.PlaceWords.{front_words, place_words}
@@ -44,4 +44,4 @@ drawn_place f t = said_of (λ (d : Drawn). place_in_line f d.at) (drawing_of f t
 
 -- the place where task t ended
 abbrev pub end_words : FactsValue → ℕ → List ℕ
-end_words f t = said_of (λ (e : Ended). place_in_line f e.at) (ending_of f t)
+end_words f t = said_of (λ (e : CodeEnd). place_in_line f e.at) (ending_of f t)

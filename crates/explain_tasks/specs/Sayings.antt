@@ -3,7 +3,7 @@ use Rattle.std.specs.Prelude.{ℕ, Bool, true, false, List, [], ◌++◌, ◌==�
 use Rattle.std.specs.Str.{bytes_eq}
 use Rattle.armus_base.specs.declared.event.Event.{Event}
 use Rattle.explain_facts.specs.declared.account.Drawn.{Drawn}
-use Rattle.explain_facts.specs.declared.account.Ended.{Ended}
+use Rattle.explain_facts.specs.declared.account.CodeEnd.{CodeEnd}
 use Rattle.explain_facts.specs.declared.account.Forked.{Forked}
 use Rattle.explain_facts.specs.declared.account.Turn.{Turn}
 use Rattle.explain_facts.specs.declared.account.Waiting.{Waiting}
@@ -115,7 +115,7 @@ abbrev pub own_said : FactsValue → ℕ → Said
 own_said f t = said_as f t (situation_of f t)
 
 -- the statement of a last visit, where there was one: , last statement at 13:3
-abbrev pub last_words : FactsValue → Ended → List ℕ
+abbrev pub last_words : FactsValue → CodeEnd → List ℕ
 last_words f e = said_of (λ (at : TextPlace). codes ", last statement at " ++ place_in_line f at) e.last
 
 -- what is said of an impeder that stands so, behind its phase

@@ -4,7 +4,7 @@ ghost use Rattle.report.specs.declared.standing.Standing.TheVariants.{Done};
 
 use crate::situation::{Situation, situation_by};
 use armus_base::TaskId;
-use explain_facts::{Account, Drawn, Ended, Forked, TaskAccount, Waiting};
+use explain_facts::{Account, CodeEnd, Drawn, Forked, TaskAccount, Waiting};
 use report::Standing;
 use source_map::TextPlaces;
 use std::alloc::Global;
@@ -32,7 +32,7 @@ impl<'a> Model for Facts<'a> {
 }
 
 /// How a task stands, and Done where there is no such task.
-pub fn standing_at(standings: &[Standing], t: TaskId) -> Standing
+pub fn task_standing(standings: &[Standing], t: TaskId) -> Standing
     ensures { result ≡ slice_index_or standings.now t.0 Done }
 {
     match standings.get(t.0 as usize) {
@@ -105,7 +105,7 @@ impl<'a> Facts<'a> {
     }
 
     // Where the code of a task ends, if it can be forked.
-    pub(crate) fn end(&self, t: TaskId) -> Option<Ended>
+    pub(crate) fn end(&self, t: TaskId) -> Option<CodeEnd>
         ensures { result ≡ ending_of self.now t.0 }
     {
         match self.task(t) {
@@ -128,6 +128,6 @@ impl<'a> Facts<'a> {
     pub fn situation(&self, t: TaskId) -> Situation
         ensures { result ≡ situation_of self.now t.0 }
     {
-        situation_by(standing_at(self.standings, t), self.fork(t))
+        situation_by(task_standing(self.standings, t), self.fork(t))
     }
 }

@@ -44,7 +44,7 @@ pub fn is_waiting(situation: Situation) -> bool
 }
 
 /// Whether a task that stands so was not forked.
-pub fn is_unforked(situation: Situation) -> bool
+pub fn never_forked(situation: Situation) -> bool
     ensures { result ≡ stands_unforked situation }
 {
     match situation {

@@ -15,8 +15,8 @@ mod situation;
 mod task_lists;
 mod words;
 
-pub use facts::{Facts, standing_at};
-pub use following::{first_or, is_deadlocked, is_unforked, is_waiting};
+pub use facts::{Facts, task_standing};
+pub use following::{first_or, is_deadlocked, is_waiting, never_forked};
 pub use grouping::Grouping;
 pub use impeders::Impeder;
 pub use passing::{least_below, passing_below, push_if};

@@ -8,7 +8,7 @@ use crate::impeders::Impeder;
 use crate::saying::{ForkingWords, Saying};
 use crate::situation::Situation;
 use armus_base::{NoMemory, PhaserId, TaskId};
-use explain_facts::{Ended, Forked, Turn, Waiting, put_number, put_words};
+use explain_facts::{CodeEnd, Forked, Turn, Waiting, put_number, put_words};
 use std::alloc::Global;
 
 // Appends the own phase of a task that waits, where it is not that of the event.
@@ -262,7 +262,7 @@ impl<'a> Facts<'a> {
     }
 
     // Appends the statement of a task's last visit.
-    fn put_last(&self, out: &mut Vec<u8>, end: Option<Ended>) -> Result<(), NoMemory>
+    fn put_last(&self, out: &mut Vec<u8>, end: Option<CodeEnd>) -> Result<(), NoMemory>
         ensures { OnOk result (out.new.items ≡ out.old.items ++ said_of (last_words self.now) end) }
     {
         let Some(end) = end else {

@@ -3,5 +3,5 @@ pub mod Gathered
 pub mod Rows
 pub mod Distances
 pub mod Mending
-pub mod Found
+pub mod FoundBelow
 pub mod Steps

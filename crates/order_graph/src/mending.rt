@@ -3,7 +3,7 @@ ghost use Rattle.std.specs.Prelude.{◌≡◌, ◌≤◌, All, IfOk, is_some};
 ghost use Rattle.armus_base.specs.declared.ids.TaskId.{TaskId};
 ghost use Rattle.order_graph.specs.calls.Orders.{IsOrder, IsTaskOf, position_of};
 ghost use Rattle.order_graph.specs.inside.Distances.{IsListedIn, NeverReaches, TellDistances, distance_in};
-ghost use Rattle.order_graph.specs.inside.Found.{TellsFound};
+ghost use Rattle.order_graph.specs.inside.FoundBelow.{TellsFound};
 ghost use Rattle.order_graph.specs.inside.Mending.{IsMended, IsStretch};
 
 use crate::Order;
@@ -14,7 +14,7 @@ use std::alloc::{AllocError, Global};
 
 /// What was found of an edge that goes down.
 #[derive(Drop)]
-pub(crate) enum Found {
+pub(crate) enum FoundBelow {
     /// The edge would close a cycle; this is the walk from its end to its start.
     Walk(Vec<TaskId>),
     /// The tasks of the stretch in an order in which the edge goes up.
@@ -58,7 +58,12 @@ fn mended(
 }
 
 /// What is to be done for an edge from `a` to `b`, which goes down: one pass over the tasks between the two.
-pub(crate) fn look(alloc: Global, order: &Order, a: TaskId, b: TaskId) -> Result<Found, AllocError>
+pub(crate) fn look(
+    alloc: Global,
+    order: &Order,
+    a: TaskId,
+    b: TaskId,
+) -> Result<FoundBelow, AllocError>
     requires from { IsTaskOf order.now a }
     requires to { IsTaskOf order.now b }
     requires down { position_of order.now b ≤ position_of order.now a }
@@ -68,8 +73,8 @@ pub(crate) fn look(alloc: Global, order: &Order, a: TaskId, b: TaskId) -> Result
     let far = distances(alloc, order, a, stretch)?;
     if reaches(order, a, &far, b) {
         let list = nearest_walk(alloc, order, b, a, &far)?;
-        return Ok(Found::Walk(list));
+        return Ok(FoundBelow::Walk(list));
     }
     let ts = mended(alloc, order, a, &far, stretch)?;
-    Ok(Found::Mended(ts))
+    Ok(FoundBelow::Mended(ts))
 }

@@ -12,7 +12,7 @@ ghost use Rattle.order_graph.specs.inside.Distances.{NeverReaches};
 ghost use Rattle.order_graph.specs.inside.Mending.{IsMended, IsStretch};
 ghost use Rattle.order_graph.specs.inside.Rows.{KeepsOnly};
 
-use crate::mending::{Found, look};
+use crate::mending::{FoundBelow, look};
 use crate::waits::waits_of;
 use crate::{Added, Followed, Row, Waits, following, settling};
 use armus_base::{List, NoMemory, TaskId};
@@ -103,8 +103,8 @@ impl Order {
             return Ok(Added::Kept);
         }
         match look(alloc, self, a, b)? {
-            Found::Walk(list) => Ok(Added::Cycle(List::from_vec(list))),
-            Found::Mended(ts) => {
+            FoundBelow::Walk(list) => Ok(Added::Cycle(List::from_vec(list))),
+            FoundBelow::Mended(ts) => {
                 self.mend(a, b, &ts)?;
                 Ok(Added::Kept)
             }

@@ -17,7 +17,7 @@ use Rattle.armus_base.proofs.OwnSteps.{plain_longer}
 use Rattle.schedule.specs.declared.lines.Line.{Line}
 use Rattle.schedule.specs.declared.lines.Line.TheVariants as line
 use Rattle.schedule.specs.declared.verdict.PassVerdict.{PassVerdict}
-use Rattle.schedule.specs.Passes.{Loads, loads_of, statuses_found}
+use Rattle.schedule.specs.Passes.{PassLoads, loads_of, statuses_found}
 use Rattle.schedule.specs.Replaying.{AreVerdicts, no_pass, one_pass}
 use Rattle.schedule.specs.Replays.{LinesLead, Progress, Takes, at_start, no_line, one_more}
 use Rattle.schedule.proofs.PassesNameTheDead.{passes_name_the_dead}
@@ -31,7 +31,7 @@ module _ (plan : Plan) (checked : IsCheckedPlan plan) where
   -- so far: the run is plain, and whoever a closed pass names is dead after it
   record Keeps (a : Progress) : Type 0 where
     plain : IsPlainRun plan a.run
-    lasting : (loads : Loads) → Contains a.passes loads → (t : ℕ) → IsDeadBy (statuses_found plan loads) t → IsDeadIn (state_after a.run) t
+    lasting : (loads : PassLoads) → Contains a.passes loads → (t : ℕ) → IsDeadBy (statuses_found plan loads) t → IsDeadIn (state_after a.run) t
 
   starts : Keeps at_start
   starts = record { plain = (tt, tt); lasting = λ loads c. absurd (nothing_in_nil loads c) }
@@ -48,12 +48,12 @@ module _ (plan : Plan) (checked : IsCheckedPlan plan) where
       }
 
   -- the last of these loads is the run
-  last_is : (loads : Loads) (h : List Step) → (n : ℕ) × (length (loads ++ h ∷ []) ≡ n + 1) × (slice_get (loads ++ h ∷ []) n ≡ Some h)
+  last_is : (loads : PassLoads) (h : List Step) → (n : ℕ) × (length (loads ++ h ∷ []) ≡ n + 1) × (slice_get (loads ++ h ∷ []) n ≡ Some h)
   last_is [] h = (0, refl, refl)
   last_is (f ∷ loads) h = let more = last_is loads h in (suc more.0, omega (arith, more.1), more.2)
 
   -- one more load, which closes the pass or not, where a closed one names no task that is not dead now
-  loaded_kept : (a : Progress) → Keeps a → (more : Loads) (now : Bool)
+  loaded_kept : (a : Progress) → Keeps a → (more : PassLoads) (now : Bool)
       → ((t : ℕ) → now ≡ true → IsDeadBy (statuses_found plan more) t → IsDeadIn (state_after a.run) t)
       → Keeps (if now then record a { open_pass = None; passes = a.passes ++ more ∷ [] } else record a { open_pass = Some more })
   loaded_kept a kept more true named =
@@ -71,7 +71,7 @@ module _ (plan : Plan) (checked : IsCheckedPlan plan) where
   loaded_kept a kept more false named = record { plain = kept.plain; lasting = kept.lasting }
 
   -- a pass that is closed by these lines is among the closed ones
-  closed_now : (a : Progress) (more : Loads) (now : Bool) → now ≡ true
+  closed_now : (a : Progress) (more : PassLoads) (now : Bool) → now ≡ true
       → Contains (if now then record a { open_pass = None; passes = a.passes ++ more ∷ [] } else record a { open_pass = Some more }).passes more
   closed_now a more true is = Contains-append_right a.passes (more ∷ []) more (Contains-head more [])
   closed_now a more false is = absurd (cc)
@@ -95,8 +95,8 @@ module _ (plan : Plan) (checked : IsCheckedPlan plan) where
   leads_kept _ _ (one_more lines a next b leads takes) = takes_kept lines a next b leads (leads_kept lines a leads) takes
 
   -- a verdict is that of a closed pass
-  pass_of : (passes : List Loads) (verdicts : List PassVerdict) → AreVerdicts plan passes verdicts → (v : PassVerdict) → Contains verdicts v
-      → (loads : Loads) × Contains passes loads × IsDeadList (statuses_found plan loads) v.dead
+  pass_of : (passes : List PassLoads) (verdicts : List PassVerdict) → AreVerdicts plan passes verdicts → (v : PassVerdict) → Contains verdicts v
+      → (loads : PassLoads) × Contains passes loads × IsDeadList (statuses_found plan loads) v.dead
   pass_of _ _ no_pass v c = absurd (nothing_in_nil v c)
   pass_of _ _ (one_pass passes verdicts loads w are dead) v c =
       elim (Contains-append_cases verdicts (w ∷ []) v c) [

@@ -11,7 +11,7 @@ use Rattle.dep_state.proofs.SameDeadLists.{same_ascending}
 use Rattle.schedule.specs.declared.lines.Line.{Line}
 use Rattle.schedule.specs.declared.verdict.PassVerdict.{PassVerdict}
 use Rattle.schedule.specs.declared.verdict.Replayed.{Replayed}
-use Rattle.schedule.specs.Passes.{Loads, statuses_found}
+use Rattle.schedule.specs.Passes.{PassLoads, statuses_found}
 use Rattle.schedule.specs.Replaying.{AreDeadIn, AreVerdicts, IsReplayed, no_pass, one_pass}
 use Rattle.schedule.specs.Replays.{LinesLead, Progress}
 use Rattle.schedule.specs.Texts.{text_of}
@@ -33,18 +33,18 @@ pub one_dead_in : (s : State) (xs ys : List TaskId) → AreDeadIn s xs → AreDe
 one_dead_in s xs ys a b =
     same_ascending xs ys a.ascends b.ascends (λ t. (λ c. (b.exact t).1 ((a.exact t).0 c), λ c. (a.exact t).1 ((b.exact t).0 c)))
 
-one_verdict : (plan : Plan) (loads : Loads) (v w : PassVerdict) → IsDeadList (statuses_found plan loads) v.dead → IsDeadList (statuses_found plan loads) w.dead → v ≡ w
+one_verdict : (plan : Plan) (loads : PassLoads) (v w : PassVerdict) → IsDeadList (statuses_found plan loads) v.dead → IsDeadList (statuses_found plan loads) w.dead → v ≡ w
 one_verdict plan loads v w a b = (let same : v.dead ≡ w.dead = one_dead_list (statuses_found plan loads) v.dead w.dead a b in λ i. record { dead = same i })
 
 -- the verdicts before the last pass, and its own
-record VerdictsBefore (plan : Plan) (passes : List Loads) (loads : Loads) (verdicts : List PassVerdict) : Type 0 where
+record VerdictsBefore (plan : Plan) (passes : List PassLoads) (loads : PassLoads) (verdicts : List PassVerdict) : Type 0 where
   before : List PassVerdict
   last : PassVerdict
   all : verdicts ≡ before ++ last ∷ []
   are : AreVerdicts plan passes before
   dead : IsDeadList (statuses_found plan loads) last.dead
 
-before_last : (plan : Plan) (all passes : List Loads) (loads : Loads) (verdicts : List PassVerdict) → all ≡ passes ++ loads ∷ [] → AreVerdicts plan all verdicts
+before_last : (plan : Plan) (all passes : List PassLoads) (loads : PassLoads) (verdicts : List PassVerdict) → all ≡ passes ++ loads ∷ [] → AreVerdicts plan all verdicts
     → VerdictsBefore plan passes loads verdicts
 before_last plan _ passes loads _ e no_pass = absurd (ends_some passes loads e)
 before_last plan _ passes loads _ e (one_pass front vs last v are dead) =
@@ -57,14 +57,14 @@ before_last plan _ passes loads _ e (one_pass front vs last v are dead) =
       dead = subst (λ l. IsDeadList (statuses_found plan l) v.dead) parts.1 dead;
     }
 
-from_none : (plan : Plan) (all : List Loads) (verdicts : List PassVerdict) → all ≡ [] → AreVerdicts plan all verdicts → [] ≡ verdicts
+from_none : (plan : Plan) (all : List PassLoads) (verdicts : List PassVerdict) → all ≡ [] → AreVerdicts plan all verdicts → [] ≡ verdicts
 from_none plan _ _ e no_pass = refl
 from_none plan _ _ e (one_pass front vs last v are dead) = absurd (ends_some front last (sym e))
 
-pub one_verdicts : (plan : Plan) (passes : List Loads) (a b : List PassVerdict) → AreVerdicts plan passes a → AreVerdicts plan passes b → a ≡ b
+pub one_verdicts : (plan : Plan) (passes : List PassLoads) (a b : List PassVerdict) → AreVerdicts plan passes a → AreVerdicts plan passes b → a ≡ b
 one_verdicts plan passes a b p q = go passes a b p q
   where
-    go : (passes : List Loads) (a b : List PassVerdict) → AreVerdicts plan passes a → AreVerdicts plan passes b → a ≡ b
+    go : (passes : List PassLoads) (a b : List PassVerdict) → AreVerdicts plan passes a → AreVerdicts plan passes b → a ≡ b
     go _ _ b no_pass q = from_none plan [] b refl q
     go _ _ b (one_pass front vs loads v are dead) q =
         let last = before_last plan (front ++ loads ∷ []) front loads b refl q in

@@ -12,7 +12,7 @@ use Rattle.armus_base.specs.Runs.{IsPlainRun, state_after}
 use Rattle.armus_base.specs.States.{Step}
 use Rattle.schedule.specs.declared.pass.OpenPass.{OpenPass}
 use Rattle.schedule.specs.declared.pass.FoundWaiting.{FoundWaiting}
-use Rattle.schedule.specs.Passes.{Loads, event_found, event_after}
+use Rattle.schedule.specs.Passes.{PassLoads, event_found, event_after}
 use Rattle.schedule.specs.inside.OpenPasses.{IsPassOf, HasPhases, KeepsEvent, phaser_of, waiting_found, awaited_phaser, status_with, row_found}
 use Rattle.std.proofs.Common.{eq-eqb, get_or}
 use Rattle.armus_base.proofs.Below.{given_from}
@@ -24,10 +24,10 @@ use Rattle.schedule.proofs.Following.{state_is}
 use Rattle.schedule.proofs.PassesNameTheDead.{published_phaser}
 
 -- an extension of one load more extends the loads before it, and has that load next
-pub extends_less : (all loads : Loads) (h : List Step) → Extends all (loads ++ h ∷ []) → Extends all loads
+pub extends_less : (all loads : PassLoads) (h : List Step) → Extends all (loads ++ h ∷ []) → Extends all loads
 extends_less all loads h (new, same) = (h ∷ new, same ∙ append_assoc loads (h ∷ []) new)
 
-pub has_next : (all loads : Loads) (h : List Step) → Extends all (loads ++ h ∷ []) → slice_get all (length loads) ≡ Some h
+pub has_next : (all loads : PassLoads) (h : List Step) → Extends all (loads ++ h ∷ []) → slice_get all (length loads) ≡ Some h
 has_next all loads h (new, same) = ap (λ l. slice_get l (length loads)) (same ∙ append_assoc loads (h ∷ []) new) ∙ slice_get_last loads h new
 
 -- what one load of an await cell that finds this event makes of a pass
@@ -56,7 +56,7 @@ some_awaited phasers (w ∷ ws) l all =
     (ap (λ b. if (b || list_any (λ (v : FoundWaiting). v.event.p.0 == p) ws) then Some (record { 0 = p }) else None) (eq-eqb p p refl)) in
     omega arith
 
-module _ (plan : Plan) (checked : IsCheckedPlan plan) (loads : Loads) (h : List Step) (run : IsPlainRun plan h) (pass new : OpenPass)
+module _ (plan : Plan) (checked : IsCheckedPlan plan) (loads : PassLoads) (h : List Step) (run : IsPlainRun plan h) (pass new : OpenPass)
     (of : IsPassOf plan loads pass) (few : length loads < length plan.parents) (loads_one : LoadsAwait plan pass new ((state_after h).published pass.loaded))
   where
     here : pass.loaded ≡ length loads
@@ -65,7 +65,7 @@ module _ (plan : Plan) (checked : IsCheckedPlan plan) (loads : Loads) (h : List 
     longer : length (loads ++ h ∷ []) ≡ length loads + 1
     longer = length-append loads (h ∷ [])
 
-    waiting_more : (all : Loads) → Extends all (loads ++ h ∷ []) → new.waiting.items ≡ given_below (waiting_found all) new.loaded
+    waiting_more : (all : PassLoads) → Extends all (loads ++ h ∷ []) → new.waiting.items ≡ given_below (waiting_found all) new.loaded
     waiting_more all ext =
         let found : event_found all pass.loaded ≡ (state_after h).published pass.loaded =
         ap (λ t. event_after pass.loaded (slice_get all t)) here ∙ ap (event_after pass.loaded) (has_next all loads h ext) in
@@ -76,7 +76,7 @@ module _ (plan : Plan) (checked : IsCheckedPlan plan) (loads : Loads) (h : List 
         ∙ sym (given_more (waiting_found all) pass.loaded)
         ∙ ap (given_below (waiting_found all)) (sym loads_one.kept.loaded)
 
-    awaited_more : (all : Loads) → Extends all (loads ++ h ∷ []) → new.loaded ≡ length plan.parents → new.awaited.items ≡ given_below (awaited_phaser plan all) (length plan.makers)
+    awaited_more : (all : PassLoads) → Extends all (loads ++ h ∷ []) → new.loaded ≡ length plan.parents → new.awaited.items ≡ given_below (awaited_phaser plan all) (length plan.makers)
     awaited_more all ext full =
         loads_one.awaited full
         ∙ given_same (phaser_of new.waiting.items) (awaited_phaser plan all) (length plan.makers) (λ p l.
@@ -126,7 +126,7 @@ module _ (plan : Plan) (checked : IsCheckedPlan plan) (loads : Loads) (h : List 
               nothing_found all (slice_get new.waiting.items new.row));
         }
       where
-        nothing_found : (all : Loads) (o : Option FoundWaiting) → row_found plan all o [] ≡ []
+        nothing_found : (all : PassLoads) (o : Option FoundWaiting) → row_found plan all o [] ≡ []
         nothing_found all None = refl
         nothing_found all (Some w) = refl
 
@@ -155,7 +155,7 @@ module _ (plan : Plan) (checked : IsCheckedPlan plan) (loads : Loads) (h : List 
 -- so a load of an await cell in a world that follows a run is a load of the pass
 pub await_loaded :
     (plan : Plan) (w : WorldValue) (pass new : OpenPass) (found : Option Event) → IsCheckedPlan plan → plan ≡ w.plan → pass.loaded < length plan.parents →
-    found ≡ (state_of w).published pass.loaded → LoadsAwait plan pass new found → (loads : Loads) (h : List Step) → IsAt w h → IsPassOf plan loads pass →
+    found ≡ (state_of w).published pass.loaded → LoadsAwait plan pass new found → (loads : PassLoads) (h : List Step) → IsAt w h → IsPassOf plan loads pass →
     IsPassOf plan (loads ++ h ∷ []) new
 await_loaded plan w pass new found checked same next is one loads h at of =
     let run : IsPlainRun plan h = subst (λ q. IsPlainRun q h) (sym same) at.run in

@@ -15,7 +15,7 @@ use Rattle.schedule.specs.declared.lines.Line.{Line}
 use Rattle.schedule.specs.declared.lines.Line.TheVariants as line
 use Rattle.schedule.specs.declared.verdict.PassVerdict.{PassVerdict}
 use Rattle.schedule.specs.declared.verdict.ReplayEnd.TheVariants.{Schedule, NoMemory}
-use Rattle.schedule.specs.Passes.{Loads}
+use Rattle.schedule.specs.Passes.{PassLoads}
 use Rattle.schedule.specs.Replays.{IsFault, LinesLead, Progress, Takes, load_without_pass, no_line, one_more, second_pass, strange_task, stuck_task, unreadable}
 use Rattle.schedule.specs.Replaying.{AreDeadIn, AreVerdicts, no_pass, one_pass}
 use Rattle.schedule.specs.calls.Records.{JournalReplays, step_of}
@@ -97,7 +97,7 @@ nothing_behind : {A : Type 0} (xs : List A) (x : A) → xs ++ x ∷ [] ≡ [] �
 nothing_behind [] x e = absurd (cc)
 nothing_behind (y ∷ ys) x e = absurd (cc)
 
-no_verdicts : (plan : Plan) (passes : List Loads) (verdicts : List PassVerdict) → AreVerdicts plan passes verdicts → passes ≡ [] → verdicts ≡ []
+no_verdicts : (plan : Plan) (passes : List PassLoads) (verdicts : List PassVerdict) → AreVerdicts plan passes verdicts → passes ≡ [] → verdicts ≡ []
 no_verdicts plan _ _ no_pass e = refl
 no_verdicts plan _ _ (one_pass passes verdicts loads v before dead) e = absurd (nothing_behind passes loads e)
 

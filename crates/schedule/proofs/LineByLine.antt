@@ -25,7 +25,7 @@ use Rattle.schedule.specs.declared.replaying.Replaying.{Replaying}
 use Rattle.schedule.specs.declared.verdict.PassVerdict.{PassVerdict}
 use Rattle.schedule.specs.inside.Following.{IsAt}
 use Rattle.schedule.specs.inside.OpenPasses.{IsPassOf, IsMidPass}
-use Rattle.schedule.specs.Passes.{Loads, loads_of, is_found_awaited, state_found, statuses_found}
+use Rattle.schedule.specs.Passes.{PassLoads, loads_of, is_found_awaited, state_found, statuses_found}
 use Rattle.std.proofs.Common.{get_or, take, drop, take-append-drop, ◌==◌}
 use Rattle.std.proofs.lemmas.List.{take_more, drop_more, length-take-le}
 use Rattle.schedule.specs.declared.replaying.LineEnd.{LineEnd}
@@ -110,7 +110,7 @@ dead_are w h dead at are =
 pub statuses_in_order : (plan : Plan) (s : State) → IsCheckedPlan plan → IsInOrder (statuses_of plan s)
 statuses_in_order plan s checked = (statuses_are plan s (λ p. true) checked).in_order
 
-pub found_in_order : (plan : Plan) (loads : Loads) → IsCheckedPlan plan → IsInOrder (statuses_found plan loads)
+pub found_in_order : (plan : Plan) (loads : PassLoads) → IsCheckedPlan plan → IsInOrder (statuses_found plan loads)
 found_in_order plan loads checked = (statuses_are plan (state_found plan loads) (is_found_awaited plan loads) checked).in_order
 
 -- a pass that is open and not full, with all await cells loaded
@@ -124,22 +124,22 @@ mid_pass plan pass opened all =
     }
 
 -- where a pass is kept, the progress has one; where none is, it has none
-pub is_second : (plan : Plan) (loads : Option Loads) (pass : Option OpenPass) → is_some pass ≡ true → IsOpenPass plan loads pass → IsSome loads
+pub is_second : (plan : Plan) (loads : Option PassLoads) (pass : Option OpenPass) → is_some pass ≡ true → IsOpenPass plan loads pass → IsSome loads
 is_second plan (Some l) pass some is = refl
 is_second plan None (Some p) some is = absurd is
 is_second plan None None some is = absurd (cc)
 
-pub is_none : (plan : Plan) (loads : Option Loads) (pass : Option OpenPass) → is_some pass ≡ false → IsOpenPass plan loads pass → loads ≡ None
+pub is_none : (plan : Plan) (loads : Option PassLoads) (pass : Option OpenPass) → is_some pass ≡ false → IsOpenPass plan loads pass → loads ≡ None
 is_none plan None pass none is = refl
 is_none plan (Some l) (Some p) none is = absurd (cc)
 is_none plan (Some l) None none is = absurd is
 
-pub the_open : (plan : Plan) (loads : Option Loads) (p : OpenPass) → IsOpenPass plan loads (Some p) → (l : Loads) × loads ≡ Some l × IsPassOf plan l p × length l ≢ loads_of plan l
+pub the_open : (plan : Plan) (loads : Option PassLoads) (p : OpenPass) → IsOpenPass plan loads (Some p) → (l : PassLoads) × loads ≡ Some l × IsPassOf plan l p × length l ≢ loads_of plan l
 the_open plan None p is = absurd is
 the_open plan (Some l) p is = (l, refl, is.0, is.1)
 
 -- the last load of a pass closes it
-pub closes : (plan : Plan) (a : Progress) (old : Replaying) (l : Loads) (verdicts : List PassVerdict) (v : PassVerdict) → KeepsProgress plan a old
+pub closes : (plan : Plan) (a : Progress) (old : Replaying) (l : PassLoads) (verdicts : List PassVerdict) (v : PassVerdict) → KeepsProgress plan a old
     → length (l ++ a.run ∷ []) ≡ loads_of plan (l ++ a.run ∷ []) → IsDeadList (statuses_found plan (l ++ a.run ∷ [])) v.dead → verdicts ≡ old.verdicts ++ v ∷ []
     → KeepsProgress plan (loaded plan a (l ++ a.run ∷ [])) (record { world = old.world; pass = None; verdicts = verdicts; steps = old.steps })
 closes plan a old l verdicts v of full dead same =
@@ -156,7 +156,7 @@ closes plan a old l verdicts v of full dead same =
     }
 
 -- another load leaves it open
-pub stays_open : (plan : Plan) (a : Progress) (old : Replaying) (l : Loads) (p : OpenPass) → KeepsProgress plan a old
+pub stays_open : (plan : Plan) (a : Progress) (old : Replaying) (l : PassLoads) (p : OpenPass) → KeepsProgress plan a old
     → length (l ++ a.run ∷ []) ≢ loads_of plan (l ++ a.run ∷ []) → IsPassOf plan (l ++ a.run ∷ []) p
     → KeepsProgress plan (loaded plan a (l ++ a.run ∷ [])) (record { world = old.world; pass = Some p; verdicts = old.verdicts; steps = old.steps })
 stays_open plan a old l p of other is =
@@ -172,7 +172,7 @@ dead_are_if w (Ok dead) are = λ h at. dead_are w h dead at are
 dead_are_if w (Err e) are = tt
 
 -- a line makes one step at most
-run_of_load : (b : Bool) (a : Progress) (loads : Loads) →
+run_of_load : (b : Bool) (a : Progress) (loads : PassLoads) →
     length (if b then record a { open_pass = None; passes = a.passes ++ loads ∷ [] } else record a { open_pass = Some loads }).run ≡ length a.run
 run_of_load true a loads = refl
 run_of_load false a loads = refl

@@ -16,7 +16,7 @@ use Rattle.armus_base.proofs.Tasks.{reached_or_not}
 use Rattle.armus_base.proofs.OwnSteps.{plain_longer}
 use Rattle.schedule.specs.declared.lines.Line.{Line}
 use Rattle.schedule.specs.declared.lines.Line.TheVariants as line
-use Rattle.schedule.specs.Passes.{Loads, loads_of}
+use Rattle.schedule.specs.Passes.{PassLoads, loads_of}
 use Rattle.schedule.specs.Replays.{IsFault, LinesLead, Progress, Takes, at_start, load_without_pass, loaded, no_line, one_more, second_pass, strange_task, stuck_task, unreadable}
 use Rattle.schedule.specs.calls.Laws.{IsMet, LineIsMet, LinesAreMet}
 
@@ -101,18 +101,18 @@ module _ (plan : Plan) (checked : IsCheckedPlan plan) where
       ]
   line_met a line.Pass run = by_pass a.open_pass refl
     where
-      by_pass : (o : Option Loads) → a.open_pass ≡ o → ((b : Progress) × Takes plan a line.Pass b) ⊎ ((kind : ℕ) × IsFault plan a line.Pass kind)
+      by_pass : (o : Option PassLoads) → a.open_pass ≡ o → ((b : Progress) × Takes plan a line.Pass b) ⊎ ((kind : ℕ) × IsFault plan a line.Pass kind)
       by_pass None is = inl (record a { open_pass = Some [] }, (is, refl))
       by_pass (Some loads) is = inr (5, second_pass (rw is refl))
   line_met a line.Load run = by_pass a.open_pass refl
     where
-      by_pass : (o : Option Loads) → a.open_pass ≡ o → ((b : Progress) × Takes plan a line.Load b) ⊎ ((kind : ℕ) × IsFault plan a line.Load kind)
+      by_pass : (o : Option PassLoads) → a.open_pass ≡ o → ((b : Progress) × Takes plan a line.Load b) ⊎ ((kind : ℕ) × IsFault plan a line.Load kind)
       by_pass None is = inr (4, load_without_pass is)
       by_pass (Some loads) is = inl (loaded plan a (loads ++ a.run ∷ []), (loads, is, refl))
   line_met a line.Unreadable run = inr (1, unreadable)
 
   -- a load makes no step
-  run_of : (full : Bool) (a : Progress) (loads : Loads) →
+  run_of : (full : Bool) (a : Progress) (loads : PassLoads) →
       (if full then record a { open_pass = None; passes = a.passes ++ loads ∷ [] } else record a { open_pass = Some loads }).run ≡ a.run
   run_of true a loads = refl
   run_of false a loads = refl

@@ -6,10 +6,10 @@ use Rattle.armus_base.specs.States.{Step}
 use Rattle.armus_base.specs.calls.Runs.{ArePrefixes}
 use Rattle.armus_base.specs.Runs.{IsLegalRun, places}
 use Rattle.armus_base.proofs.Places.{prefixes_itself, prefixes_trans, step_later}
-use Rattle.schedule.specs.Passes.{Loads}
+use Rattle.schedule.specs.Passes.{PassLoads}
 
 -- each load was made after a legal run, at places at or before those of h, and later loads at later places
-pub record AreMoments (plan : Plan) (loads : Loads) (h : List Step) : Type 0 where
+pub record AreMoments (plan : Plan) (loads : PassLoads) (h : List Step) : Type 0 where
   pub legal : (i : ℕ) (g : List Step) → slice_get loads i ≡ Some g → IsLegalRun plan g
   pub before : (i : ℕ) (g : List Step) → slice_get loads i ≡ Some g → ArePrefixes (places g) (places h)
   pub rising : (i j : ℕ) (g f : List Step) → i ≤ j → slice_get loads i ≡ Some g → slice_get loads j ≡ Some f → ArePrefixes (places g) (places f)
@@ -18,7 +18,7 @@ pub no_moments : (plan : Plan) (h : List Step) → AreMoments plan [] h
 no_moments plan h = record { legal = λ i g e. absurd (cc); before = λ i g e. absurd (cc); rising = λ i j g f l e d. absurd (cc) }
 
 -- the last of these is h, or it is one of the others
-last_or : (loads : Loads) (h : List Step) (i : ℕ) (g : List Step) → slice_get (loads ++ h ∷ []) i ≡ Some g →
+last_or : (loads : PassLoads) (h : List Step) (i : ℕ) (g : List Step) → slice_get (loads ++ h ∷ []) i ≡ Some g →
     (slice_get loads i ≡ Some g × i < length loads) ⊎ (g ≡ h × i ≡ length loads)
 last_or [] h zero g e = inr (cc, refl)
 last_or [] h (suc i) g e = absurd (cc)
@@ -27,7 +27,7 @@ last_or (f ∷ loads) h (suc i) g e =
     elim (last_or loads h i g e) [ inl (k, l) ↦ inl (k, omega arith) | inr (same, l) ↦ inr (same, omega arith) ]
 
 -- one more load
-pub more_moments : (plan : Plan) (loads : Loads) (h : List Step) → AreMoments plan loads h → IsLegalRun plan h → AreMoments plan (loads ++ h ∷ []) h
+pub more_moments : (plan : Plan) (loads : PassLoads) (h : List Step) → AreMoments plan loads h → IsLegalRun plan h → AreMoments plan (loads ++ h ∷ []) h
 more_moments plan loads h were run =
     record {
       legal = λ i g e. elim (last_or loads h i g e) [ inl (k, l) ↦ were.legal i g k | inr (same, l) ↦ subst (IsLegalRun plan) (sym same) run ];
@@ -49,7 +49,7 @@ more_moments plan loads h were run =
         ]
 
 -- one more step
-pub moments_stay : (plan : Plan) (loads : Loads) (h : List Step) (d : Step) → AreMoments plan loads h → AreMoments plan loads (d ∷ h)
+pub moments_stay : (plan : Plan) (loads : PassLoads) (h : List Step) (d : Step) → AreMoments plan loads h → AreMoments plan loads (d ∷ h)
 moments_stay plan loads h d were =
     record {
       legal = were.legal;

@@ -7,7 +7,7 @@ use Rattle.armus_base.proofs.Tasks.{action_of_task}
 use Rattle.armus_base.proofs.Lists.{ends_some, same_ends}
 use Rattle.schedule.specs.declared.lines.Line.{Line}
 use Rattle.schedule.specs.declared.lines.Line.TheVariants as line
-use Rattle.schedule.specs.Passes.{Loads}
+use Rattle.schedule.specs.Passes.{PassLoads}
 use Rattle.schedule.specs.Replays.{IsFault, LinesLead, Progress, Takes, at_start, load_without_pass, loaded, no_line, one_more, second_pass, strange_task, stuck_task, unreadable}
 use Rattle.schedule.specs.calls.Laws.{NeverBoth, OneFirstFault, OneProgress}
 
@@ -48,7 +48,7 @@ one_step plan a line.Pass b c (p, is) (q, at) = is ∙ sym at
 one_step plan a line.Load b c (l, p, is) (m, q, at) =
     let both : Some l ≡ Some m = sym p ∙ q in
     let same : l ≡ m = cc in
-    is ∙ ap (λ (z : Loads). loaded plan a (z ++ a.run ∷ [])) same ∙ sym at
+    is ∙ ap (λ (z : PassLoads). loaded plan a (z ++ a.run ∷ [])) same ∙ sym at
 one_step plan a line.Unreadable b c p q = absurd p
 
 -- before its last line
@@ -83,7 +83,7 @@ one_progress plan lines a b p q = go lines a b p q
 
 -- ---- a progress or a fault
 
-some_or_none : (loads : Option Loads) → IsSome loads → loads ≡ None → ⊥
+some_or_none : (loads : Option PassLoads) → IsSome loads → loads ≡ None → ⊥
 some_or_none None some none = absurd (cc)
 some_or_none (Some l) some none = absurd (cc)
 

@@ -25,7 +25,7 @@ use Rattle.armus_base.specs.Places.{made_at, makes}
 use Rattle.armus_base.proofs.ReachedLater.{later_done}
 use Rattle.armus_base.proofs.DeadStays.{dead_stays}
 use Rattle.armus_base.proofs.CollectedIsDead.{collected_is_dead}
-use Rattle.schedule.specs.Passes.{Loads, event_after, phase_after, event_found, is_found_awaited, waiting_below, awaited_below, phase_load, phases_found, loads_of, state_found, statuses_found}
+use Rattle.schedule.specs.Passes.{PassLoads, event_after, phase_after, event_found, is_found_awaited, waiting_below, awaited_below, phase_load, phases_found, loads_of, state_found, statuses_found}
 use Rattle.std.specs.Prelude.{◌==◌, if◌then◌else◌}
 use Rattle.std.proofs.Common.{false, eqb-true}
 use Rattle.armus_base.specs.Plans.{Action, Aim, Refuses}
@@ -83,7 +83,7 @@ module _ (plan : Plan) (checked : IsCheckedPlan plan) where
       made_within plan checked (places h) e.p.0 (ap (λ s. s.made e.p.0) (sym (places_fix plan checked h run).0) ∙ member_made plan h run t e.p.0 n member)
 
   -- a pass with all its loads
-  module _ (loads : Loads) (now : List Step) (moments : AreMoments plan loads now) (full : length loads ≡ loads_of plan loads) where
+  module _ (loads : PassLoads) (now : List Step) (moments : AreMoments plan loads now) (full : length loads ≡ loads_of plan loads) where
     tasks : ℕ
     tasks = length plan.parents
 
@@ -246,14 +246,14 @@ module _ (plan : Plan) (checked : IsCheckedPlan plan) where
   -- what holds of each progress: its run is legal, the loads of its open pass are moments of it, and its closed passes name the dead
   record IsKept (a : Progress) : Type 0 where
     run : IsPlainRun plan a.run
-    opened : (loads : Loads) → a.open_pass ≡ Some loads → AreMoments plan loads a.run
-    closed : (loads : Loads) → Contains a.passes loads → NamesTheDead plan loads
+    opened : (loads : PassLoads) → a.open_pass ≡ Some loads → AreMoments plan loads a.run
+    closed : (loads : PassLoads) → Contains a.passes loads → NamesTheDead plan loads
 
   at_start_kept : IsKept at_start
   at_start_kept = record { run = (tt, tt); opened = λ loads e. absurd (cc); closed = λ loads c. absurd (nothing_in_nil loads c) }
 
   -- one more load
-  loaded_kept : (a : Progress) → IsKept a → (loads : Loads) → AreMoments plan loads a.run → (b : Bool) → (length loads == loads_of plan loads) ≡ b
+  loaded_kept : (a : Progress) → IsKept a → (loads : PassLoads) → AreMoments plan loads a.run → (b : Bool) → (length loads == loads_of plan loads) ≡ b
       → IsKept (if b then record a { open_pass = None; passes = a.passes ++ loads ∷ [] } else record a { open_pass = Some loads })
   loaded_kept a kept loads moments true full =
       record {

@@ -9,7 +9,7 @@ use Rattle.armus_base.specs.calls.CheckedPlans.{Extends}
 use Rattle.armus_base.specs.Finals.{given_below, listed_phase}
 use Rattle.armus_base.specs.Plans.{Plan}
 use Rattle.schedule.specs.declared.pass.OpenPass.{OpenPass}
-use Rattle.schedule.specs.Passes.{Loads, event_found, is_found_awaited, waiting_below, awaited_below, phases_found, loads_of, statuses_found}
+use Rattle.schedule.specs.Passes.{PassLoads, event_found, is_found_awaited, waiting_below, awaited_below, phases_found, loads_of, statuses_found}
 use Rattle.schedule.specs.inside.OpenPasses.{IsPassOf, waiting_found, awaited_phaser, status_with}
 use Rattle.schedule.proofs.Counts.{cell_within, count_same}
 use Rattle.schedule.proofs.Rows.{length_given, map_given}
@@ -27,14 +27,14 @@ some_if true p = refl
 some_if false p = refl
 
 -- how many rows and columns there are
-pub rows_are : (plan : Plan) (loads : Loads) (pass : OpenPass) → IsPassOf plan loads pass → pass.loaded ≡ length plan.parents
+pub rows_are : (plan : Plan) (loads : PassLoads) (pass : OpenPass) → IsPassOf plan loads pass → pass.loaded ≡ length plan.parents
     → length pass.waiting.items ≡ waiting_below loads (length plan.parents)
 rows_are plan loads pass of all =
     ap length (of.awaits.waiting loads (itself loads) ∙ ap (given_below (waiting_found loads)) all)
     ∙ length_given (waiting_found loads) (length plan.parents)
     ∙ count_same (λ k. is_some (waiting_found loads k)) (λ u. is_some (event_found loads u)) (length plan.parents) (λ k. some_map _ (event_found loads k))
 
-pub columns_are : (plan : Plan) (loads : Loads) (pass : OpenPass) → IsPassOf plan loads pass → pass.loaded ≡ length plan.parents
+pub columns_are : (plan : Plan) (loads : PassLoads) (pass : OpenPass) → IsPassOf plan loads pass → pass.loaded ≡ length plan.parents
     → length pass.awaited.items ≡ awaited_below plan loads (length plan.makers)
 columns_are plan loads pass of all =
     ap length (of.awaits.awaited loads (itself loads) all)
@@ -45,7 +45,7 @@ min_all : (a b : ℕ) → b ≤ a → min a b ≡ b
 min_all a b l = omega arith
 
 -- a full pass has all its loads, and one that has all its loads is full
-pub full_is : (plan : Plan) (loads : Loads) (pass : OpenPass) → IsPassOf plan loads pass → pass.loaded ≡ length plan.parents → pass.row ≡ length pass.waiting.items
+pub full_is : (plan : Plan) (loads : PassLoads) (pass : OpenPass) → IsPassOf plan loads pass → pass.loaded ≡ length plan.parents → pass.row ≡ length pass.waiting.items
     → length loads ≡ loads_of plan loads
 full_is plan loads pass of all rows =
     let place = of.phases.place all in
@@ -59,12 +59,12 @@ full_is plan loads pass of all rows =
     add_nothing : (n : ℕ) → n + 0 ≡ n
     add_nothing n = omega arith
 
-pub full_loaded : (plan : Plan) (loads : Loads) (pass : OpenPass) → IsPassOf plan loads pass → length loads ≡ loads_of plan loads → pass.loaded ≡ length plan.parents
+pub full_loaded : (plan : Plan) (loads : PassLoads) (pass : OpenPass) → IsPassOf plan loads pass → length loads ≡ loads_of plan loads → pass.loaded ≡ length plan.parents
 full_loaded plan loads pass of full =
     of.awaits.loaded ∙ min_all (length loads) (length plan.parents) (omega arith)
 
 -- where a row is left, so are loads
-row_left : (plan : Plan) (loads : Loads) (pass : OpenPass) → IsPassOf plan loads pass → pass.loaded ≡ length plan.parents →
+row_left : (plan : Plan) (loads : PassLoads) (pass : OpenPass) → IsPassOf plan loads pass → pass.loaded ≡ length plan.parents →
     pass.row < length pass.waiting.items → length loads < loads_of plan loads
 row_left plan loads pass of all less =
     let place = of.phases.place all in
@@ -76,7 +76,7 @@ row_left plan loads pass of all less =
     let cells = place.cells in
     omega arith
 
-pub full_rows : (plan : Plan) (loads : Loads) (pass : OpenPass) → IsPassOf plan loads pass → length loads ≡ loads_of plan loads →
+pub full_rows : (plan : Plan) (loads : PassLoads) (pass : OpenPass) → IsPassOf plan loads pass → length loads ≡ loads_of plan loads →
     pass.row ≡ length pass.waiting.items
 full_rows plan loads pass of full =
     let all = full_loaded plan loads pass of full in
@@ -86,7 +86,7 @@ full_rows plan loads pass of full =
     ]
 
 -- a pass that is not full has loads left
-pub loads_left : (plan : Plan) (loads : Loads) (pass : OpenPass) → IsPassOf plan loads pass → pass.loaded ≡ length plan.parents →
+pub loads_left : (plan : Plan) (loads : PassLoads) (pass : OpenPass) → IsPassOf plan loads pass → pass.loaded ≡ length plan.parents →
     length loads ≢ loads_of plan loads → length loads < loads_of plan loads
 loads_left plan loads pass of all other =
     elim (cases_lt pass.row (length pass.waiting.items)) [
@@ -95,7 +95,7 @@ loads_left plan loads pass of all other =
     ]
 
 -- the statuses of a full pass are those that it found
-pub statuses_are_found : (plan : Plan) (loads : Loads) (pass : OpenPass) → IsPassOf plan loads pass → length loads ≡ loads_of plan loads → pass.statuses ≡ statuses_found plan loads
+pub statuses_are_found : (plan : Plan) (loads : PassLoads) (pass : OpenPass) → IsPassOf plan loads pass → length loads ≡ loads_of plan loads → pass.statuses ≡ statuses_found plan loads
 statuses_are_found plan loads pass of full =
     let all = full_loaded plan loads pass of full in
     let rows = full_rows plan loads pass of full in

@@ -15,7 +15,7 @@ use Rattle.armus_base.specs.Runs.{state_after}
 use Rattle.armus_base.specs.States.{Step}
 use Rattle.schedule.specs.declared.pass.OpenPass.{OpenPass}
 use Rattle.schedule.specs.declared.pass.FoundWaiting.{FoundWaiting}
-use Rattle.schedule.specs.Passes.{Loads, event_found, is_found_awaited, waiting_below, awaited_below, phase_after, phase_load, phases_found}
+use Rattle.schedule.specs.Passes.{PassLoads, event_found, is_found_awaited, waiting_below, awaited_below, phase_after, phase_load, phases_found}
 use Rattle.schedule.specs.inside.OpenPasses.{IsPassOf, IsMidPass, HasPlace, KeepsPhase, EndsRow, waiting_found, awaited_phaser, member_found, row_found, status_with}
 use Rattle.schedule.proofs.Awaiting.{extends_less, has_next}
 use Rattle.schedule.proofs.Counts.{count_same}
@@ -88,7 +88,7 @@ module _ (plan : Plan) (pass : OpenPass) (mid : IsMidPass plan pass) where
       subst (λ k. k < length plan.makers) (number_of_marked q (is_found_awaited plan mid.loads q) p gives) l
 
 -- the next load finds the phase of the row's task on the column's phaser
-module _ (plan : Plan) (pass : OpenPass) (mid : IsMidPass plan pass) (loads : Loads) (h : List Step) (of : IsPassOf plan loads pass) (w : FoundWaiting)
+module _ (plan : Plan) (pass : OpenPass) (mid : IsMidPass plan pass) (loads : PassLoads) (h : List Step) (of : IsPassOf plan loads pass) (w : FoundWaiting)
     (here : w ≡ get_or pass.waiting.items pass.row w) (p : PhaserId) (there : p ≡ get_or pass.awaited.items pass.column p) where
   in_row : slice_get pass.waiting.items pass.row ≡ Some w
   in_row = at_row plan pass mid w here
@@ -102,7 +102,7 @@ module _ (plan : Plan) (pass : OpenPass) (mid : IsMidPass plan pass) (loads : Lo
   enough : length plan.parents ≤ length loads
   enough = (let l = of.awaits.loaded in omega arith)
 
-  module _ (all : Loads) (ext : Extends all (loads ++ h ∷ [])) where
+  module _ (all : PassLoads) (ext : Extends all (loads ++ h ∷ [])) where
     before : Extends all loads
     before = extends_less all loads h ext
 
@@ -253,6 +253,6 @@ module _ (plan : Plan) (pass : OpenPass) (mid : IsMidPass plan pass) (loads : Lo
       whole : pass.column + 1 ≡ length pass.awaited.items
       whole = sym kept.column ∙ last ∙ ap length kept.awaited
 
-      nothing_found : (all : Loads) (o : Option FoundWaiting) → row_found plan all o [] ≡ []
+      nothing_found : (all : PassLoads) (o : Option FoundWaiting) → row_found plan all o [] ≡ []
       nothing_found all None = refl
       nothing_found all (Some v) = refl

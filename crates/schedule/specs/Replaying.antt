@@ -9,13 +9,13 @@ use Rattle.armus_base.specs.States.{State}
 use Rattle.schedule.specs.declared.lines.Line.{Line}
 use Rattle.schedule.specs.declared.verdict.PassVerdict.{PassVerdict}
 use Rattle.schedule.specs.declared.verdict.Replayed.{Replayed}
-use Rattle.schedule.specs.Passes.{Loads, statuses_found}
+use Rattle.schedule.specs.Passes.{PassLoads, statuses_found}
 use Rattle.schedule.specs.Replays.{Progress, LinesLead}
 
 -- each verdict names the tasks that are dead by the statuses that its pass found
-pub data AreVerdicts (plan : Plan) : List Loads → List PassVerdict → Type 0 where
+pub data AreVerdicts (plan : Plan) : List PassLoads → List PassVerdict → Type 0 where
   no_pass : AreVerdicts plan [] []
-  one_pass : (passes : List Loads) (verdicts : List PassVerdict) (loads : Loads) (v : PassVerdict) → AreVerdicts plan passes verdicts
+  one_pass : (passes : List PassLoads) (verdicts : List PassVerdict) (loads : PassLoads) (v : PassVerdict) → AreVerdicts plan passes verdicts
       → IsDeadList (statuses_found plan loads) v.dead → AreVerdicts plan (passes ++ loads ∷ []) (verdicts ++ v ∷ [])
 
 -- these are the tasks that are dead in the state, in order of number, each once

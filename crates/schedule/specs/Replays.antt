@@ -5,20 +5,20 @@ use Rattle.armus_base.specs.States.{Step}
 use Rattle.armus_base.specs.Runs.{IsOwnNextStep}
 use Rattle.schedule.specs.declared.lines.Line.{Line}
 use Rattle.schedule.specs.declared.lines.Line.TheVariants as line
-use Rattle.schedule.specs.Passes.{Loads, loads_of}
+use Rattle.schedule.specs.Passes.{PassLoads, loads_of}
 
 -- how far a schedule has come: the plain run, the last step first; the open pass, if one is; and the closed passes, in order
 pub record Progress : Type 0 where
   pub run : List Step
-  pub open_pass : Option Loads
-  pub passes : List Loads
+  pub open_pass : Option PassLoads
+  pub passes : List PassLoads
 
 -- no line yet
 abbrev pub at_start : Progress
 at_start = record { run = []; open_pass = None; passes = [] }
 
 -- one more load of the open pass; its last load closes it
-abbrev pub loaded : Plan → Progress → Loads → Progress
+abbrev pub loaded : Plan → Progress → PassLoads → Progress
 loaded plan a loads =
     if length loads == loads_of plan loads then record a { open_pass = None; passes = a.passes ++ loads ∷ [] } else record a { open_pass = Some loads }
 
@@ -26,7 +26,7 @@ loaded plan a loads =
 abbrev pub Takes : Plan → Progress → Line → Progress → Type 0
 Takes plan a (line.Step t) b = (x : Action) × IsOwnNextStep plan a.run t x × b ≡ record a { run = record { task = t; action = x } ∷ a.run }
 Takes plan a line.Pass b = a.open_pass ≡ None × b ≡ record a { open_pass = Some [] }
-Takes plan a line.Load b = (loads : Loads) × a.open_pass ≡ Some loads × b ≡ loaded plan a (loads ++ a.run ∷ [])
+Takes plan a line.Load b = (loads : PassLoads) × a.open_pass ≡ Some loads × b ≡ loaded plan a (loads ++ a.run ∷ [])
 Takes plan a line.Unreadable b = ⊥
 
 -- these lines, each at no fault, lead to this progress

@@ -2,7 +2,7 @@
 ghost use Rattle.std.specs.Prelude.{◌≡◌, ◌<◌, ◌≤◌, ◌+◌, ◌^◌, ◌++◌, [], ◌∷◌, List as Seq, Some, length, IfOk, OnOk, IsTrue, ◌↔◌, slice_get};
 ghost use Rattle.armus_base.specs.Finals.{given_below};
 ghost use Rattle.armus_base.specs.States.{Step};
-ghost use Rattle.schedule.specs.Passes.{Loads, loads_of, statuses_found};
+ghost use Rattle.schedule.specs.Passes.{PassLoads, loads_of, statuses_found};
 ghost use Rattle.schedule.specs.inside.OpenPasses.{EndsRow, IsMidPass, IsPassOf, KeepsEvent, KeepsPhase, marked_phaser, phaser_of};
 ghost use Rattle.armus_base.specs.CheckedPlans.{IsCheckedPlan};
 ghost use Rattle.armus_base.specs.Plans.{Plan as PlanValue};
@@ -98,7 +98,7 @@ impl OpenPass {
 
     /// Whether all its cells are loaded.
     pub(crate) fn is_full(&self, tasks: u32) -> bool
-        ensures full { (plan : PlanValue) (loads : Loads) → tasks ≡ length plan.parents → IsPassOf plan loads self.now → IsTrue result ↔ (length loads ≡ loads_of plan loads) }
+        ensures full { (plan : PlanValue) (loads : PassLoads) → tasks ≡ length plan.parents → IsPassOf plan loads self.now → IsTrue result ↔ (length loads ≡ loads_of plan loads) }
     {
         self.loaded == tasks && self.row == self.waiting.len()
     }
@@ -116,7 +116,7 @@ impl OpenPass {
         Ok(())
     }
 
-    /// Loads the next await cell.
+    /// PassLoads the next await cell.
     pub(crate) fn load_await(
         &mut self,
         alloc: Global,
@@ -125,7 +125,7 @@ impl OpenPass {
     ) -> Result<(), NoMemory>
         requires plan { plan.now ≡ world.now.plan }
         requires next { self.old.loaded < length plan.now.parents }
-        ensures loaded { OnOk result ((loads : Loads) (h : Seq Step) → IsAt world.now h → IsPassOf plan.now loads self.old → IsPassOf plan.now (loads ++ h ∷ []) self.new) }
+        ensures loaded { OnOk result ((loads : PassLoads) (h : Seq Step) → IsAt world.now h → IsPassOf plan.now loads self.old → IsPassOf plan.now (loads ++ h ∷ []) self.new) }
     {
         let tasks = plan.tasks();
         let found = published(world, TaskId(self.loaded));
@@ -164,10 +164,10 @@ impl OpenPass {
         Ok(())
     }
 
-    /// Loads the next phase cell.
+    /// PassLoads the next phase cell.
     pub(crate) fn load_phase(&mut self, alloc: Global, world: &World<'_>) -> Result<(), NoMemory>
         requires open { IsMidPass world.now.plan self.old }
-        ensures loaded { OnOk result ((loads : Loads) (h : Seq Step) → IsAt world.now h → IsPassOf world.now.plan loads self.old → IsPassOf world.now.plan (loads ++ h ∷ []) self.new) }
+        ensures loaded { OnOk result ((loads : PassLoads) (h : Seq Step) → IsAt world.now h → IsPassOf world.now.plan loads self.old → IsPassOf world.now.plan (loads ++ h ∷ []) self.new) }
     {
         let waiting = self.waiting[self.row];
         let p = self.awaited[self.column];
@@ -181,7 +181,7 @@ impl OpenPass {
 
     /// The statuses that it has found, once it is full.
     pub(crate) fn into_statuses(self) -> List<Status>
-        ensures found { (plan : PlanValue) (loads : Loads) → IsPassOf plan loads self → length loads ≡ loads_of plan loads → result ≡ statuses_found plan loads }
+        ensures found { (plan : PlanValue) (loads : PassLoads) → IsPassOf plan loads self → length loads ≡ loads_of plan loads → result ≡ statuses_found plan loads }
     {
         self.statuses
     }

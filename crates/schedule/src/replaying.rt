@@ -7,7 +7,7 @@ ghost use Rattle.armus_base.specs.States.{Step};
 ghost use Rattle.armus_base.specs.calls.Statuses.{IsInOrder};
 ghost use Rattle.schedule.specs.inside.Following.{IsAt};
 ghost use Rattle.schedule.specs.inside.OpenPasses.{IsPassOf};
-ghost use Rattle.schedule.specs.Passes.{Loads, loads_of};
+ghost use Rattle.schedule.specs.Passes.{PassLoads, loads_of};
 ghost use Rattle.schedule.specs.Replays.{Progress, at_start};
 ghost use Rattle.schedule.specs.Replaying.{AreDeadIn};
 ghost use Rattle.schedule.specs.calls.Replaying.{Replays};
@@ -59,7 +59,7 @@ fn load_next(
 ) -> Result<(), NoMemory>
     requires plan { plan.now ≡ world.now.plan }
     requires open { HasOpenPass plan.now pass.old }
-    ensures loaded { OnOk result ((loads : Loads) (h : Seq Step) → IsAt world.now h → IsPassOf plan.now loads pass.old → IsPassOf plan.now (loads ++ h ∷ []) pass.new) }
+    ensures loaded { OnOk result ((loads : PassLoads) (h : Seq Step) → IsAt world.now h → IsPassOf plan.now loads pass.old → IsPassOf plan.now (loads ++ h ∷ []) pass.new) }
 {
     if pass.loaded < plan.tasks() {
         pass.load_await(alloc, world, plan)

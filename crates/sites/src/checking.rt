@@ -8,7 +8,7 @@ ghost use Rattle.sites.specs.inside.Gathering.{AreGathered, EndsAtSite, TakesRow
 ghost use Rattle.sites.specs.declared.ends.DecodeEnd.TheVariants as decode_ends;
 
 use crate::decoding::decode;
-use crate::keeper::Keeps;
+use crate::keeper::KeepsRows;
 use crate::{DecodeEnd, KeepEnd, Keeper, SiteEnd};
 use adaptive::{Analysis, Wanted, analyse};
 use armus_base::{List, MAX_SITES, NoMemory, Status};
@@ -40,7 +40,7 @@ fn take_row(
 }
 
 // Appends the statuses that a site stores.
-fn take_site<K: Keeps>(
+fn take_site<K: KeepsRows>(
     alloc: Global,
     keeper: &mut K,
     site: u32,
@@ -69,7 +69,7 @@ fn take_site<K: Keeps>(
 }
 
 // The statuses that the sites store, site after site.
-fn gather<K: Keeps>(alloc: Global, keeper: &mut K, sites: u32) -> Result<Vec<Status>, SiteEnd>
+fn gather<K: KeepsRows>(alloc: Global, keeper: &mut K, sites: u32) -> Result<Vec<Status>, SiteEnd>
     requires some { 1 ≤ sites }
     requires few { sites ≤ MAX_SITES }
     requires kept { length (K.kept keeper.old) ≡ sites }
@@ -116,7 +116,7 @@ pub fn check_sites<K: Keeper>(
 }
 
 /// The same, wherever the rows are kept.
-pub(crate) fn check_rows<K: Keeps>(
+pub(crate) fn check_rows<K: KeepsRows>(
     alloc: Global,
     keeper: &mut K,
     sites: u32,

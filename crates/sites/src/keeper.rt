@@ -31,8 +31,8 @@ pub trait Keeper: Send {
         ensures count { faults self.new ≡ count_after result (faults self.old) };
 }
 
-/// Where rows are kept: each keeper. A method of a trait may not call a function over `Keeper`, which may be sent to a thread; it may call one over `Keeps`.
-pub trait Keeps {
+/// Where rows are kept: each keeper. A method of a trait may not call a function over `Keeper`, which may be sent to a thread; it may call one over `KeepsRows`.
+pub trait KeepsRows {
     ghost use Rattle.std.specs.Prelude.{List as Seq, ℕ};
     ghost use Rattle.std.specs.declared.option.Option.{Option};
 
@@ -58,7 +58,7 @@ pub trait Keeps {
         ensures count { failures self.new ≡ count_after result (failures self.old) };
 }
 
-impl<K: Keeper> Keeps for K {
+impl<K: Keeper> KeepsRows for K {
     ghost kept = { K.rows };
 
     ghost failures = { K.faults };

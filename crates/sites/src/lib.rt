@@ -20,7 +20,7 @@ pub use checking::check_sites;
 pub use decoding::decode;
 pub use encoding::encode;
 pub use ends::{DecodeEnd, KeepEnd, SiteEnd};
-pub use keeper::{Keeper, Keeps};
+pub use keeper::{Keeper, KeepsRows};
 pub use laws::{
     backed_rows_name_the_dead, each_moment_is_lawful, one_list, viewers_have_one_state,
 };

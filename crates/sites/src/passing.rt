@@ -8,7 +8,7 @@ ghost use Rattle.sites.specs.inside.Passing.{HaveSnapped, PutsSnap};
 
 use crate::checking::check_rows;
 use crate::encoding::encode;
-use crate::keeper::Keeps;
+use crate::keeper::KeepsRows;
 use crate::snapping::snap;
 use crate::{KeepEnd, Keeper, SiteEnd, Snapshot};
 use adaptive::{Analysis, Wanted};
@@ -51,7 +51,7 @@ impl Snaps for ViewSeat {
 }
 
 // A snap of a site, put as its row.
-fn snap_site<V: Snaps, K: Keeps>(
+fn snap_site<V: Snaps, K: KeepsRows>(
     alloc: Global,
     view: &mut V,
     board: &Board,
@@ -75,7 +75,7 @@ fn snap_site<V: Snaps, K: Keeps>(
 }
 
 // A snap of each site, in order.
-fn snap_sites<V: Snaps, K: Keeps>(
+fn snap_sites<V: Snaps, K: KeepsRows>(
     alloc: Global,
     views: &mut [V],
     board: &Board,
@@ -120,7 +120,7 @@ pub fn site_pass<K: Keeper>(
 }
 
 /// The same, wherever the rows are kept.
-pub fn pass_over<K: Keeps>(
+pub fn pass_over<K: KeepsRows>(
     alloc: Global,
     views: &mut [ViewSeat],
     board: &Board,

@@ -11,7 +11,7 @@ use Rattle.slot_pool.specs.declared.setting.PoolSetting.{PoolSetting}
 use Rattle.slot_pool.specs.declared.view.PoolView.{PoolView}
 use Rattle.slot_pool.specs.calls.Views.{claiming, finding, placing, trying}
 use Rattle.slot_pool.specs.inside.Rule.{IsHad, IsPlacedIn, PoolHolds, StandsInPool, at_home, nowhere, out}
-use Rattle.slot_pool.specs.calls.Steps.{Begun, Claimed}
+use Rattle.slot_pool.specs.calls.Steps.{HasBegun, Claimed}
 use Rattle.slot_pool.proofs.Members.{Grows, contains_first, contains_none, grown_else, grown_still}
 use Rattle.slot_pool.proofs.Changing.{Renews, changed, found_within, looked, placed_renewed}
 
@@ -107,7 +107,7 @@ module _ {R : Type 0} (number_of : R → ℕ) (key : PoolSetting) where
     claim_told = Claimed number_of (step slots t 1 (k + 2) none) me
 
     abbrev begin_told : ℕ → Me (Option R) PoolView → Type 0
-    begin_told = Begun (step slots t 0 (k + 2) none) me
+    begin_told = HasBegun (step slots t 0 (k + 2) none) me
 
     pub claims : Allows (PoolHolds number_of key) slots id me t (λ n. either (eqb n 1) (k + 2) n) (Claimed number_of (step slots t 1 (k + 2) none) me)
     claims s holds long at fits = by_place (holds.tasks t small)
@@ -144,7 +144,7 @@ module _ {R : Type 0} (number_of : R → ℕ) (key : PoolSetting) where
               held = λ one none_there. (j, word, other.0, other.1, refl);
             }))
 
-    pub begins : Allows (PoolHolds number_of key) slots id me t (λ n. either (eqb n 0) (k + 2) n) (Begun (step slots t 0 (k + 2) none) me)
+    pub begins : Allows (PoolHolds number_of key) slots id me t (λ n. either (eqb n 0) (k + 2) n) (HasBegun (step slots t 0 (k + 2) none) me)
     begins s holds long at fits = by_place (holds.tasks t small)
       where
         missing : slice_index s.words t ≢ 0 → Owes s (slice_index s.words t) (either (eqb (slice_index s.words t) 0) (k + 2) (slice_index s.words t)) begin_told

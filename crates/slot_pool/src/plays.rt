@@ -16,18 +16,18 @@ impl<R: Named> Play<Option<R>, PoolView> for Claims<R> {
 }
 
 /// The beginning of a place.
-pub(crate) struct Begins;
+pub(crate) struct BeginsStep;
 
-impl<R> Play<Option<R>, PoolView> for Begins {
-    ghost use Rattle.slot_pool.specs.calls.Steps.{Begun};
+impl<R> Play<Option<R>, PoolView> for BeginsStep {
+    ghost use Rattle.slot_pool.specs.calls.Steps.{HasBegun};
 
-    ghost then = { Begun };
+    ghost then = { HasBegun };
 }
 
 /// A record is home.
-pub(crate) struct Gives;
+pub(crate) struct GivesStep;
 
-impl<R> Play<Option<R>, PoolView> for Gives {
+impl<R> Play<Option<R>, PoolView> for GivesStep {
     ghost use Rattle.slot_pool.specs.calls.Steps.{GivenBack};
 
     ghost then = { GivenBack };

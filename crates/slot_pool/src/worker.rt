@@ -7,7 +7,7 @@ ghost use Rattle.slot_pool.specs.inside.Workers.{HasRoom, IsAtWork, hand_of};
 
 use crate::claim::Claim;
 use crate::named::Named;
-use crate::plays::{Begins, Claims, Gives};
+use crate::plays::{BeginsStep, Claims, GivesStep};
 use crate::pool::Pool;
 use crate::rule::PoolSeat;
 use armus_base::TaskId;
@@ -117,7 +117,7 @@ impl<R: Named> Worker<R> {
         let found = pool
             .slots
             .shared
-            .compare_exchange::<Begins>(&mut self.place, slot, 0, mine);
+            .compare_exchange::<BeginsStep>(&mut self.place, slot, 0, mine);
         if found != 0 {
             return Err(item);
         }
@@ -135,6 +135,6 @@ impl<R: Named> Worker<R> {
         let shared = &pool.slots.shared;
         let before = shared.exchange(&mut self.place, slot, Some(item));
         let None = before else { unreachable!() };
-        shared.store::<Gives>(&mut self.place, slot, 1);
+        shared.store::<GivesStep>(&mut self.place, slot, 1);
     }
 }

@@ -8,12 +8,12 @@ use Rattle.pl_syntax.specs.calls.Bodies.{followed_by, tree_of}
 use Rattle.pl_plan.specs.Unfolding.{a_turn, visit, visits_of}
 use Rattle.source_map.specs.Origins.{statements_where}
 use Rattle.source_map.specs.inside.Tables.{makes_it}
-use Rattle.source_map.specs.declared.making.Made.{Made}
-use Rattle.source_map.specs.declared.making.Made.TheVariants.{APhaser, ATask}
+use Rattle.source_map.specs.declared.making.MadeKind.{MadeKind}
+use Rattle.source_map.specs.declared.making.MadeKind.TheVariants.{APhaser, ATask}
 use Rattle.source_map.proofs.Statements.{IsAt, at_next, at_start, at_within, visits_next, where_append, where_turns}
 
 -- no turn makes anything of its own
-pub no_turn_makes : (made : Made) → makes_it made a_turn ≡ false
+pub no_turn_makes : (made : MadeKind) → makes_it made a_turn ≡ false
 no_turn_makes APhaser = refl
 no_turn_makes ATask = refl
 
@@ -23,7 +23,7 @@ times_more : (k : ℕ) (xs : List ℕ) → times k xs ++ xs ≡ xs ++ times k xs
 times_more zero xs = sym (append-nil xs)
 times_more (suc k) xs = append_assoc xs (times k xs) xs ∙ ap (λ ys. xs ++ ys) (times_more k xs)
 
-module _ (made : Made) (body : Tree) (n k at : ℕ) (old : List ℕ) where
+module _ (made : MadeKind) (body : Tree) (n k at : ℕ) (old : List ℕ) where
   pub turn_next : (i : ℕ) (out next : List ℕ) → out ≡ old ++ times i (statements_where (makes_it made) (visits_of n body)) →
       next ≡ out ++ statements_where (makes_it made) (visits_of n body) → next ≡ old ++ times (i + 1) (statements_where (makes_it made) (visits_of n body))
   turn_next i out next so pushed =
@@ -39,15 +39,15 @@ module _ (made : Made) (body : Tree) (n k at : ℕ) (old : List ℕ) where
 
 -- ---- statements one after the other
 
-abbrev made_from : Made → ℕ → Tree → List ℕ
+abbrev made_from : MadeKind → ℕ → Tree → List ℕ
 made_from made n tree = statements_where (makes_it made) (visits_of n tree)
 
 -- what was pushed, and what the statements from the j-th on make, is what the body makes
-pub record PushedSoFar (made : Made) (items : List Stmt) (j : ℕ) (body : Tree) (n at : ℕ) (old out : List ℕ) : Type 0 where
+pub record PushedSoFar (made : MadeKind) (items : List Stmt) (j : ℕ) (body : Tree) (n at : ℕ) (old out : List ℕ) : Type 0 where
   pub numbers : IsAt items j body n at
   pub so_far : out ++ statements_where (makes_it made) (visits_of at (tree_of (drop j items))) ≡ old ++ statements_where (makes_it made) (visits_of n body)
 
-module _ (made : Made) where
+module _ (made : MadeKind) where
   pub pushed_start : (items : List Stmt) (body : Tree) (n : ℕ) (old : List ℕ) → tree_of items ≡ body → PushedSoFar made items 0 body n n old old
   pushed_start items body n old e = record { numbers = at_start items body n e; so_far = ap (λ b. old ++ made_from made n b) e }
 

@@ -11,7 +11,7 @@ ghost use Rattle.source_map.specs.Turns.{op_turns};
 ghost use Rattle.source_map.specs.inside.Tables.{coming_of, kept_comings, makes_it, visits_by_fork};
 
 use crate::bodies::{body_at, last_of_body, statement_at};
-use crate::making::{Made, push_of_body};
+use crate::making::{MadeKind, push_of_body};
 use crate::seeking::{Sought, seek_in_body};
 use crate::table::statements_of;
 use crate::turns::{LoopTurn, put_turns};
@@ -50,7 +50,7 @@ impl<'p> Model for Origins<'p> {
 
 // Those of the visits of a task with this fork that make such a thing.
 fn push_of_task(
-    made: Made,
+    made: MadeKind,
     program: &Program,
     statements: &[&Stmt],
     fork: Option<u32>,
@@ -72,7 +72,7 @@ fn push_of_task(
 // Those of all tasks.
 fn made_by_all(
     alloc: Global,
-    made: Made,
+    made: MadeKind,
     program: &Program,
     statements: &[&Stmt],
     forks: &[Option<u32>],
@@ -101,8 +101,8 @@ impl<'p> Origins<'p> {
         ensures { IfOk result (λ o. AreOrigins program.now o) }
     {
         let statements = statements_of(alloc, &program.body)?;
-        let phasers = made_by_all(alloc, Made::APhaser, program, &statements, &forks)?;
-        let tasks = made_by_all(alloc, Made::ATask, program, &statements, &forks)?;
+        let phasers = made_by_all(alloc, MadeKind::APhaser, program, &statements, &forks)?;
+        let tasks = made_by_all(alloc, MadeKind::ATask, program, &statements, &forks)?;
         Ok(Origins {
             statements,
             forks,

@@ -14,7 +14,7 @@ use pl_syntax::{Body, Stmt};
 
 // What is made.
 #[derive(Clone, Copy)]
-pub(crate) enum Made {
+pub(crate) enum MadeKind {
     APhaser,
     ATask,
 }
@@ -22,7 +22,7 @@ pub(crate) enum Made {
 // Those of the turns of a loop of which the body's first statement has number n.
 #[cycle(push)]
 fn push_of_turns(
-    made: Made,
+    made: MadeKind,
     k: u16,
     body: &Body,
     n: u32,
@@ -39,16 +39,21 @@ fn push_of_turns(
 
 // Those of a statement with number n.
 #[cycle(push)]
-fn push_of_statement(made: Made, stmt: &Stmt, n: u32, out: &mut Vec<u32>) -> Result<(), NoMemory>
+fn push_of_statement(
+    made: MadeKind,
+    stmt: &Stmt,
+    n: u32,
+    out: &mut Vec<u32>,
+) -> Result<(), NoMemory>
     requires { n + count (followed_by stmt.now done) < 2 ^ 32 }
     ensures { OnOk result (out.new.items ≡ out.old.items ++ statements_where (makes_it made) (visits_of n (followed_by stmt.now done))) }
 {
     match (made, stmt) {
-        (Made::APhaser, Stmt::NewPhaser { x: _ }) => {
+        (MadeKind::APhaser, Stmt::NewPhaser { x: _ }) => {
             out.push(n)?;
             Ok(())
         }
-        (Made::ATask, Stmt::NewTask { x: _ }) => {
+        (MadeKind::ATask, Stmt::NewTask { x: _ }) => {
             out.push(n)?;
             Ok(())
         }
@@ -60,7 +65,7 @@ fn push_of_statement(made: Made, stmt: &Stmt, n: u32, out: &mut Vec<u32>) -> Res
 // Those of a body of which the first statement has number n.
 #[cycle(push)]
 pub(crate) fn push_of_body(
-    made: Made,
+    made: MadeKind,
     body: &Body,
     n: u32,
     out: &mut Vec<u32>,

@@ -19,7 +19,7 @@ use Rattle.board.specs.calls.Words.{IsShown}
 use Rattle.board.proofs.Seated.{event_here}
 use Rattle.phase_scan.specs.calls.Looks.{LoadsAlone}
 use Rattle.board_runs.specs.calls.Turns.{EndsTurn, EndsTurnWithin, StandsAtAwait, Working, is_behind, is_done, is_locked_out, is_refused, standing_of}
-use Rattle.board_runs.specs.calls.TaskSeats.{ArePlacesOf, AreTaskSeats, IsSeatIn, KnowsTasks, number}
+use Rattle.board_runs.specs.calls.TaskSeats.{ArePlacesOf, AreTaskSeats, IsSeatIn, KnowsTasks, own_number}
 use Rattle.task_runner.specs.calls.DetectRuns.{AreSettledPlaces}
 use Rattle.task_runner.proofs.BoardPlaces.{at_places, stands, whose}
 use Rattle.task_runner.proofs.EndedTurns.{HasEndedTurn}
@@ -40,13 +40,13 @@ module _ (f : Frame) (detects : f.mode ≡ Detect) (tasks : List Working) (board
   undropped t = ap (λ (b : Place). b.dropped) (sym (end.last.lawful.there t)) ∙ plain_undropped f.plan (steps_of end.last.lawful.entries) end.last.lawful.run.0 t
 
   -- each task stands where its seat stood, and is not refused
-  stood : (w : Working) → Contains tasks w → a (number w) ≡ own_place w.seat.view
+  stood : (w : Working) → Contains tasks w → a (own_number w) ≡ own_place w.seat.view
   stood = stands f Detect tasks board_tasks before now known goes of words end
 
   unrefused : (w : Working) → Contains tasks w → (own_place w.seat.view).dropped ≡ None
-  unrefused w i = ap (λ (b : Place). b.dropped) (sym (stood w i)) ∙ undropped (number w)
+  unrefused w i = ap (λ (b : Place). b.dropped) (sym (stood w i)) ∙ undropped (own_number w)
 
-  owner : (t : ℕ) → forked_at f.plan (done_by a) t ≡ true → (w : Working) × Contains tasks w × number w ≡ t
+  owner : (t : ℕ) → forked_at f.plan (done_by a) t ≡ true → (w : Working) × Contains tasks w × own_number w ≡ t
   owner = whose f Detect tasks board_tasks before now known goes of words end
 
   pub there : places_at f.plan places ≡ a
@@ -79,28 +79,28 @@ module _ (f : Frame) (detects : f.mode ≡ Detect) (tasks : List Working) (board
       (subst (λ (o : Option ℕ). IsShown f.plan (state_at f.plan a) o words) (sym end.last.lawful.held ∙ no_holder end.last.lawful.entries end.last.lawful.run.1) end.last.shown)
 
   ended :
-      (w : Working) → Contains tasks w → (since : Known) → EndsTurn since w.seat → (action_at f.plan (number w) (own_place w.seat.view).done ≡ None)
-      ⊎ IsSome (published_after f.plan (number w) (own_place w.seat.view).done)
+      (w : Working) → Contains tasks w → (since : Known) → EndsTurn since w.seat → (action_at f.plan (own_number w) (own_place w.seat.view).done ≡ None)
+      ⊎ IsSome (published_after f.plan (own_number w) (own_place w.seat.view).done)
   ended w i since (is_done done) =
       let s = board_tasks.each w.seat (w, i, refl) in
-      inl (ap (λ (q : Plan). action_at q (number w) (own_place w.seat.view).done) (sym s.of_board.plan) ∙ done.past)
+      inl (ap (λ (q : Plan). action_at q (own_number w) (own_place w.seat.view).done) (sym s.of_board.plan) ∙ done.past)
   ended w i since (is_refused left) = absurd (false≢true (subst IsSome (unrefused w i) left.refused))
   ended w i since (is_locked_out u mode at other may held) =
       let s = board_tasks.each w.seat (w, i, refl) in
       absurd (false≢true (sym (ap avoids (s.of_board.mode ∙ detects)) ∙ mode))
   ended w i since (is_behind e published few behind found) =
       let s = board_tasks.each w.seat (w, i, refl) in
-      let is : published_after f.plan (number w) (own_place w.seat.view).done ≡ Some e =
-      ap (λ (q : Plan). published_after q (number w) (own_place w.seat.view).done) (sym s.of_board.plan) ∙ sym (event_here w.seat s.task s.own) ∙ published in
+      let is : published_after f.plan (own_number w) (own_place w.seat.view).done ≡ Some e =
+      ap (λ (q : Plan). published_after q (own_number w) (own_place w.seat.view).done) (sym s.of_board.plan) ∙ sym (event_here w.seat s.task s.own) ∙ published in
       inr (subst (λ o. IsSome o) (sym is) refl)
 
   at_await :
-      (w : Working) → Contains tasks w → StandsAtAwait w.seat → (action_at f.plan (number w) (own_place w.seat.view).done ≡ None)
-      ⊎ IsSome (published_after f.plan (number w) (own_place w.seat.view).done)
+      (w : Working) → Contains tasks w → StandsAtAwait w.seat → (action_at f.plan (own_number w) (own_place w.seat.view).done ≡ None)
+      ⊎ IsSome (published_after f.plan (own_number w) (own_place w.seat.view).done)
   at_await w i (inl published) =
       let s = board_tasks.each w.seat (w, i, refl) in
-      let is : published_after f.plan (number w) (own_place w.seat.view).done ≡ event_of w.seat =
-      ap (λ (q : Plan). published_after q (number w) (own_place w.seat.view).done) (sym s.of_board.plan) ∙ sym (event_here w.seat s.task s.own) in
+      let is : published_after f.plan (own_number w) (own_place w.seat.view).done ≡ event_of w.seat =
+      ap (λ (q : Plan). published_after q (own_number w) (own_place w.seat.view).done) (sym s.of_board.plan) ∙ sym (event_here w.seat s.task s.own) in
       inr (subst (λ o. IsSome o) (sym is) published)
   at_await w i (inr before) =
       let s = board_tasks.each w.seat (w, i, refl) in
@@ -108,7 +108,7 @@ module _ (f : Frame) (detects : f.mode ≡ Detect) (tasks : List Working) (board
 
   ended_within :
       (w : Working) → Contains tasks w → (bound loads : ℕ) (since : Known) → EndsTurnWithin bound loads since w.seat →
-      (action_at f.plan (number w) (own_place w.seat.view).done ≡ None) ⊎ IsSome (published_after f.plan (number w) (own_place w.seat.view).done)
+      (action_at f.plan (own_number w) (own_place w.seat.view).done ≡ None) ⊎ IsSome (published_after f.plan (own_number w) (own_place w.seat.view).done)
   ended_within w i bound loads since (inl ends) = ended w i since ends
   ended_within w i bound loads since (inr cut) = at_await w i cut.1
 
@@ -122,7 +122,7 @@ module _ (f : Frame) (detects : f.mode ≡ Detect) (tasks : List Working) (board
       let turn = all_each tasks ends r.0 r.1 in
       let e = ended_within r.0 r.1 bound loads turn.0 turn.1 in
       subst (λ u. (action_at f.plan u (a t).done ≡ None) ⊎ IsSome (published_after f.plan u (a t).done)) r.2
-      (subst (λ (b : Place). (action_at f.plan (number r.0) b.done ≡ None) ⊎ IsSome (published_after f.plan (number r.0) b.done)) place e))
+      (subst (λ (b : Place). (action_at f.plan (own_number r.0) b.done ≡ None) ⊎ IsSome (published_after f.plan (own_number r.0) b.done)) place e))
     where
       all_each : (ws : List Working) → All (λ (w : Working). HasEndedTurn bound loads w.seat) ws → (w : Working) → Contains ws w → HasEndedTurn bound loads w.seat
       all_each ws all w i = subst (λ (v : Working). HasEndedTurn bound loads v.seat) i.2 (all i.0 w i.1)

@@ -29,7 +29,7 @@ use Rattle.board.proofs.Walking.{published_is}
 use Rattle.phase_scan.specs.calls.Looks.{LoadsAlone}
 use Rattle.phase_scan.proofs.Loads.{goes_itself}
 use Rattle.board_runs.specs.calls.Turns.{EndsTurn, EndsTurnWithin, HasLeftAll, StandsAtAwait, Working, is_behind, is_done, is_locked_out, is_refused, standing_of}
-use Rattle.board_runs.specs.calls.TaskSeats.{ArePlacesOf, IsClosed, AreTaskSeats, AreTaskSeatsOf, IsSeatIn, KnowsTasks, number}
+use Rattle.board_runs.specs.calls.TaskSeats.{ArePlacesOf, IsClosed, AreTaskSeats, AreTaskSeatsOf, IsSeatIn, KnowsTasks, own_number}
 use Rattle.board_runs.proofs.Closed.{all_exact}
 use Rattle.task_runner.proofs.EndedTurns.{HasEndedTurn}
 
@@ -66,8 +66,8 @@ module _ (f : Frame) (mode : Mode) (tasks : List Working) (board_tasks : AreTask
   consistent = (reachable_is_fixed f.plan a checked reach).1
 
   -- each task stands where its seat stood
-  pub stands : (w : Working) → Contains tasks w → a (number w) ≡ own_place w.seat.view
-  stands w i = let k = known.here w i in (λ j. same j (number w)) ∙ goes.seen_now.here (number w) k.0 ∙ k.1
+  pub stands : (w : Working) → Contains tasks w → a (own_number w) ≡ own_place w.seat.view
+  stands w i = let k = known.here w i in (λ j. same j (own_number w)) ∙ goes.seen_now.here (own_number w) k.0 ∙ k.1
 
   small : (t : ℕ) → forked_at f.plan (done_by a) t ≡ true → t < length f.plan.parents
   small t forked = elim (forked_at_is f.plan (done_by a) t forked) [
@@ -75,12 +75,12 @@ module _ (f : Frame) (mode : Mode) (tasks : List Working) (board_tasks : AreTask
     | inr g ↦ child_within f.plan (parent_of f.plan t) t (checked.codes.well_formed (parent_of f.plan t) g.0 (Forks t) g.2).0
   ]
 
-  pub whose : (t : ℕ) → forked_at f.plan (done_by a) t ≡ true → (w : Working) × Contains tasks w × number w ≡ t
+  pub whose : (t : ℕ) → forked_at f.plan (done_by a) t ≡ true → (w : Working) × Contains tasks w × own_number w ≡ t
   whose t forked =
       known.only t (sym (goes.seen_now.exact t) ∙ exact_all t (small t forked) (subst (λ (b : ℕ → Place). forked_at f.plan (done_by b) t ≡ true) same forked))
 
   -- who is none of them has made no step
-  first : (t : ℕ) → ((w : Working) → Contains tasks w → number w ≢ t) → a t ≡ first_place
+  first : (t : ℕ) → ((w : Working) → Contains tasks w → own_number w ≢ t) → a t ≡ first_place
   first t none = elim (cases_lt 0 (a t).done) [
     | inl begun ↦ (let w = whose t (consistent.begun t begun) in absurd (none w.0 w.1 w.2))
     | inr still ↦ same_place (a t) first_place (let z : (a t).done ≡ 0 = omega arith in z) (undropped (a t).dropped refl) refl
@@ -94,10 +94,10 @@ module _ (f : Frame) (mode : Mode) (tasks : List Working) (board_tasks : AreTask
   unrefused_there : (w : Working) → Contains tasks w → (e : Event) → event_of w.seat ≡ Some e → (own_place w.seat.view).dropped ≡ None
   unrefused_there w i e published =
       let s = board_tasks.each w.seat (w, i, refl) in
-      let is : published_after f.plan (number w) (a (number w)).done ≡ Some e =
-      ap (λ (b : Place). published_after f.plan (number w) b.done) (stands w i)
-      ∙ ap (λ (q : Plan). published_after q (number w) (own_place w.seat.view).done) (sym s.of_board.plan) ∙ sym (event_here w.seat s.task s.own) ∙ published in
-      ap (λ (b : Place). b.dropped) (sym (stands w i)) ∙ published_undropped f.plan a consistent (number w) e is
+      let is : published_after f.plan (own_number w) (a (own_number w)).done ≡ Some e =
+      ap (λ (b : Place). published_after f.plan (own_number w) b.done) (stands w i)
+      ∙ ap (λ (q : Plan). published_after q (own_number w) (own_place w.seat.view).done) (sym s.of_board.plan) ∙ sym (event_here w.seat s.task s.own) ∙ published in
+      ap (λ (b : Place). b.dropped) (sym (stands w i)) ∙ published_undropped f.plan a consistent (own_number w) e is
 
   unrefused_at_await : (w : Working) → Contains tasks w → StandsAtAwait w.seat → (own_place w.seat.view).dropped ≡ None
   unrefused_at_await w i (inl published) = (let e = published_is (event_of w.seat) published in unrefused_there w i e.0 e.1)
@@ -120,7 +120,7 @@ module _ (f : Frame) (mode : Mode) (tasks : List Working) (board_tasks : AreTask
   module _ (places : List KeptPlace) (are : ArePlacesOf f.plan tasks places)
       (left : (w : Working) → Contains tasks w → IsSome (own_place w.seat.view).dropped → HasLeftAll w.seat) where
     all_dropped :
-        (w : Working) → Contains tasks w → (t : ℕ) → number w ≡ t → (d : ℕ) → (own_place w.seat.view).dropped ≡ Some d → a t ≡ own_place w.seat.view →
+        (w : Working) → Contains tasks w → (t : ℕ) → own_number w ≡ t → (d : ℕ) → (own_place w.seat.view).dropped ≡ Some d → a t ≡ own_place w.seat.view →
         d ≡ memberships f.plan t (a t).done
     all_dropped w i t num d is place =
         let dropped : (a t).dropped ≡ Some d = ap (λ (b : Place). b.dropped) place ∙ is in
@@ -131,10 +131,10 @@ module _ (f : Frame) (mode : Mode) (tasks : List Working) (board_tasks : AreTask
         (λ p.
         ap (λ m. kept (a t).dropped m p) (phases_forked f.plan checked (done_by a) t forked)
         ∙ (λ j. phases_at_place f.plan (sym num j) (place j) p)
-        ∙ ap (λ (q : Plan). phases_at_place q (number w) (own_place w.seat.view) p) (sym plan)
+        ∙ ap (λ (q : Plan). phases_at_place q (own_number w) (own_place w.seat.view) p) (sym plan)
         ∙ gone.nothing p)
 
-    standing_is : (w : Working) → Contains tasks w → (t : ℕ) → number w ≡ t → place_from f.plan t (Some (standing_of w.seat)) ≡ a t
+    standing_is : (w : Working) → Contains tasks w → (t : ℕ) → own_number w ≡ t → place_from f.plan t (Some (standing_of w.seat)) ≡ a t
     standing_is w i t num = by_dropped (own_place w.seat.view).dropped refl
       where
         place : a t ≡ own_place w.seat.view

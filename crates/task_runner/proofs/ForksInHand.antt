@@ -10,7 +10,7 @@ use Rattle.armus_base.specs.Plans.{Plan, action_at, actions, actions_of, code_of
 use Rattle.armus_base.proofs.Elements.{Contains-head}
 use Rattle.armus_base.proofs.Lists.{slice_get-set_other}
 use Rattle.board_runs.specs.calls.Turns.{Working}
-use Rattle.board_runs.specs.calls.TaskSeats.{done_of, number}
+use Rattle.board_runs.specs.calls.TaskSeats.{done_of, own_number}
 use Rattle.board_runs.proofs.Between.{to_each}
 use Rattle.task_runner.specs.inside.Pooled.{AreForksMarked, AreClosedUnderForks, ContainsTask}
 
@@ -47,7 +47,7 @@ unmarked (suc n) (suc t) is = unmarked n t is
 
 -- one more task is marked
 pub one_marked :
-    (tasks : List Working) (w : Working) (first marks : List Bool) (n : ℕ) → n ≡ number w → n < length marks →
+    (tasks : List Working) (w : Working) (first marks : List Bool) (n : ℕ) → n ≡ own_number w → n < length marks →
     ((t : ℕ) → slice_get marks t ≡ Some true → ContainsTask tasks t ⊎ (slice_get first t ≡ Some true)) →
     (t : ℕ) → slice_get (set marks n true) t ≡ Some true → ContainsTask (tasks ++ w ∷ []) t ⊎ (slice_get first t ≡ Some true)
 one_marked tasks w first marks n num l before t is = elim (cases_eq t n) [
@@ -61,10 +61,10 @@ one_marked tasks w first marks n num l before t is = elim (cases_eq t n) [
 -- where only tasks in hand are marked, and all that were forked are
 pub whole_marked :
     (plan : Plan) (tasks : List Working) (marks : List Bool) → ((t : ℕ) → slice_get marks t ≡ Some true → ContainsTask tasks t) → slice_get marks 0 ≡ Some true →
-    All (λ task. AreForksMarked (code_of plan (number task)) (done_of task) marks) tasks → AreClosedUnderForks plan tasks
+    All (λ task. AreForksMarked (code_of plan (own_number task)) (done_of task) marks) tasks → AreClosedUnderForks plan tasks
 unfolding action_at actions
 whole_marked plan tasks marks worker_value root all =
     record {
       root = worker_value 0 root;
-      forked = λ w i j c l is. worker_value c (to_each (λ task. AreForksMarked (code_of plan (number task)) (done_of task) marks) tasks all w i j c l is);
+      forked = λ w i j c l is. worker_value c (to_each (λ task. AreForksMarked (code_of plan (own_number task)) (done_of task) marks) tasks all w i j c l is);
     }

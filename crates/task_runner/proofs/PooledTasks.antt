@@ -7,18 +7,18 @@ use Rattle.armus_base.specs.calls.Seats.{seen_by_child}
 use Rattle.armus_base.proofs.Elements.{Contains-head}
 use Rattle.board.specs.calls.Views.{own_place, task_of}
 use Rattle.board.specs.calls.Seats.{Frame, IsNewSeat, IsOf, Known, nothing_seen}
-use Rattle.board_runs.specs.calls.Turns.{Acts, AreChildSeats, IsChildSeat, Working, tasks_forked}
-use Rattle.board_runs.specs.calls.TaskSeats.{HasSeatOf, AreTaskSeats, IsTaskSeat, IsSeatIn, number}
+use Rattle.board_runs.specs.calls.Turns.{MakesActions, AreChildSeats, IsChildSeat, Working, tasks_forked}
+use Rattle.board_runs.specs.calls.TaskSeats.{HasSeatOf, AreTaskSeats, IsTaskSeat, IsSeatIn, own_number}
 use Rattle.board_runs.proofs.Between.{all_from, first_task_seats, to_each}
 use Rattle.board_runs.proofs.TaskSeatsKept.{child_is, goes_with_seats}
 use Rattle.board_runs.proofs.Goings.{task_is}
 use Rattle.task_runner.specs.inside.Pooled.{AreClosedUnderForks, IsForked, ContainsTask, IsPooled}
 
-pub acted : (f : Frame) (own : List Action) (a b : Working) → IsPooled f a → Acts f own a b → IsTaskSeat f b.seat
+pub acted : (f : Frame) (own : List Action) (a b : Working) → IsPooled f a → MakesActions f own a b → IsTaskSeat f b.seat
 acted f own a b pooled acts = goes_with_seats f own a.seat b.seat pooled.seat acts.goes
 
 -- it has the seats of those that it forked, and no others
-pub forked : (f : Frame) (own : List Action) (a b : Working) → IsPooled f a → Acts f own a b → All (IsForked f) b.children
+pub forked : (f : Frame) (own : List Action) (a b : Working) → IsPooled f a → MakesActions f own a b → All (IsForked f) b.children
 forked f own a b pooled acts =
     let seats : AreChildSeats f (tasks_forked own) b.children = subst (AreChildSeats f (tasks_forked own)) (sym (acts.children ∙ ap (λ ks. ks ++ acts.new) pooled.no_child)) acts.seats in
     all_from (IsForked f) b.children (λ k i. child_is k seats i)
@@ -82,5 +82,5 @@ module _ (f : Frame) (tasks : List Working) (pooled : All (IsPooled f) tasks) wh
   pub pooled_none : All (λ (w : Working). w.children ≡ []) tasks
   pooled_none = λ k d l. (pooled k d l).no_child
 
-  pub pooled_within : (n : ℕ) → length f.plan.parents ≡ n → All (λ (w : Working). number w < n) tasks
-  pooled_within n e = λ k d l. subst (λ m. number (get_or tasks k d) < m) e (small f f.plan (get_or tasks k d).seat refl (pooled k d l).seat)
+  pub pooled_within : (n : ℕ) → length f.plan.parents ≡ n → All (λ (w : Working). own_number w < n) tasks
+  pooled_within n e = λ k d l. subst (λ m. own_number (get_or tasks k d) < m) e (small f f.plan (get_or tasks k d).seat refl (pooled k d l).seat)

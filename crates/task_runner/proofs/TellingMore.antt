@@ -29,7 +29,7 @@ use Rattle.phase_scan.specs.calls.Collects.{IsCollect}
 use Rattle.phase_scan.specs.calls.Looks.{LoadsAlone}
 use Rattle.board_runs.proofs.Between.{all_from}
 use Rattle.collector.specs.calls.Passes.{Watch}
-use Rattle.task_runner.specs.inside.LiveReporters.{TellsMore, Telling, Watches}
+use Rattle.task_runner.specs.inside.LiveReporters.{TellsMore, Telling, IsWatching}
 use Rattle.task_runner.specs.declared.ran.RunEnd.{RunEnd}
 use Rattle.task_runner.specs.declared.ran.RunEnd.TheVariants.{NoMemory, Write}
 use Rattle.armus_base.specs.calls.Boards.{IsLawful}
@@ -201,11 +201,11 @@ none_written b n same = record { lines = subst (λ (t : SinkValue). Appends b.ta
 
 -- a pass by a live_reporter that watches the board
 pub watches_more :
-    (f : Frame) (w : Telling) (now : Known) (collector : Watch) (list : List Status) (v : Verdict) (last : List TaskId) → f.mode ≡ Detect → Watches f w → LoadsAlone w.view now →
+    (f : Frame) (w : Telling) (now : Known) (collector : Watch) (list : List Status) (v : Verdict) (last : List TaskId) → f.mode ≡ Detect → IsWatching f w → LoadsAlone w.view now →
     IsCollect f.plan list w.view now →
     IsPassVerdict w.collector.names list w.view now v → NamesToo v.dead w.collector.names collector.names → collector.tasks ≡ w.collector.tasks →
     collector.phasers ≡ w.collector.phasers →
-    Watches f (record { collector = collector; view = now; dead = w.dead ++ v.fresh; last = last })
+    IsWatching f (record { collector = collector; view = now; dead = w.dead ++ v.fresh; last = last })
 watches_more f w now collector list v last detects watches goes collect verdict too tasks phasers =
     let checked = subst IsCheckedPlan watches.made.plan watches.kept.checked in
     record {
@@ -223,8 +223,8 @@ watches_more f w now collector list v last detects watches goes collect verdict 
 
 -- the viewer has taken seats in
 pub watches_taken :
-    (f : Frame) (w : Telling) (now : Known) → Watches f w → IsOf now f → IsSameSeat w.view.view now.view → IsSeat now →
-    Watches f (record { collector = w.collector; view = now; dead = w.dead; last = w.last })
+    (f : Frame) (w : Telling) (now : Known) → IsWatching f w → IsOf now f → IsSameSeat w.view.view now.view → IsSeat now →
+    IsWatching f (record { collector = w.collector; view = now; dead = w.dead; last = w.last })
 watches_taken f w now watches made same kept =
     record { made = made; kept = kept; viewer = same.own ∙ watches.viewer; tasks = watches.tasks; phasers = watches.phasers; named = watches.named; dead = watches.dead }
 

@@ -7,7 +7,7 @@ ghost use Rattle.phase_scan.specs.calls.Looks.{LoadsAlone};
 ghost use Rattle.task_runner.specs.calls.DetectRuns.{IsDetectRun, IsNoWrite, TellsRun, told};
 ghost use Rattle.task_runner.specs.inside.BoardRuns.{HaveAllEnded};
 ghost use Rattle.task_runner.specs.inside.DetectRounds.{IsUnderWay};
-ghost use Rattle.task_runner.specs.inside.LiveReporters.{HasPassed, SeesOn, TellsMore, TellsOn, Watches};
+ghost use Rattle.task_runner.specs.inside.LiveReporters.{HasPassed, SeesOn, TellsMore, TellsOn, IsWatching};
 
 use crate::beside::Nothing;
 use crate::board_run::BoardRun;
@@ -122,9 +122,9 @@ fn last_pass<G: Gate, K: Sink>(
     live_reporter: &mut LiveReporter,
     out: &mut K,
 ) -> Result<(), RunEnd>
-    requires watches { Watches board.now live_reporter.old }
+    requires watches { IsWatching board.now live_reporter.old }
     requires detects { board.now.mode ≡ Detect }
-    ensures watches { OnOk result (Watches board.now live_reporter.new) }
+    ensures watches { OnOk result (IsWatching board.now live_reporter.new) }
     ensures goes_on { LoadsAlone live_reporter.old.view live_reporter.new.view }
     ensures passed { OnOk result (HasPassed live_reporter.old.view live_reporter.new) }
     ensures told { options.now.live ≡ true → TellsMore board.now.plan live_reporter.old.dead live_reporter.new.dead (told K.taken K.faults out.old) (told K.taken K.faults out.new) result }

@@ -9,7 +9,7 @@ ghost use Rattle.board.specs.calls.Views.{seen};
 ghost use Rattle.phase_scan.specs.calls.Looks.{LoadsAlone};
 ghost use Rattle.board_runs.specs.calls.TaskSeats.{AreTasksOf, KnowsTasks, all_of};
 ghost use Rattle.task_runner.specs.calls.DetectRuns.{told};
-ghost use Rattle.task_runner.specs.inside.LiveReporters.{HasPassed, TellsMore, Watches};
+ghost use Rattle.task_runner.specs.inside.LiveReporters.{HasPassed, TellsMore, IsWatching};
 
 use crate::RunEnd;
 use crate::beside::Beside;
@@ -54,7 +54,7 @@ impl LiveReporter {
         wanted: Wanted,
     ) -> Result<LiveReporter, NoMemory>
         requires new { IsNewSeat board.now None nothing_seen view }
-        ensures watches { IfOk result (Watches board.now) }
+        ensures watches { IfOk result (IsWatching board.now) }
         ensures nobody { IfOk result (λ live_reporter. live_reporter.dead ≡ []) }
         ensures view { IfOk result (λ live_reporter. live_reporter.view ≡ view) }
     {
@@ -75,9 +75,9 @@ impl LiveReporter {
         gate: &C,
         out: &mut K,
     ) -> Result<(), RunEnd>
-        requires watches { Watches board.now self.old }
+        requires watches { IsWatching board.now self.old }
         requires detects { board.now.mode ≡ Detect }
-        ensures watches { OnOk result (Watches board.now self.new) }
+        ensures watches { OnOk result (IsWatching board.now self.new) }
         ensures goes_on { LoadsAlone self.old.view self.new.view }
         ensures passed { OnOk result (HasPassed self.old.view self.new) }
         ensures told { TellsMore board.now.plan self.old.dead self.new.dead (told K.bytes K.failures out.old) (told K.bytes K.failures out.new) result }
@@ -91,9 +91,9 @@ impl LiveReporter {
 
     /// One pass; answers the lines of the tasks that it is the first to name.
     pub(crate) fn name(&mut self, alloc: Global, board: &Board) -> Result<List<u8>, NoMemory>
-        requires watches { Watches board.now self.old }
+        requires watches { IsWatching board.now self.old }
         requires detects { board.now.mode ≡ Detect }
-        ensures watches { OnOk result (Watches board.now self.new) }
+        ensures watches { OnOk result (IsWatching board.now self.new) }
         ensures named { IfOk result (λ lines. (fresh : List Dead) × (self.new.dead ≡ self.old.dead ++ fresh) × (lines ≡ live_text fresh)) }
         ensures goes_on { LoadsAlone self.old.view self.new.view }
         ensures passed { OnOk result (HasPassed self.old.view self.new) }
@@ -108,10 +108,10 @@ impl LiveReporter {
 
     /// The tasks end their turns: the viewer knows each of them exactly then.
     pub(crate) fn take_in(&mut self, board: &Board, board_tasks: BoardTasks<'_>)
-        requires watches { Watches board.now self.old }
+        requires watches { IsWatching board.now self.old }
         requires tasks { AreTasksOf board.now board_tasks }
         requires unknown { (u : ℕ) → (seen self.old.view.view).exact u ≡ false }
-        ensures watches { Watches board.now self.new }
+        ensures watches { IsWatching board.now self.new }
         ensures known { KnowsTasks board.now (all_of board_tasks.entry) self.new.view }
         ensures same { self.new.dead ≡ self.old.dead }
     {
@@ -120,7 +120,7 @@ impl LiveReporter {
 
     /// Ends the board; answers its words, the tasks that were named, and those that the last pass named.
     pub(crate) fn close(self, board: Board) -> (Words, Vec<Dead>, List<TaskId>)
-        requires watches { Watches board self }
+        requires watches { IsWatching board self }
         ensures board { (result.0.plan ≡ board.plan) × (result.0.mode ≡ board.mode) }
         ensures words { AreLastOf board.plan board.mode (seen self.view.view) result.0.words }
         ensures dead { result.1.items ≡ self.dead }
@@ -136,13 +136,13 @@ impl<K: Writes> Beside<K> for LiveReporter {
     ghost use Rattle.board.specs.declared.mode.Mode.TheVariants.{Detect};
     ghost use Rattle.task_runner.specs.declared.ran.RunEnd.TheVariants.{NoMemory};
     ghost use Rattle.task_runner.specs.calls.DetectRuns.{AreDeadAtTheEnd, told};
-    ghost use Rattle.task_runner.specs.inside.LiveReporters.{SeesOn, TellsAfter, Watches};
+    ghost use Rattle.task_runner.specs.inside.LiveReporters.{SeesOn, TellsAfter, IsWatching};
 
     type Early = RunEnd;
 
     ghost there = { true };
 
-    ghost fits = { λ f x a. Watches f x × (f.mode ≡ Detect) };
+    ghost fits = { λ f x a. IsWatching f x × (f.mode ≡ Detect) };
 
     ghost passes = { λ f x a y b r. SeesOn x.view y.view × TellsAfter f.plan x.dead y.dead (told K.bytes K.failures a) (told K.bytes K.failures b) r };
 

@@ -5,7 +5,7 @@ ghost use Rattle.armus_base.specs.declared.ids.TaskId.{TaskId};
 ghost use Rattle.armus_base.specs.Plans.{actions_of, code_of};
 ghost use Rattle.board.specs.declared.mode.Mode.TheVariants.{Detect};
 ghost use Rattle.board.specs.calls.Seats.{IsNewSeat, nothing_seen};
-ghost use Rattle.board_runs.specs.calls.TaskSeats.{done_of, number};
+ghost use Rattle.board_runs.specs.calls.TaskSeats.{done_of, own_number};
 ghost use Rattle.world_runs.specs.calls.PlainRuns.{IsPlainEnd};
 ghost use Rattle.task_runner.specs.inside.Pooled.{AreForksMarked, AreClosedUnderForks, ContainsTask, IsPooled};
 
@@ -51,7 +51,7 @@ pub(crate) fn end_run<G: Gate>(
 
 // Whether task 0 is one of these tasks, and each task that one of them has forked.
 fn are_whole(alloc: Global, plan: &Plan, tasks: &[Task<'_>]) -> Result<bool, NoMemory>
-    requires within { All (λ task. number task < length plan.now.parents) tasks.now }
+    requires within { All (λ task. own_number task < length plan.now.parents) tasks.now }
     ensures whole { IfOk result (λ whole. whole ≡ true → AreClosedUnderForks plan.now tasks.now) }
 {
     let mut marks = vec![in alloc; false; plan.tasks() as usize]?;
@@ -62,9 +62,9 @@ fn are_whole(alloc: Global, plan: &Plan, tasks: &[Task<'_>]) -> Result<bool, NoM
     Ok(have_forked_marked(plan, tasks, marks.as_slice()))
 }
 
-// Marks the number of each of these tasks.
+// Marks the own_number of each of these tasks.
 fn mark(tasks: &[Task<'_>], marks: &mut Vec<bool>)
-    requires { All (λ task. number task < length marks.old.items) tasks.now }
+    requires { All (λ task. own_number task < length marks.old.items) tasks.now }
     ensures { (t : ℕ) → slice_get marks.new.items t ≡ Some true → ContainsTask tasks.now t ⊎ (slice_get marks.old.items t ≡ Some true) }
 {
     for task in tasks {
@@ -72,7 +72,7 @@ fn mark(tasks: &[Task<'_>], marks: &mut Vec<bool>)
     }
 }
 
-// Whether a number is marked.
+// Whether a own_number is marked.
 fn is_marked(marks: &[bool], t: u32) -> bool
     ensures { result ≡ true → slice_get marks.now t ≡ Some true }
 {
@@ -84,8 +84,8 @@ fn is_marked(marks: &[bool], t: u32) -> bool
 
 // Whether each task that one of these has forked is marked.
 fn have_forked_marked(plan: &Plan, tasks: &[Task<'_>], marks: &[bool]) -> bool
-    requires within { All (λ task. number task < length plan.now.parents) tasks.now }
-    ensures { result ≡ true → All (λ task. AreForksMarked (code_of plan.now (number task)) (done_of task) marks.now) tasks.now }
+    requires within { All (λ task. own_number task < length plan.now.parents) tasks.now }
+    ensures { result ≡ true → All (λ task. AreForksMarked (code_of plan.now (own_number task)) (done_of task) marks.now) tasks.now }
 {
     for task in tasks {
         let cursor = plan.cursor(task.id());

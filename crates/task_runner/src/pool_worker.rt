@@ -1,6 +1,6 @@
 // A worker of a run without rounds.
 ghost use Rattle.std.specs.Prelude.{◌≡◌, ◌<◌, IfOk, IfSome, length};
-ghost use Rattle.board_runs.specs.calls.TaskSeats.{number};
+ghost use Rattle.board_runs.specs.calls.TaskSeats.{own_number};
 ghost use Rattle.slot_pool.specs.calls.PoolValues.{IsOfPool};
 ghost use Rattle.task_runner.specs.inside.Pooled.{KeepsWhatItHas, IsIdleWorker};
 
@@ -141,7 +141,7 @@ impl<'p, N: BoardName> PoolWorker<'p, N> {
         are_many(self.cells.loads_for_awaits().saturating_mul(self.workers))
     }
 
-    // Visits each task, in order of number.
+    // Visits each task, in order of own_number.
     fn sweep<R, C: Calls>(
         &mut self,
         setting: &TurnSetting<'_, R, C>,
@@ -193,7 +193,7 @@ impl<'p, N: BoardName> PoolWorker<'p, N> {
         requires tasks { pool.now.tasks ≡ length N.board.plan.parents }
         requires made { IsOfPool self.old pool.now }
         ensures goes_on { KeepsWhatItHas self.old self.new }
-        ensures task { number task.new ≡ number task.old }
+        ensures task { own_number task.new ≡ own_number task.old }
     {
         let mut found = Sweep::Quiet;
         for _ in 0..u64::MAX {
@@ -217,7 +217,7 @@ impl<'p, N: BoardName> PoolWorker<'p, N> {
         child: Option<PooledTask<'p, N>>,
     ) -> Result<(), NoMemory>
         requires made { IsOfPool self.old pool.now }
-        requires within { IfSome child (λ child. number child < pool.now.tasks) }
+        requires within { IfSome child (λ child. own_number child < pool.now.tasks) }
         ensures { KeepsWhatItHas self.old self.new }
     {
         let Some(child) = child else {

@@ -2,12 +2,12 @@
 ghost use Rattle.std.specs.Prelude.{◌≡◌, ◌<◌, All, IfOk, IfSome, length};
 ghost use Rattle.armus_base.specs.Runs.{first_place};
 ghost use Rattle.board.specs.calls.Views.{own_place, task_of};
-ghost use Rattle.board_runs.specs.calls.TaskSeats.{IsTaskSeat, number};
+ghost use Rattle.board_runs.specs.calls.TaskSeats.{IsTaskSeat, own_number};
 ghost use Rattle.task_runner.specs.inside.Pooled.{IsForked, IsPooled};
 
 use armus_base::{NoMemory, Plan, TaskId};
 use board::TaskSeat;
-use board_runs::{Acted, Calls, Task, TurnSetting, WorkerCells};
+use board_runs::{Calls, Stretch, Task, TurnSetting, WorkerCells};
 use slot_pool::Named;
 use std::alloc::Global;
 use std::marker::{Brand, Model, PhantomData};
@@ -49,7 +49,7 @@ impl<'p, N: BoardName> Model for PooledTask<'p, N> {
 impl<'p, N: BoardName> Named for PooledTask<'p, N> {
     ghost use Rattle.board.specs.calls.Views.{task_of};
 
-    ghost number = { λ task. task_of task.seat.view };
+    ghost own_number = { λ task. task_of task.seat.view };
 
     fn id(&self) -> TaskId {
         self.task.id()
@@ -63,7 +63,7 @@ impl<'p, N: BoardName> PooledTask<'p, N> {
         requires first { own_place seat.view ≡ first_place }
         requires seat { IsTaskSeat N.board seat }
         ensures seat { result.seat ≡ seat }
-        ensures within { number result < length N.board.plan.parents }
+        ensures within { own_number result < length N.board.plan.parents }
     {
         PooledTask {
             task: Task::new(alloc, seat, plan),
@@ -78,11 +78,11 @@ impl<'p, N: BoardName> PooledTask<'p, N> {
         setting: &TurnSetting<'_, R, C>,
         plan: &'p Plan,
         cells: &mut WorkerCells,
-    ) -> Result<(Acted, Option<PooledTask<'p, N>>), NoMemory>
+    ) -> Result<(Stretch, Option<PooledTask<'p, N>>), NoMemory>
         requires board { setting.now.board.now ≡ N.board }
         requires plan { N.board.plan ≡ plan.now }
-        ensures same { number self.new ≡ number self.old }
-        ensures child { IfOk result (λ r. IfSome r.1 (λ child. number child < length N.board.plan.parents)) }
+        ensures same { own_number self.new ≡ own_number self.old }
+        ensures child { IfOk result (λ r. IfSome r.1 (λ child. own_number child < length N.board.plan.parents)) }
     {
         let acted = self.task.act(setting, cells)?;
         let seats = self.task.take_children(setting.alloc).into_vec();
@@ -106,7 +106,7 @@ fn last_of<'p, N: BoardName>(
 ) -> Option<PooledTask<'p, N>>
     requires plan { N.board.plan ≡ plan.now }
     requires forked { All (IsForked N.board) seats.items }
-    ensures within { IfSome result (λ child. number child < length N.board.plan.parents) }
+    ensures within { IfSome result (λ child. own_number child < length N.board.plan.parents) }
 {
     match seats.pop() {
         Some(seat) => Some(PooledTask::new(alloc, seat, plan)),

@@ -8,7 +8,7 @@ use adaptive::Wanted;
 use armus_base::NoMemory;
 use board::{Board, ViewSeat};
 use board_runs::Calls;
-use sites::{KeepEnd, Keeps, pass_over};
+use sites::{KeepEnd, KeepsRows, pass_over};
 use std::alloc::Global;
 
 /// The viewers of the sites of a run, one for each site, in order.
@@ -19,7 +19,7 @@ pub(crate) struct Viewers {
     pub(crate) wanted: Wanted,
 }
 
-impl<K: Keeps> Beside<K> for Viewers {
+impl<K: KeepsRows> Beside<K> for Viewers {
     ghost use Rattle.std.specs.Prelude.{◌≡◌, Result, Ok, Err, true, length};
     ghost use Rattle.std.proofs.Common.{refl, subst, ap, ◌∙◌};
     ghost use Rattle.sites.specs.declared.ends.KeepEnd.TheVariants.{NoMemory};
@@ -63,7 +63,7 @@ impl<K: Keeps> Beside<K> for Viewers {
 }
 
 // One pass over all sites.
-fn pass_over_all<K: Keeps>(
+fn pass_over_all<K: KeepsRows>(
     alloc: Global,
     views: &mut Vec<ViewSeat>,
     board: &Board,

@@ -18,8 +18,8 @@ abbrev pub LeavesNothing : Passage → ℕ → Type 0
 LeavesNothing out number = (number ≡ 6) × IsSound out × Keeps out.before out.after
 
 -- the line of a refusal was written, or memory was wanting and nothing was
-abbrev pub Refuses : Refusal → Passage → ℕ → Type 0
-Refuses why out number = Finished out (refusal_text why) 3 number ⊎ LeavesNothing out number
+abbrev pub TellsRefusal : Refusal → Passage → ℕ → Type 0
+TellsRefusal why out number = Finished out (refusal_text why) 3 number ⊎ LeavesNothing out number
 
 -- the line of a fault of the unfolding of a clock text was written, or memory was wanting and nothing was
 abbrev pub RefusesClocks : ClockFault → Passage → ℕ → Type 0

@@ -5,7 +5,7 @@ use Rattle.armus_base.specs.Plans.{Action}
 use Rattle.board.specs.calls.Seats.{Frame, Known}
 use Rattle.board_runs.specs.declared.board_tasks.Rounded.{Rounded}
 use Rattle.board_runs.specs.calls.Turns.{ActsNoMore, EachActs, EachEndsTurn, EndsTurnWithin, Working, in_32_bits, loads_between, tasks_forked}
-use Rattle.board_runs.specs.calls.TaskSeats.{Tasks, all_of, number}
+use Rattle.board_runs.specs.calls.TaskSeats.{Tasks, all_of, own_number}
 
 -- a task whose children's seats were taken
 abbrev pub emptied : Working → Working
@@ -45,7 +45,7 @@ pub record HasRound (bound : ℕ) (board : Frame) (before now : Tasks) (told : R
 pub record HasTakenTurn (bound loads : ℕ) (before : List Working) (now : Working) : Type 0 where
   pub was : Working
   pub among : Contains before was
-  pub same : number was ≡ number now
+  pub same : own_number was ≡ own_number now
   pub ends : EndsTurnWithin bound loads was.seat now.seat
 
 -- Each of these tasks has taken a turn since those lived, with this bound on the loads that all of them made since, or had ended before.

@@ -39,17 +39,17 @@ pub record AreTaskSeats (board : Frame) (Seats : Known → Type 0) : Type 0 wher
 abbrev pub IsSeatIn : List Working → Known → Type 0
 IsSeatIn tasks seat = (task : Working) × Contains tasks task × seat ≡ task.seat
 
--- the number of a task
-abbrev pub number : Working → ℕ
-number task = task_of task.seat.view
+-- the own_number of a task
+abbrev pub own_number : Working → ℕ
+own_number task = task_of task.seat.view
 
 -- how many actions of its code a task has done
 abbrev pub done_of : Working → ℕ
 done_of task = (own_place task.seat.view).done
 
--- how many of these tasks have number t
+-- how many of these tasks have own_number t
 abbrev pub how_many : ℕ → List Working → ℕ
-how_many t tasks = sum_by (λ task. if number task == t then 1 else 0) tasks
+how_many t tasks = sum_by (λ task. if own_number task == t then 1 else 0) tasks
 
 -- one of the actions of task t from index `from` up to `to` forks task c
 abbrev pub IsForkedWithin : Plan → ℕ → ℕ → ℕ → ℕ → Type 0
@@ -57,14 +57,14 @@ IsForkedWithin plan t from to c = (j : ℕ) × from ≤ j × j < to × action_at
 
 -- one of these tasks has forked task c
 abbrev pub IsForkedBy : Plan → List Working → ℕ → Type 0
-IsForkedBy plan tasks c = (m : Working) × Contains tasks m × IsForkedWithin plan (number m) 0 (done_of m) c
+IsForkedBy plan tasks c = (m : Working) × Contains tasks m × IsForkedWithin plan (own_number m) 0 (done_of m) c
 
 -- These are the tasks of a run on this board: task 0, and whoever was forked by one of them, each once. None has the seat of a child.
 pub record AreTaskSeatsOf (board : Frame) (tasks : List Working) : Type 0 where
   pub board_tasks : AreTaskSeats board (IsSeatIn tasks)
   pub no_child : All (λ task. task.children ≡ []) tasks
   pub once : (t : ℕ) → how_many t tasks ≤ 1
-  pub origin : (task : Working) → Contains tasks task → (number task ≡ 0) ⊎ IsForkedBy board.plan tasks (number task)
+  pub origin : (task : Working) → Contains tasks task → (own_number task ≡ 0) ⊎ IsForkedBy board.plan tasks (own_number task)
 
 -- how far a task has come: the actions that it has done, and one more where it is refused
 abbrev pub progress_of : Working → ℕ
@@ -102,13 +102,13 @@ pub record ArePlacesOf (plan : Plan) (tasks : List Working) (places : List KeptP
   pub one_each : length places ≡ length plan.parents
   pub each :
       (t : ℕ) → t < length plan.parents →
-      ((task : Working) × Contains tasks task × number task ≡ t × slice_get places t ≡ Some (standing_of task.seat))
-      ⊎ (((task : Working) → Contains tasks task → number task ≢ t) × slice_get places t ≡ Some (record { events = 0; refused = false }))
+      ((task : Working) × Contains tasks task × own_number task ≡ t × slice_get places t ≡ Some (standing_of task.seat))
+      ⊎ (((task : Working) → Contains tasks task → own_number task ≢ t) × slice_get places t ≡ Some (record { events = 0; refused = false }))
 
 -- A viewer knows just these tasks exactly, and sees them where their seats stood. Whoever one of them forks is among them.
 pub record KnowsTasks (board : Frame) (tasks : List Working) (view : Known) : Type 0 where
   pub closed : IsClosed board.plan (seen view.view)
   pub here :
       (task : Working) → Contains tasks task →
-      (seen view.view).exact (number task) ≡ true × (seen view.view).places (number task) ≡ own_place task.seat.view
-  pub only : (u : ℕ) → (seen view.view).exact u ≡ true → (task : Working) × Contains tasks task × number task ≡ u
+      (seen view.view).exact (own_number task) ≡ true × (seen view.view).places (own_number task) ≡ own_place task.seat.view
+  pub only : (u : ℕ) → (seen view.view).exact u ≡ true → (task : Working) × Contains tasks task × own_number task ≡ u

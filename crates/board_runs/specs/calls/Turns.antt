@@ -57,7 +57,7 @@ pub record Goes (own : List Action) (before now : Known) : Type 0 where
   pub kept : IsSeat now
 
 -- a task has made these steps, of which a refused one makes none, and has the seats of the children that it forked by them
-pub record Acts (board : Frame) (own : List Action) (before now : Working) : Type 0 where
+pub record MakesActions (board : Frame) (own : List Action) (before now : Working) : Type 0 where
   pub goes : Goes own before.seat now.seat
   pub refused : IsSome (own_place before.seat.view).dropped → own ≡ []
   pub new : List Known
@@ -131,16 +131,16 @@ pub data EndsTurn (before now : Known) : Type 0 where
 abbrev pub StandsAtAwait : Known → Type 0
 StandsAtAwait seat = IsSome (event_of seat) ⊎ (avoids seat.view.mode ≡ true × IsBeforeAwait seat)
 
--- a count of 64 bits: so many, or the greatest number of 64 bits, at which it stands still
+-- a count of 64 bits: so many, or the greatest own_number of 64 bits, at which it stands still
 abbrev pub in_64_bits : ℕ → ℕ
 in_64_bits n = min n (2 ^ 64 - 1)
 
 -- a worker: how many loads were counted with its cells, in 64 bits
-pub record Worker : Type 0 where
+pub record WorkerLoads : Type 0 where
   pub loads : ℕ
 
 -- While the seat went from the first to the second, the worker has counted no more loads than the seat has made.
-abbrev pub CountsLoadsOf : Known → Known → Worker → Worker → Type 0
+abbrev pub CountsLoadsOf : Known → Known → WorkerLoads → WorkerLoads → Type 0
 CountsLoadsOf before now old new = before.view.loads + new.loads ≤ now.view.loads + old.loads
 
 -- How a turn ends where so many loads were made, and a bound is set: as any turn does or, where there are more of them, at an await, whether its task has looked
@@ -165,7 +165,7 @@ pub data EachActs (board : Frame) : List (List Action) → List Working → List
   no_task : EachActs board [] [] []
   one_task :
       {own : List Action} {owns : List (List Action)} {before now : Working} {befores nows : List Working} →
-      Acts board own before now → EachActs board owns befores nows → EachActs board (own ∷ owns) (before ∷ befores) (now ∷ nows)
+      MakesActions board own before now → EachActs board owns befores nows → EachActs board (own ∷ owns) (before ∷ befores) (now ∷ nows)
 
 -- how many loads these tasks have made
 abbrev pub loads_made_by : List Working → ℕ
@@ -192,7 +192,7 @@ pub data EachEndsTurn (bound : ℕ) : List Working → List Working → Type 0 w
       {front behind front_now behind_now : List Working} → EachEndsTurn bound front front_now → EachEndsTurn bound behind behind_now →
       EachEndsTurn bound (front ++ behind) (front_now ++ behind_now)
 
--- a count of 32 bits: so many, or the greatest number of 32 bits, at which it stands still
+-- a count of 32 bits: so many, or the greatest own_number of 32 bits, at which it stands still
 abbrev pub in_32_bits : ℕ → ℕ
 in_32_bits n = min n (2 ^ 32 - 1)
 

@@ -7,7 +7,7 @@ use Rattle.board.specs.calls.Seats.{Frame, Known, event_of}
 use Rattle.board.specs.calls.Views.{own_place, task_of}
 use Rattle.board.specs.inside.Walking.{left_of}
 use Rattle.board_runs.specs.declared.task.Task.TheInside.{Inside}
-use Rattle.board_runs.specs.calls.Turns.{Acts, HasLeftAll, Working}
+use Rattle.board_runs.specs.calls.Turns.{MakesActions, HasLeftAll, Working}
 
 -- what a contract sees of a task
 abbrev pub working_of : Inside → Working
@@ -32,7 +32,7 @@ pub record IsWorking (t : Inside) : Type 0 where
 -- a task has made so many steps, one at least: one step of its code, by which it forks one task at most, or a refusal and a drop of each of its phasers
 pub record MakesSome (board : Frame) (made : ℕ) (before now : Working) : Type 0 where
   pub own : List Action
-  pub acts : Acts board own before now
+  pub acts : MakesActions board own before now
   pub counted : made ≡ length own
   pub some : 0 < made
   pub few : made ≤ max_phasers + 1

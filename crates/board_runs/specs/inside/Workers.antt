@@ -2,10 +2,10 @@
 use Rattle.std.specs.Prelude.{◌≡◌, Some}
 use Rattle.phase_scan.specs.calls.Collects.{Collection}
 use Rattle.board_runs.specs.declared.worker_cells.WorkerCells.TheInside.{Inside}
-use Rattle.board_runs.specs.calls.Turns.{Worker}
+use Rattle.board_runs.specs.calls.Turns.{WorkerLoads}
 
 -- what a contract sees of a worker
-abbrev pub worker_of : Inside → Worker
+abbrev pub worker_of : Inside → WorkerLoads
 worker_of worker = record { loads = worker.loads }
 
 -- its cells are for so many tasks and phasers

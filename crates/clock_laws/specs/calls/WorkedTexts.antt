@@ -1,7 +1,7 @@
 -- Small programs on the machine on the text, with how their activities stand at the end; and with a statement at fault.
 use Rattle.std.specs.Prelude.{◌≡◌, ℕ, zero, suc, codes, List, [], ◌∷◌}
 use Rattle.clock_syntax.specs.Trees.{ClockTree, clock, advance, resume, drop, skip, done, plain, async, finish, loop}
-use Rattle.clock_laws.specs.TextMachine.{Activity, Made, Stand, TextState, TextStep, at_advance, at_end, ended, fails, goes, stand_of, text_opening, text_step, unstarted, waits}
+use Rattle.clock_laws.specs.TextMachine.{Activity, Made, ActivityStand, TextState, TextStep, at_advance, at_end, ended, fails, goes, stand_of, text_opening, text_step, unstarted, waits}
 
 -- ---- names
 
@@ -51,10 +51,10 @@ pub record TextExample : Type 0 where
   pub program : ClockTree
   pub far : ℕ
   pub turns : List Activity
-  pub stands : List (Activity × Stand)
+  pub stands : List (Activity × ActivityStand)
 
 -- each of these activities cannot go and stands so
-abbrev pub StandSo : TextState → List (Activity × Stand) → Type 0
+abbrev pub StandSo : TextState → List (Activity × ActivityStand) → Type 0
 StandSo s [] = Unit {0}
 StandSo s (x ∷ xs) = (text_step x.0 s ≡ waits × stand_of s x.0 ≡ x.1) × StandSo s xs
 

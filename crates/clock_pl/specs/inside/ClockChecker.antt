@@ -7,7 +7,7 @@ use Rattle.armus_base.specs.declared.ids.TaskId.{TaskId}
 use Rattle.armus_base.specs.declared.ids.PhaserId.{PhaserId}
 use Rattle.armus_base.specs.declared.op.Op.{Op}
 use Rattle.clock_syntax.specs.Trees.{ClockTree}
-use Rattle.clock_semantics.specs.Moves.{Standing}
+use Rattle.clock_semantics.specs.Moves.{ActivityStanding}
 use Rattle.clock_semantics.specs.Unfolding.{Current, ClockStart}
 use Rattle.indexmap.specs.IndexSet.{insert_key}
 use Rattle.pl_plan.specs.calls.MemberRows.{marked}
@@ -64,7 +64,7 @@ abbrev pub clock_by_name : List (List ℕ) → List (Option PhaserId) → List �
 clock_by_name names clocks x = numbered_clock (position (bytes_eq x) names) clocks
 
 -- how an activity stands by its rows
-abbrev pub standing_by_rows : KeptKnown → Standing
+abbrev pub standing_by_rows : KeptKnown → ActivityStanding
 standing_by_rows k = record { members = λ p. slice_index_or k.members p false; pending = λ p. slice_index_or k.pending p false }
 
 -- what is known

@@ -23,12 +23,12 @@ use Rattle.explain_check.specs.inside.Noted.{LastTurnsTell, NotesTell, TurnsTold
 use Rattle.explain_check.specs.inside.Seen.{visit_checked, sight_of}
 
 -- what is unfolded: a program, the bytes of its names by their numbers, and its steps
-pub record Source : Type 0 where
+pub record NamedProgram : Type 0 where
   pub program : Program
   pub names : ℕ → List ℕ
   pub steps : List Step
 
-module _ (g : Source) where
+module _ (g : NamedProgram) where
   -- these stages lead to this state
   pub record IsPast (stages : List Stage) (state : UnfoldingState) : Type 0 where
     pub leads : StagesLead g.program.two [] stages (opening_state g.program.body) state
@@ -147,23 +147,23 @@ module _ (g : Source) where
   SoughtAll (Err e) notes last_turns = Unit {0}
 
 -- the frame of all statements of a task
-abbrev pub whole : ℕ → ℕ → OpenBody
-whole first after = record { at = first; to = after; of_loop = 0; left = 0 }
+abbrev pub whole_body : ℕ → ℕ → OpenBody
+whole_body first after = record { at = first; to = after; of_loop = 0; left = 0 }
 
 -- something is unfolded so that task t has the visits of these frames left
 abbrev pub HasMidst : ℕ → ℕ → ℕ → List OpenBody → Checker → List Note → List LastTurn → Type 0
-HasMidst t first after frames k notes last_turns = (g : Source) × Midst g t first after frames k notes last_turns
+HasMidst t first after frames k notes last_turns = (g : NamedProgram) × Midst g t first after frames k notes last_turns
 
 -- or so that it leaves the phasers from number p on
 abbrev pub HasLeaving : ℕ → ℕ → ℕ → ℕ → Checker → List Note → List LastTurn → Type 0
-HasLeaving t first after p k notes last_turns = (g : Source) × Leaving g t first after p k notes last_turns
+HasLeaving t first after p k notes last_turns = (g : NamedProgram) × Leaving g t first after p k notes last_turns
 
 -- or so that it is the next one
 abbrev pub HasBefore : Bool → ℕ → Checker → List Note → List LastTurn → Type 0
-HasBefore two t k notes last_turns = (g : Source) × (g.program.two ≡ two) × Before g t k notes last_turns
+HasBefore two t k notes last_turns = (g : NamedProgram) × (g.program.two ≡ two) × Before g t k notes last_turns
 
 -- what is unfolded of a program, by the names and the steps
-abbrev pub a_source : Program → (ℕ → List ℕ) → List Step → Source
+abbrev pub a_source : Program → (ℕ → List ℕ) → List Step → NamedProgram
 a_source program names steps = record { program = program; names = names; steps = steps }
 
 -- the first task of a program is the next one

@@ -4,7 +4,7 @@ use Rattle.armus_base.specs.CheckedPlans.{IsCheckedPlan}
 use Rattle.armus_base.specs.Plans.{Plan}
 use Rattle.armus_base.specs.Runs.{IsPlainRun}
 use Rattle.schedule.specs.declared.lines.Line.{Line}
-use Rattle.schedule.specs.Passes.{Loads}
+use Rattle.schedule.specs.Passes.{PassLoads}
 use Rattle.schedule.specs.Lines.{IsSchedule}
 use Rattle.schedule.specs.Replays.{Progress, IsFault, IsFirstFault, LinesLead, Takes}
 use Rattle.schedule.specs.Split.{IsSplit}
@@ -13,7 +13,7 @@ use Rattle.schedule.specs.Laws.{NamesTheDead}
 -- so does each closed pass of every schedule
 abbrev pub PassesNameTheDead : Type 0
 PassesNameTheDead =
-    (plan : Plan) (lines : List Line) (a : Progress) (loads : Loads) → IsCheckedPlan plan → LinesLead plan lines a → Contains a.passes loads →
+    (plan : Plan) (lines : List Line) (a : Progress) (loads : PassLoads) → IsCheckedPlan plan → LinesLead plan lines a → Contains a.passes loads →
     NamesTheDead plan loads
 
 -- an input has one text and one schedule

@@ -10,12 +10,12 @@ use Rattle.schedule.specs.declared.verdict.ReplayEnd.{ReplayEnd}
 use Rattle.schedule.specs.declared.verdict.ReplayEnd.TheVariants.{Schedule, NoMemory}
 use Rattle.schedule.specs.inside.Following.{IsAt}
 use Rattle.schedule.specs.inside.OpenPasses.{IsPassOf}
-use Rattle.schedule.specs.Passes.{Loads, loads_of}
+use Rattle.schedule.specs.Passes.{PassLoads, loads_of}
 use Rattle.schedule.specs.Replays.{Progress, Takes, IsFault}
 use Rattle.schedule.specs.Replaying.{AreVerdicts}
 
 -- what is kept of the open pass
-abbrev pub IsOpenPass : Plan → Option Loads → Option OpenPass → Type 0
+abbrev pub IsOpenPass : Plan → Option PassLoads → Option OpenPass → Type 0
 IsOpenPass plan None None = Unit {0}
 IsOpenPass plan (Some loads) (Some pass) = IsPassOf plan loads pass × length loads ≢ loads_of plan loads
 IsOpenPass plan loads pass = ⊥
@@ -36,7 +36,7 @@ TakesLine plan a line replay (Err LineWantsMemory) = Unit {0}
 
 -- the pass is open
 pub record HasOpenPass (plan : Plan) (pass : OpenPass) : Type 0 where
-  pub loads : Loads
+  pub loads : PassLoads
   pub of : IsPassOf plan loads pass
   pub not_full : length loads ≢ loads_of plan loads
 

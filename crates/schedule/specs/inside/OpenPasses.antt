@@ -11,55 +11,55 @@ use Rattle.armus_base.specs.Finals.{given_below, listed_phase}
 use Rattle.armus_base.specs.Plans.{Plan}
 use Rattle.schedule.specs.declared.pass.OpenPass.{OpenPass}
 use Rattle.schedule.specs.declared.pass.FoundWaiting.{FoundWaiting}
-use Rattle.schedule.specs.Passes.{Loads, event_found, is_found_awaited, loads_of, phases_found}
+use Rattle.schedule.specs.Passes.{PassLoads, event_found, is_found_awaited, loads_of, phases_found}
 
 -- the task with its event, if it was found waiting
-abbrev pub waiting_found : Loads → ℕ → Option FoundWaiting
+abbrev pub waiting_found : PassLoads → ℕ → Option FoundWaiting
 waiting_found loads t = option_map (λ e. record { t = record { 0 = t }; event = e }) (event_found loads t)
 
 -- the phaser, if it was found awaited
-abbrev pub awaited_phaser : Plan → Loads → ℕ → Option PhaserId
+abbrev pub awaited_phaser : Plan → PassLoads → ℕ → Option PhaserId
 awaited_phaser plan loads p = if is_found_awaited plan loads p then Some (record { 0 = p }) else None
 
 -- the phase of task t on a phaser that was found, if it is a member
-abbrev pub member_found : Plan → Loads → ℕ → PhaserId → List Member
+abbrev pub member_found : Plan → PassLoads → ℕ → PhaserId → List Member
 member_found plan loads t p = option_to_list (option_map (λ n. record { p = p; n = n }) (phases_found plan loads t p.0))
 
 -- the status of a task found waiting
-abbrev pub status_with : Plan → Loads → FoundWaiting → Status
+abbrev pub status_with : Plan → PassLoads → FoundWaiting → Status
 status_with plan loads w =
     record { t = w.t; event = w.event; phases = given_below (listed_phase (is_found_awaited plan loads) (phases_found plan loads w.t.0)) (length plan.makers) }
 
 -- the phases found in the row of a task, in the first columns
-abbrev pub row_found : Plan → Loads → Option FoundWaiting → List PhaserId → List Member
+abbrev pub row_found : Plan → PassLoads → Option FoundWaiting → List PhaserId → List Member
 row_found plan loads None columns = []
 row_found plan loads (Some w) columns = flat_map (member_found plan loads w.t.0) columns
 
 -- the place of the next phase cell in the rows of the tasks found waiting and the columns of the phasers found awaited
-pub record HasPlace (plan : Plan) (loads : Loads) (pass : OpenPass) : Type 0 where
+pub record HasPlace (plan : Plan) (loads : PassLoads) (pass : OpenPass) : Type 0 where
   pub cells : length loads ≡ length plan.parents + (pass.row * length pass.awaited.items + pass.column)
   pub row : pass.row ≤ length pass.waiting.items
   pub column : pass.row < length pass.waiting.items → pass.column < length pass.awaited.items
   pub last : pass.row ≡ length pass.waiting.items → pass.column ≡ 0
 
 -- what was found of await cells, whatever loads come after
-pub record HasAwaits (plan : Plan) (loads : Loads) (pass : OpenPass) : Type 0 where
+pub record HasAwaits (plan : Plan) (loads : PassLoads) (pass : OpenPass) : Type 0 where
   pub loaded : pass.loaded ≡ min (length loads) (length plan.parents)
-  pub waiting : (all : Loads) → Extends all loads → pass.waiting.items ≡ given_below (waiting_found all) pass.loaded
+  pub waiting : (all : PassLoads) → Extends all loads → pass.waiting.items ≡ given_below (waiting_found all) pass.loaded
   pub awaited :
-      (all : Loads) → Extends all loads → pass.loaded ≡ length plan.parents → pass.awaited.items ≡ given_below (awaited_phaser plan all) (length plan.makers)
+      (all : PassLoads) → Extends all loads → pass.loaded ≡ length plan.parents → pass.awaited.items ≡ given_below (awaited_phaser plan all) (length plan.makers)
   pub phasers : All (λ w. w.event.p.0 < length plan.makers) pass.waiting.items
 
 -- what was found of phase cells, whatever loads come after
-pub record HasPhases (plan : Plan) (loads : Loads) (pass : OpenPass) : Type 0 where
+pub record HasPhases (plan : Plan) (loads : PassLoads) (pass : OpenPass) : Type 0 where
   pub place : pass.loaded ≡ length plan.parents → HasPlace plan loads pass
   pub first : pass.loaded < length plan.parents → pass.row ≡ 0 × pass.column ≡ 0
-  pub statuses : (all : Loads) → Extends all loads → pass.statuses ≡ map (status_with plan all) (take pass.row pass.waiting.items)
+  pub statuses : (all : PassLoads) → Extends all loads → pass.statuses ≡ map (status_with plan all) (take pass.row pass.waiting.items)
   pub members :
-      (all : Loads) → Extends all loads → pass.members ≡ row_found plan all (slice_get pass.waiting.items pass.row) (take pass.column pass.awaited.items)
+      (all : PassLoads) → Extends all loads → pass.members ≡ row_found plan all (slice_get pass.waiting.items pass.row) (take pass.column pass.awaited.items)
 
 -- the pass is open after these loads
-pub record IsPassOf (plan : Plan) (loads : Loads) (pass : OpenPass) : Type 0 where
+pub record IsPassOf (plan : Plan) (loads : PassLoads) (pass : OpenPass) : Type 0 where
   pub awaits : HasAwaits plan loads pass
   pub phases : HasPhases plan loads pass
 
@@ -94,7 +94,7 @@ pub record EndsRow (old new : OpenPass) (w : FoundWaiting) : Type 0 where
 
 -- the pass is open, and has loaded all await cells, but not all phase cells
 pub record IsMidPass (plan : Plan) (pass : OpenPass) : Type 0 where
-  pub loads : Loads
+  pub loads : PassLoads
   pub of : IsPassOf plan loads pass
   pub all_awaits : length plan.parents ≤ length loads
   pub not_full : length loads < loads_of plan loads

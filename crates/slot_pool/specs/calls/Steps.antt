@@ -13,7 +13,7 @@ pub record Claimed {R : Type 0} (number_of : R → ℕ) (step : Step (Option R))
       now ≡ (finding step.word found before.0, before.1)
 
 -- the word of a task that is to be placed was found: 0, and its slot, in which nothing is, is the worker's; or another word
-pub record Begun {R : Type 0} (step : Step (Option R)) (before : Me (Option R) PoolView) (found : ℕ) (now : Me (Option R) PoolView) : Type 0 where
+pub record HasBegun {R : Type 0} (step : Step (Option R)) (before : Me (Option R) PoolView) (found : ℕ) (now : Me (Option R) PoolView) : Type 0 where
   pub placed : found ≡ 0 → (Contains before.0.knows step.word → ⊥) × now ≡ (placing step.word before.0, (step.word, None) ∷ before.1)
   pub refused : found ≢ 0 → now ≡ (finding step.word found before.0, before.1)
 

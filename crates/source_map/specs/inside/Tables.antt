@@ -7,11 +7,11 @@ use Rattle.pl_syntax.specs.declared.tree.Stmt.TheVariants as s
 use Rattle.pl_syntax.specs.Tree.{Tree, done, plain, fork, loop, count, new_task, new_phaser, reg, dereg, adv, await, skip}
 use Rattle.pl_plan.specs.Unfolding.{Coming, Visit, a_fork, a_loop, a_plain, visits_of}
 use Rattle.pl_plan.specs.Tests.{of_new_phaser, of_new_task}
-use Rattle.source_map.specs.declared.making.Made.{Made}
-use Rattle.source_map.specs.declared.making.Made.TheVariants.{APhaser, ATask}
+use Rattle.source_map.specs.declared.making.MadeKind.{MadeKind}
+use Rattle.source_map.specs.declared.making.MadeKind.TheVariants.{APhaser, ATask}
 
 -- coming to this makes such a thing
-abbrev pub makes_it : Made → Coming → Bool
+abbrev pub makes_it : MadeKind → Coming → Bool
 makes_it APhaser = of_new_phaser
 makes_it ATask = of_new_task
 

@@ -22,7 +22,7 @@ pub record Telling : Type 0 where
   pub last : List TaskId
 
 -- it watches this board; the tasks of its list are those that its collector has named, each once, and dead at the end of every plain run
-pub record Watches (board : Frame) (live_reporter : Telling) : Type 0 where
+pub record IsWatching (board : Frame) (live_reporter : Telling) : Type 0 where
   pub made : IsOf live_reporter.view board
   pub kept : IsSeat live_reporter.view
   pub viewer : live_reporter.view.view.own ≡ None

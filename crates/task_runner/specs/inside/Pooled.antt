@@ -6,7 +6,7 @@ use Rattle.armus_base.specs.Plans.{Plan, Forks, action_at, actions_of}
 use Rattle.board.specs.declared.mode.Mode.TheVariants.{Detect}
 use Rattle.board.specs.calls.Seats.{Frame, Known}
 use Rattle.board_runs.specs.calls.Turns.{IsChildSeat, Working}
-use Rattle.board_runs.specs.calls.TaskSeats.{IsTaskSeat, done_of, number}
+use Rattle.board_runs.specs.calls.TaskSeats.{IsTaskSeat, done_of, own_number}
 use Rattle.slot_pool.specs.calls.PoolValues.{WorkerValue, IsNumberOf, IsOfPool, IsSameWorker, PoolValue}
 
 -- a board of the first plan
@@ -44,15 +44,15 @@ pub record AreAllWorkers (pool : PoolValue) (workers : List WorkerValue) : Type 
   pub each : (k : ℕ) → k < pool.workers → IsNumberOf workers k
   pub idle : All (λ w. w.view.has ≡ []) workers
 
--- one of these tasks has number t
+-- one of these tasks has own_number t
 abbrev pub ContainsTask : List Working → ℕ → Type 0
-ContainsTask tasks t = (task : Working) × Contains tasks task × number task ≡ t
+ContainsTask tasks t = (task : Working) × Contains tasks task × own_number task ≡ t
 
 -- Task 0 is one of these tasks, and each task that one of them has forked is.
 pub record AreClosedUnderForks (plan : Plan) (tasks : List Working) : Type 0 where
   pub root : ContainsTask tasks 0
   pub forked :
-      (task : Working) → Contains tasks task → (j c : ℕ) → j < done_of task → action_at plan (number task) j ≡ Some (Forks c) → ContainsTask tasks c
+      (task : Working) → Contains tasks task → (j c : ℕ) → j < done_of task → action_at plan (own_number task) j ≡ Some (Forks c) → ContainsTask tasks c
 
 -- each task that is forked among the first actions of this code, so many, is marked
 abbrev pub AreForksMarked : List Op → ℕ → List Bool → Type 0

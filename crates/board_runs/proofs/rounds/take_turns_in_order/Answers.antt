@@ -1,7 +1,7 @@
 use Rattle.std.proofs.Common.{◌≡◌, ◌∙◌, ◌+◌, ◌-◌, ◌<◌, ap, sum_by, [], ◌∷◌, ◌++◌, IfOk, List, map, rules, add-one, length, set, get_or, suc, sym, refl, subst, arith}
 use Rattle.std.proofs.lemmas.List.{length-map}
 use Rattle.std.proofs.lemmas.List.Sums.{sum_by_push}
-use Rattle.board_runs.specs.calls.Turns.{Acts, CountsLoadsOf, EachActs, EndsTurnWithin, MayTakeTurn, Working, by_one_worker, in_32_bits, in_64_bits}
+use Rattle.board_runs.specs.calls.Turns.{MakesActions, CountsLoadsOf, EachActs, EndsTurnWithin, MayTakeTurn, Working, by_one_worker, in_32_bits, in_64_bits}
 use Rattle.board_runs.proofs.Rounding.{IsSoFar, all_each, all_end, at_rest, count_more, ends_by_made, map_get, map_set, next_done, next_is, next_stops, stopped}
 use Rattle.board_runs.proofs.rounds.take_turns_in_order.Goals as goal
 
@@ -25,7 +25,7 @@ returns-in_err-turn g c =
     let less : n < length (map working c.loop-task.tasks) = (let t = c.loop-task-test.true in let s = c.loop-task.auto.tasks in let m = length-map c.loop-task.tasks working in omega arith) in
     let acts = c.in_err-turn.ensures.acts in
     let bad : IfOk c.from_residual.result (λ n. ⊥) = search rules in
-    let now = subst (λ (w : Working). Acts f acts.0 w (working c.turn.new.self)) (sym (map_get working c.loop-task.tasks n d)) acts.1 in
+    let now = subst (λ (w : Working). MakesActions f acts.0 w (working c.turn.new.self)) (sym (map_get working c.loop-task.tasks n d)) acts.1 in
     let stops = next_stops acts.0 (working d) (working c.turn.new.self) c.loop-task.invariant.so_far c.requires.ready less now in
     record {
       turns =
@@ -42,10 +42,10 @@ loop-task-preserved g c =
     let less : n < length (map working c.loop-task.tasks) = (let t = c.loop-task-test.true in let s = c.loop-task.auto.tasks in let m = length-map c.loop-task.tasks working in omega arith) in
     let i = c.loop-task.invariant in
     let acts = c.in_ok-turn.ensures.acts in
-    let now = subst (λ (w : Working). Acts f acts.0 w (working c.turn.new.self)) (sym (map_get working c.loop-task.tasks n d)) acts.1 in
+    let now = subst (λ (w : Working). MakesActions f acts.0 w (working c.turn.new.self)) (sym (map_get working c.loop-task.tasks n d)) acts.1 in
     let was = working (get_or c.loop-task.tasks n d) in
     let is = working c.turn.new.self in
-    let acted : Acts f acts.0 was is = acts.1 in
+    let acted : MakesActions f acts.0 was is = acts.1 in
     let counts : CountsLoadsOf was.seat is.seat c.loop-task.cells c.turn.new.cells = search rules in
     let made = is.seat.view.loads - was.seat.view.loads in
     let more : is.seat.view.loads ≡ was.seat.view.loads + made = (let l = acted.goes.loads in omega arith) in

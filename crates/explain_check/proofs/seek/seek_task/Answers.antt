@@ -1,17 +1,17 @@
 use Rattle.std.proofs.Common.{Ok, [], ◌∷◌, ◌∙◌, sym, subst}
-use Rattle.explain_check.specs.inside.Seeks.{Before, Midst, SoughtVisits, Source, whole}
+use Rattle.explain_check.specs.inside.Seeks.{Before, Midst, SoughtVisits, NamedProgram, whole_body}
 use Rattle.explain_check.proofs.SoughtTasks.{ends_task, task_begins, task_ends, task_idle, task_leaves}
 use Rattle.explain_check.proofs.seek.seek_task.Goals.{In-Some, In_ok-stop}
 use Rattle.explain_check.proofs.seek.seek_task.Goals as goal
 
-begun : (c : In-Some) (g : Source) → Before g c.args.t.0 c.args.seeker.now.checker c.args.seeker.now.notes c.args.seeker.now.last_turns.items →
-    Midst g c.args.t.0 c.in-Some.first c.in-Some.after (whole c.in-Some.first c.in-Some.after ∷ []) c.begin.new.self c.args.seeker.now.notes c.args.seeker.now.last_turns.items
+begun : (c : In-Some) (g : NamedProgram) → Before g c.args.t.0 c.args.seeker.now.checker c.args.seeker.now.notes c.args.seeker.now.last_turns.items →
+    Midst g c.args.t.0 c.in-Some.first c.in-Some.after (whole_body c.in-Some.first c.in-Some.after ∷ []) c.begin.new.self c.args.seeker.now.notes c.args.seeker.now.last_turns.items
 begun c g now =
     task_begins g c.args.t c.args.seeker.now.checker c.args.seeker.now.notes c.args.seeker.now.last_turns.items now c.requires.here c.in-Some.first c.in-Some.after c.begin.new.self
     (sym c.in-Some.is ∙ c.in_ok-first.ensures.range) c.in_ok-first.ensures.begun
 
-visited : (c : In_ok-stop) (g : Source) →
-    Midst g c.args.t.0 c.in-Some.first c.in-Some.after (whole c.in-Some.first c.in-Some.after ∷ []) c.begin.new.self c.args.seeker.now.notes c.args.seeker.now.last_turns.items →
+visited : (c : In_ok-stop) (g : NamedProgram) →
+    Midst g c.args.t.0 c.in-Some.first c.in-Some.after (whole_body c.in-Some.first c.in-Some.after ∷ []) c.begin.new.self c.args.seeker.now.notes c.args.seeker.now.last_turns.items →
     SoughtVisits g c.args.t.0 c.in-Some.first c.in-Some.after (Ok c.in_ok-stop.field-0) c.seek_visits.new.seeker.checker c.seek_visits.new.seeker.notes
     c.seek_visits.new.seeker.last_turns.items
 visited c g m = c.in_ok-stop.ensures g m

@@ -1,12 +1,12 @@
 use Rattle.std.proofs.Common.{[], ◌∷◌, ◌++◌, ◌≡◌, ◌∙◌, Ok, Some, ap, arith, rules, subst, sym, length}
 use Rattle.explain_check.specs.inside.Framed.{next_item}
-use Rattle.explain_check.specs.inside.Seeks.{CameTo, HasMidst, Midst, Source}
+use Rattle.explain_check.specs.inside.Seeks.{CameTo, HasMidst, Midst, NamedProgram}
 use Rattle.explain_check.proofs.SoughtSteps.{frame_small, frame_within, goes_further, item_here, item_names, item_small, midst_idle, midst_on, midst_stop, visits_fall}
 use Rattle.explain_check.proofs.seek.seek_visits.Goals.{In-Some, In-Some-2}
 use Rattle.explain_check.proofs.seek.seek_visits.Goals as goal
 
 -- the frames with the one that was taken away
-now : (c : In-Some) (g : Source) →
+now : (c : In-Some) (g : NamedProgram) →
     Midst g c.args.t.0 c.args.first c.args.after c.frames.frames.items c.frames.seeker.checker c.frames.seeker.notes c.frames.seeker.last_turns.items →
     Midst g c.args.t.0 c.args.first c.args.after (c.pop.new.self.items ++ c.in-Some.frame ∷ []) c.frames.seeker.checker c.frames.seeker.notes c.frames.seeker.last_turns.items
 now c g m = subst (λ fs. Midst g c.args.t.0 c.args.first c.args.after fs c.frames.seeker.checker c.frames.seeker.notes c.frames.seeker.last_turns.items) c.in-Some.ensures.items m

@@ -1,6 +1,6 @@
 use Rattle.std.proofs.Common.{None, refl}
 use Rattle.clock_source_map.specs.ClockOps.{all_op_origins}
-use Rattle.explain_clock.specs.ClockFacts.{TextFacts}
+use Rattle.explain_clock.specs.ClockFacts.{ClockTextValue}
 use Rattle.explain_clock.proofs.KnownTexts.{known_text}
 use Rattle.explain_steps.specs.OpFacts.{written_parts}
 use Rattle.explain_steps.proofs.SteppedThrough.{stepped_clock_run, unfolds_some}
@@ -13,7 +13,7 @@ pub returns : goal.returns
 returns c = record {
   run = λ u is.
       let origins = c.in_ok-layout.layout.origins in
-      let t : TextFacts = record {
+      let t : ClockTextValue = record {
         text = c.args.places.now;
         file = None;
         offsets = c.in_ok-layout.layout.offsets;

@@ -8,7 +8,7 @@ use Rattle.sites.proofs.checking.gather.Goals as goal
 pub returns-in_err-take_site-clause-end : goal.returns-in_err-take_site-clause-end
 returns-in_err-take_site-clause-end g c =
     let i = c.loop-site.invariant in
-    let rows = g.K.Keeps.kept c.args.keeper.now in
+    let rows = g.K.KeepsRows.kept c.args.keeper.now in
     let p = err_from_is_err_and c.from_residual.result c.from_residual.ensures.1 in
     rw (p.1, p.2) (end_first c.args.sites rows c.loop-site.site c.in_err-take_site.field-0.0 c.loop-site-test.true i.none
     (subst (λ r. EndsAtSite c.args.sites r c.loop-site.site c.in_err-take_site.field-0.0) i.rows c.in_err-take_site.ensures.end))
@@ -16,7 +16,7 @@ returns-in_err-take_site-clause-end g c =
 pub loop-site-preserved : goal.loop-site-preserved
 loop-site-preserved g c =
     let i = c.loop-site.invariant in
-    let rows = g.K.Keeps.kept c.args.keeper.now in
+    let rows = g.K.KeepsRows.kept c.args.keeper.now in
     let sites = c.args.sites in
     let n = c.loop-site.site in
     let takes : TakesRow sites n (held rows n) c.loop-site.all.items c.take_site.new.all.items =

@@ -5,8 +5,8 @@ use Rattle.sites.proofs.checking.gather.Given as goal
 abbrev pub invariant-loop-site : goal.invariant-loop-site
 invariant-loop-site g l =
     record {
-      rows : g.K.Keeps.kept l.keeper ≡ g.K.Keeps.kept l.initial.keeper;
-      faults : g.K.Keeps.failures l.keeper ≡ g.K.Keeps.failures l.initial.keeper;
-      gathered : AreGathered l.sites (g.K.Keeps.kept l.initial.keeper) l.site l.all.items;
-      none : NoneBad l.sites (g.K.Keeps.kept l.initial.keeper) l.site;
+      rows : g.K.KeepsRows.kept l.keeper ≡ g.K.KeepsRows.kept l.initial.keeper;
+      faults : g.K.KeepsRows.failures l.keeper ≡ g.K.KeepsRows.failures l.initial.keeper;
+      gathered : AreGathered l.sites (g.K.KeepsRows.kept l.initial.keeper) l.site l.all.items;
+      none : NoneBad l.sites (g.K.KeepsRows.kept l.initial.keeper) l.site;
     }

@@ -11,4 +11,4 @@ bad_at sites site rows (Some row) is bad = (row, sym is, bad)
 
 pub returns-in-Err-Bad-clause-end : goal.returns-in-Err-Bad-clause-end
 returns-in-Err-Bad-clause-end g c =
-    (refl, bad_at c.args.sites c.args.site (g.K.Keeps.kept c.args.keeper.now) c.in-Ok.row c.in-Ok.ensures.found (c.in-Err-Bad.ensures.bad (ap Err c.in-Err-Bad.field-0-is)))
+    (refl, bad_at c.args.sites c.args.site (g.K.KeepsRows.kept c.args.keeper.now) c.in-Ok.row c.in-Ok.ensures.found (c.in-Err-Bad.ensures.bad (ap Err c.in-Err-Bad.field-0-is)))

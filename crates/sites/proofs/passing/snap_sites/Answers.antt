@@ -23,7 +23,7 @@ loop-site-init g c =
     record {
       faults = refl;
       snapped =
-          snapped_none c.args.board.now c.args.sites (map g.V.Snaps.known c.args.views.now) (g.K.Keeps.kept c.args.keeper.now)
+          snapped_none c.args.board.now c.args.sites (map g.V.Snaps.known c.args.views.now) (g.K.KeepsRows.kept c.args.keeper.now)
           (made_of g.V.Snaps.known c.args.views.now c.args.board.now c.requires.views);
     }
 
@@ -40,16 +40,16 @@ loop-site-preserved g c =
     let m = c.snap_site.new.view in
     let i = c.loop-site.invariant in
     let here = viewer_read g (goal.at.loop-site-preserved g c).After-index-views-site in
-    let room : n < length (g.K.Keeps.kept c.loop-site.keeper) = (let l = c.loop-site-test.true in let kept = i.snapped.kept in let have = c.requires.kept in omega arith) in
+    let room : n < length (g.K.KeepsRows.kept c.loop-site.keeper) = (let l = c.loop-site-test.true in let kept = i.snapped.kept in let have = c.requires.kept in omega arith) in
     record {
       faults = c.in_ok-snap_site.ensures.count ∙ i.faults;
       snapped =
-          subst (λ vs. HaveSnapped c.args.board.now c.args.sites (n + 1) (map known c.args.views.now) vs (g.K.Keeps.kept c.args.keeper.now)
-          (g.K.Keeps.kept c.snap_site.new.keeper))
+          subst (λ vs. HaveSnapped c.args.board.now c.args.sites (n + 1) (map known c.args.views.now) vs (g.K.KeepsRows.kept c.args.keeper.now)
+          (g.K.KeepsRows.kept c.snap_site.new.keeper))
           (sym (map-set known views n m))
-          (snapped_more c.args.board.now c.args.sites n (map known c.args.views.now) (map known views) (g.K.Keeps.kept c.args.keeper.now)
-          (g.K.Keeps.kept c.loop-site.keeper) i.snapped
-          (known (get_or views n c.index-views-site.result)) (known m) here c.snap_site.ensures.made c.snap_site.ensures.looked (g.K.Keeps.kept c.snap_site.new.keeper) room
+          (snapped_more c.args.board.now c.args.sites n (map known c.args.views.now) (map known views) (g.K.KeepsRows.kept c.args.keeper.now)
+          (g.K.KeepsRows.kept c.loop-site.keeper) i.snapped
+          (known (get_or views n c.index-views-site.result)) (known m) here c.snap_site.ensures.made c.snap_site.ensures.looked (g.K.KeepsRows.kept c.snap_site.new.keeper) room
           c.in_ok-snap_site.ensures.ok);
     }
 
@@ -61,7 +61,7 @@ returns-in_err-snap_site-clause-looked g c =
     let m = c.snap_site.new.view in
     let here = viewer_read g (goal.at.returns-in_err-snap_site-clause-looked g c).After-index-views-site in
     subst (HaveLookedOn c.args.board.now (map known c.args.views.now)) (sym (map-set known views n m))
-    (looked_more c.args.board.now c.args.sites n (map known c.args.views.now) (map known views) (g.K.Keeps.kept c.args.keeper.now) (g.K.Keeps.kept c.loop-site.keeper)
+    (looked_more c.args.board.now c.args.sites n (map known c.args.views.now) (map known views) (g.K.KeepsRows.kept c.args.keeper.now) (g.K.KeepsRows.kept c.loop-site.keeper)
     c.loop-site.invariant.snapped
     (known (get_or views n c.index-views-site.result)) (known m) here c.snap_site.ensures.made c.snap_site.ensures.looked)
 
@@ -74,9 +74,9 @@ returns-in_err-snap_site-clause-rows g c =
     let plan = c.args.board.now.plan in
     let here = viewer_read g (goal.at.returns-in_err-snap_site-clause-rows g c).After-index-views-site in
     let counted = sym (length_map known views ∙ c.loop-site.auto.views ∙ c.requires.sites) in
-    subst (λ new. ChangesRows plan (g.K.Keeps.kept c.args.keeper.now) new (map known (set views n m))) (sym c.in_err-snap_site.ensures.err)
-    (subst (ChangesRows plan (g.K.Keeps.kept c.args.keeper.now) (g.K.Keeps.kept c.loop-site.keeper)) (sym (map-set known views n m))
-    (rows_more c.args.board.now c.args.sites n (map known c.args.views.now) (map known views) (g.K.Keeps.kept c.args.keeper.now) (g.K.Keeps.kept c.loop-site.keeper)
+    subst (λ new. ChangesRows plan (g.K.KeepsRows.kept c.args.keeper.now) new (map known (set views n m))) (sym c.in_err-snap_site.ensures.err)
+    (subst (ChangesRows plan (g.K.KeepsRows.kept c.args.keeper.now) (g.K.KeepsRows.kept c.loop-site.keeper)) (sym (map-set known views n m))
+    (rows_more c.args.board.now c.args.sites n (map known c.args.views.now) (map known views) (g.K.KeepsRows.kept c.args.keeper.now) (g.K.KeepsRows.kept c.loop-site.keeper)
     c.loop-site.invariant.snapped
     (known (get_or views n c.index-views-site.result)) (known m) here c.snap_site.ensures.made c.snap_site.ensures.looked counted))
 
@@ -86,8 +86,8 @@ returns g c =
     let views = c.loop-site.views in
     let i = c.loop-site.invariant in
     let f = c.args.board.now in
-    let old = g.K.Keeps.kept c.args.keeper.now in
-    let new = g.K.Keeps.kept c.loop-site.keeper in
+    let old = g.K.KeepsRows.kept c.args.keeper.now in
+    let new = g.K.KeepsRows.kept c.loop-site.keeper in
     let same : c.loop-site.site ≡ c.args.sites = (let le = c.loop-site-test.false in let ge = c.loop-site.auto.site-end in omega arith) in
     let counted = sym (length_map known views ∙ c.loop-site.auto.views ∙ c.requires.sites) in
     let done = subst (λ k. HaveSnapped f c.args.sites k (map known c.args.views.now) (map known views) old new) same i.snapped in

@@ -6,7 +6,7 @@ use Rattle.pl_core.specs.declared.place.Place.{Place as KeptPlace}
 use Rattle.pl_core.specs.calls.Worlds.{places_at}
 use Rattle.board.specs.calls.Seats.{Frame}
 use Rattle.board_runs.specs.calls.Turns.{Working}
-use Rattle.board_runs.specs.calls.TaskSeats.{ArePlacesOf, IsTaskSeat, number}
+use Rattle.board_runs.specs.calls.TaskSeats.{ArePlacesOf, IsTaskSeat, own_number}
 use Rattle.task_runner.specs.inside.Pooled.{AreClosedUnderForks}
 use Rattle.board_runs.proofs.Noting.{noted_more}
 use Rattle.task_runner.proofs.PoolEnds.{plain_places, reachable_places}
@@ -53,13 +53,13 @@ pub note_places-requires : goal.note_places-requires
 note_places-requires g c =
     let count : length c.args.run.board.plan.parents ≡ length c.in_ok-places.places.items =
     ap (λ (q : Plan). length q.parents) c.requires.board.0 ∙ sym c.in_ok-places.ensures.places.one_each in
-    subst (λ (ws : List Working). All (λ (w : Working). number w < length c.in_ok-places.places.items) ws) (sym c.as_slice.ensures.value)
+    subst (λ (ws : List Working). All (λ (w : Working). own_number w < length c.in_ok-places.places.items) ws) (sym c.as_slice.ensures.value)
     (pooled_within c.args.run.board c.args.tasks.items c.requires.tasks (length c.in_ok-places.places.items) count)
 
 pub are_whole-requires : goal.are_whole-requires
 are_whole-requires g c = record {
   within =
-      subst (λ (ws : List Working). All (λ (w : Working). number w < length c.args.run.plan.now.parents) ws) (sym c.as_slice-2.ensures.value)
+      subst (λ (ws : List Working). All (λ (w : Working). own_number w < length c.args.run.plan.now.parents) ws) (sym c.as_slice-2.ensures.value)
       (pooled_within c.args.run.board c.args.tasks.items c.requires.tasks (length c.args.run.plan.now.parents) (ap (λ (q : Plan). length q.parents) c.requires.board.0));
 }
 

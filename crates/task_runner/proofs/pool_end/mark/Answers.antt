@@ -2,7 +2,7 @@ use Rattle.std.proofs.Common.{◌≡◌, ◌∙◌, ◌⊎◌, ◌∷◌, ◌++�
 use Rattle.std.specs.Prelude.{slice_get, unwrap_or}
 use Rattle.std.proofs.lemmas.List.{length-set, take_more}
 use Rattle.board_runs.specs.calls.Turns.{Working}
-use Rattle.board_runs.specs.calls.TaskSeats.{number}
+use Rattle.board_runs.specs.calls.TaskSeats.{own_number}
 use Rattle.task_runner.specs.inside.Pooled.{ContainsTask}
 use Rattle.task_runner.proofs.ForksInHand.{one_marked}
 use Rattle.task_runner.proofs.pool_end.mark.Goals as goal
@@ -15,8 +15,8 @@ loop-task-preserved c =
     let marks = c.loop-task.marks.items in
     let grown = take_more c.args.tasks.now n w c.loop-task-test.true in
     let is : w ≡ get_or c.args.tasks.now n w = c.task-item.is in
-    let here : c.id.result.0 ≡ number w = sym (ap (λ o. unwrap_or o 0) c.id.ensures) in
-    let inside : number w < length c.args.marks.now.items = subst (λ (v : Working). number v < length c.args.marks.now.items) (sym is) (c.requires n w c.loop-task-test.true) in
+    let here : c.id.result.0 ≡ own_number w = sym (ap (λ o. unwrap_or o 0) c.id.ensures) in
+    let inside : own_number w < length c.args.marks.now.items = subst (λ (v : Working). own_number v < length c.args.marks.now.items) (sym is) (c.requires n w c.loop-task-test.true) in
     let within : c.id.result.0 < length marks = (let f = before.0 in omega arith) in (
       length-set marks c.id.result.0 true ∙ before.0,
       subst (λ (ws : List Working). (t : ℕ) → slice_get (set marks c.id.result.0 true) t ≡ Some true → ContainsTask ws t ⊎ (slice_get c.args.marks.now.items t ≡ Some true))

@@ -2,7 +2,7 @@ use Rattle.std.proofs.Common.{◌≡◌, ◌∙◌, ◌<◌, All, [], List, leng
 use Rattle.armus_base.specs.Plans.{Plan}
 use Rattle.pl_core.specs.declared.place.Place.{Place as KeptPlace}
 use Rattle.board_runs.specs.calls.Turns.{Working}
-use Rattle.board_runs.specs.calls.TaskSeats.{ArePlacesOf, AreTasksOf, Tasks, all_of, number}
+use Rattle.board_runs.specs.calls.TaskSeats.{ArePlacesOf, AreTasksOf, Tasks, all_of, own_number}
 use Rattle.board_runs.specs.calls.Endings.{NotesPlaces}
 use Rattle.board_runs.proofs.Noting.{noted_more}
 use Rattle.board_runs.proofs.Rejoining.{both_within}
@@ -12,14 +12,14 @@ pub note_places-requires : goal.note_places-requires
 note_places-requires c =
     let count : length c.args.board.now.plan.parents ≡ length c.in_ok-places.places.items =
     ap (λ (q : Plan). length q.parents) c.requires.plan ∙ sym c.in_ok-places.ensures.places.one_each in
-    subst (λ (ws : List Working). All (λ (w : Working). number w < length c.in_ok-places.places.items) ws) (sym c.as_slice.ensures.value)
+    subst (λ (ws : List Working). All (λ (w : Working). own_number w < length c.in_ok-places.places.items) ws) (sym c.as_slice.ensures.value)
     (both_within c.args.board.now (record { live = c.self.inside.live.items; ended = c.self.inside.ended.items }) (subst (AreTasksOf c.args.board.now) (sym c.self.view_is) c.requires.tasks) (length c.in_ok-places.places.items) count).0
 
 pub note_places-requires-2 : goal.note_places-requires-2
 note_places-requires-2 c =
     let count : length c.args.board.now.plan.parents ≡ length c.note_places.new.places.items =
     ap (λ (q : Plan). length q.parents) c.requires.plan ∙ sym (c.note_places.ensures.count ∙ c.in_ok-places.ensures.places.one_each) in
-    subst (λ (ws : List Working). All (λ (w : Working). number w < length c.note_places.new.places.items) ws) (sym c.as_slice-2.ensures.value)
+    subst (λ (ws : List Working). All (λ (w : Working). own_number w < length c.note_places.new.places.items) ws) (sym c.as_slice-2.ensures.value)
     (both_within c.args.board.now (record { live = c.self.inside.live.items; ended = c.self.inside.ended.items }) (subst (AreTasksOf c.args.board.now) (sym c.self.view_is) c.requires.tasks) (length c.note_places.new.places.items) count).1
 
 pub returns : goal.returns

@@ -4,7 +4,7 @@ use Rattle.board.specs.calls.Seats.{IsOf, IsSeat, event_of}
 use Rattle.board.proofs.Walking.{IsBefore, before_next, before_of_plan, is_before, left_behind, next_left}
 use Rattle.board_runs.specs.inside.Attempts.{BeginsOp}
 use Rattle.board_runs.specs.inside.Tasks.{HasCome, MakesSome}
-use Rattle.board_runs.specs.calls.Turns.{Acts, EndsTurn, Working, is_done, is_refused}
+use Rattle.board_runs.specs.calls.Turns.{MakesActions, EndsTurn, Working, is_done, is_refused}
 use Rattle.board_runs.proofs.Goings.{acts_itself}
 use Rattle.board_runs.proofs.Halting.{ends_done, left_free, no_event}
 use Rattle.board_runs.proofs.Onward.{begun_come, begun_fits, begun_makes, locked_out, nothing_acts, refused_come, refused_fits, refused_makes}
@@ -56,7 +56,7 @@ returns-in_err-begin-clause-err g c =
     let at = (goal.at.returns-in_err-begin-clause-err g c).In-Some in
     let e = c.in_err-begin.ensures in
     failed c.from_residual.result _
-    (subst (λ (w : Working). Acts c.args.setting.now.board.now [] w (record { seat = c.begin.new.seat; children = c.begin.new.children.items })) c.self.view_is
+    (subst (λ (w : Working). MakesActions c.args.setting.now.board.now [] w (record { seat = c.begin.new.seat; children = c.begin.new.children.items })) c.self.view_is
     (nothing_acts c.args.setting.now.board.now c.self.inside.cursor c.self.inside.actions c.self.inside.seat c.begin.new.seat c.self.inside.children.items
     c.begin.new.children.items c.in-Some.op _ (come g at) (before g at) e.same_children e.same))
 
@@ -67,7 +67,7 @@ returns-in-LockedOut-clause-none g c = λ _.
     let tried = subst (λ a. BeginsOp c.in-Some.op c.self.inside.seat c.begin.new.seat a) c.in-LockedOut.is c.in_ok-begin.ensures.begins in
     let r = locked_out c.args.setting.now.board.now c.self.inside.cursor c.self.inside.actions c.self.inside.seat c.begin.new.seat c.self.inside.children.items
     c.begin.new.children.items c.in-Some.op _ (come g at) (before g at) new.0 new.1 new.2 tried in
-    let both = subst (λ (w : Working). Acts c.args.setting.now.board.now [] w (record { seat = c.begin.new.seat; children = c.begin.new.children.items }) × EndsTurn w.seat c.begin.new.seat)
+    let both = subst (λ (w : Working). MakesActions c.args.setting.now.board.now [] w (record { seat = c.begin.new.seat; children = c.begin.new.children.items }) × EndsTurn w.seat c.begin.new.seat)
     c.self.view_is r.0 in
     (both.0, inl both.1)
 

@@ -2,7 +2,7 @@ use Rattle.std.proofs.Common.{◌∙◌, [], arith, refl, ap, subst, sym}
 use Rattle.std.specs.Prelude.{IsSome}
 use Rattle.board.specs.calls.Seats.{event_of}
 use Rattle.board.specs.calls.Views.{own_place}
-use Rattle.board_runs.specs.calls.Turns.{Acts, EndsTurn, Working}
+use Rattle.board_runs.specs.calls.Turns.{MakesActions, EndsTurn, Working}
 use Rattle.board_runs.specs.inside.Tasks.{MakesSome}
 use Rattle.board_runs.proofs.Goings.{acts_alone, goes_loads}
 use Rattle.board_runs.proofs.Halting.{ends_behind}
@@ -27,7 +27,7 @@ pub returns-in-Behind-clause-none : goal.returns-in-Behind-clause-none
 returns-in-Behind-clause-none c = λ _.
     let goes = c.look_by.ensures.goes_on in
     let cs = c.self.inside.children.items in (
-      subst (λ (w : Working). Acts c.args.board.now [] w (record { seat = c.look_by.new.seat; children = cs })) c.self.view_is
+      subst (λ (w : Working). MakesActions c.args.board.now [] w (record { seat = c.look_by.new.seat; children = cs })) c.self.view_is
           (acts_alone c.args.board.now [] c.self.inside.seat c.look_by.new.seat cs refl (goes_loads c.self.inside.seat c.look_by.new.seat c.id.result.0 c.id.ensures.task c.id.ensures.seat goes) (λ _. refl)),
       subst (λ (w : Working). EndsTurn w.seat c.look_by.new.seat) c.self.view_is (ends_behind c.self.inside.seat c.look_by.new.seat c.in-Behind.t.0 c.in-Behind.phase c.id.ensures.seat goes c.in-Behind.ensures.answer),
     )

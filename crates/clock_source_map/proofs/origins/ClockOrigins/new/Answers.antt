@@ -2,7 +2,7 @@ use Rattle.std.proofs.Common.{[], ◌∷◌, ◌++◌, ap, arith, sym, subst, �
 use Rattle.clock_semantics.specs.Unfolding.{ClockUnfolding}
 use Rattle.clock_source_map.specs.ClockOrigins.{StartedActivity}
 use Rattle.clock_source_map.specs.calls.Values.{AreOriginsOf, OriginsValue}
-use Rattle.clock_source_map.specs.inside.Notes.{NotesValue}
+use Rattle.clock_source_map.specs.inside.VisitNotes.{NotesValue}
 use Rattle.clock_source_map.proofs.Walked.{same_unfolding, walked_end, walked_few, walked_next, walked_start}
 use Rattle.clock_source_map.proofs.origins.ClockOrigins.new.Goals as goal
 

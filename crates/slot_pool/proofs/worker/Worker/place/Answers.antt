@@ -4,7 +4,7 @@ use mathlib.Core.Option.{none}
 use Rattle.atomic_table.specs.Seated.{TableId}
 use Rattle.atomic_table.specs.Table.{Allows, step}
 use Rattle.slot_pool.specs.inside.Rule.{PoolHolds}
-use Rattle.slot_pool.specs.calls.Steps.{Begun}
+use Rattle.slot_pool.specs.calls.Steps.{HasBegun}
 use Rattle.slot_pool.proofs.Claiming.{begins}
 use Rattle.slot_pool.proofs.Standing.{at_table, found_at_work, placing_at_work}
 use Rattle.slot_pool.proofs.worker.Worker.place.Goals as goal
@@ -20,7 +20,7 @@ compare_exchange-found-requires g c =
     let me = c.self.inside.place.me in (
       table,
       within,
-      subst (λ k. Allows (PoolHolds g.R.Named.number key) slots id me t (λ n. either (eqb n 0) (k + 2) n) (Begun (step slots t 0 (k + 2) none) me)) (sym c.from-mine.ensures)
+      subst (λ k. Allows (PoolHolds g.R.Named.number key) slots id me t (λ n. either (eqb n 0) (k + 2) n) (HasBegun (step slots t 0 (k + 2) none) me)) (sym c.from-mine.ensures)
           (begins g.R.Named.number key slots id c.self.inside.number t me c.self.invariant.0.alone small),
     )
 

@@ -2,7 +2,7 @@ use Rattle.std.proofs.Common.{◌≡◌, ◌++◌, ◌∙◌, List, sym, ap, sub
 use Rattle.armus_base.specs.declared.status.Dead.{Dead}
 use Rattle.board.specs.calls.Seats.{Known}
 use Rattle.report.specs.Live.{live_text}
-use Rattle.task_runner.specs.inside.LiveReporters.{HasPassed, Telling, Watches}
+use Rattle.task_runner.specs.inside.LiveReporters.{HasPassed, Telling, IsWatching}
 use Rattle.task_runner.proofs.TellingMore.{watches_more}
 use Rattle.task_runner.proofs.live_reporter.LiveReporter.name.Goals as goal
 
@@ -11,9 +11,9 @@ returns-clause-watches c =
     let w : Telling = record { collector = c.self.inside.collector; view = c.self.inside.view; dead = c.self.inside.dead.items; last = c.self.inside.last } in
     let items : c.append.new.self.items ≡ c.self.inside.dead.items ++ c.in_ok-dead.field-0.fresh = search rules in
     let p = c.pass.ensures in
-    subst (λ (ds : List Dead). Watches c.args.board.now (record { collector = c.pass.new.self; view = c.pass.new.view; dead = ds; last = c.in_ok-dead.field-0.dead })) (sym items)
+    subst (λ (ds : List Dead). IsWatching c.args.board.now (record { collector = c.pass.new.self; view = c.pass.new.view; dead = ds; last = c.in_ok-dead.field-0.dead })) (sym items)
     (watches_more c.args.board.now w c.pass.new.view c.pass.new.self c.pass.new.self.statuses c.in_ok-dead.field-0 c.in_ok-dead.field-0.dead c.requires.detects
-    (subst (Watches c.args.board.now) (sym c.self.view_is) c.requires.watches) p.collected.goes_on p.collected.collect c.in_ok-dead.ensures.pass.verdict c.in_ok-dead.ensures.pass.named p.tasks p.phasers)
+    (subst (IsWatching c.args.board.now) (sym c.self.view_is) c.requires.watches) p.collected.goes_on p.collected.collect c.in_ok-dead.ensures.pass.verdict c.in_ok-dead.ensures.pass.named p.tasks p.phasers)
 
 pub returns-clause-named : goal.returns-clause-named
 returns-clause-named c =

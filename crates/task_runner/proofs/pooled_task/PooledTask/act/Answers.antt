@@ -1,7 +1,7 @@
 use Rattle.std.proofs.Common.{◌∙◌, sym, subst}
 use Rattle.std.specs.Prelude.{All}
 use Rattle.board.specs.calls.Seats.{Frame, IsOf}
-use Rattle.board_runs.specs.calls.Turns.{Acts}
+use Rattle.board_runs.specs.calls.Turns.{MakesActions}
 use Rattle.board_runs.specs.calls.TaskSeats.{IsTaskSeat}
 use Rattle.task_runner.specs.inside.Pooled.{IsForked}
 use Rattle.task_runner.proofs.PooledTasks.{acted, forked}
@@ -16,7 +16,7 @@ invariant_of-self g c =
     record {
       seat =
           acted g.N.BoardName.board a.0 c.self.inside.task c.act.new.self c.self.invariant
-          (subst (λ (f : Frame). Acts f a.0 c.self.inside.task c.act.new.self) c.requires.board a.1);
+          (subst (λ (f : Frame). MakesActions f a.0 c.self.inside.task c.act.new.self) c.requires.board a.1);
       no_child = c.in_err-acted.ensures.nobody ∙ c.self.invariant.no_child;
     }
 
@@ -27,7 +27,7 @@ invariant_of-self-2 g c =
       seat =
           subst (IsTaskSeat g.N.BoardName.board) (sym c.take_children.ensures.seat)
           (acted g.N.BoardName.board a.0 c.self.inside.task c.act.new.self c.self.invariant
-          (subst (λ (f : Frame). Acts f a.0 c.self.inside.task c.act.new.self) c.requires.board a.1));
+          (subst (λ (f : Frame). MakesActions f a.0 c.self.inside.task c.act.new.self) c.requires.board a.1));
       no_child = c.take_children.ensures.none;
     }
 
@@ -36,4 +36,4 @@ last_of-requires-clause-forked g c =
     let a = c.in_ok-acted.ensures.acts in
     subst (All (IsForked g.N.BoardName.board)) (sym (c.into_vec-seats.ensures.items ∙ c.take_children.ensures.children))
     (forked g.N.BoardName.board a.0 c.self.inside.task c.act.new.self c.self.invariant
-    (subst (λ (f : Frame). Acts f a.0 c.self.inside.task c.act.new.self) c.requires.board a.1))
+    (subst (λ (f : Frame). MakesActions f a.0 c.self.inside.task c.act.new.self) c.requires.board a.1))
