@@ -18,6 +18,7 @@ use Rattle.pl_plan.specs.calls.Forks.{GivesUnfolded}
 use Rattle.pl_plan.specs.calls.Planning.{GivesOutcome}
 use Rattle.pl_plan.specs.declared.planning.Unfolded.{Unfolded}
 use Rattle.pl_plan.specs.Unfolding.{UnfoldingState, Start, ◌>>=◌, opening_state, unfold_tasks, plan_of, with_pieces}
+use Rattle.pl_plan.specs.inside.Visited.{GivesVisited}
 use Rattle.pl_plan.specs.inside.Shows.{ShowsState, MaybeStartShows, StartShows, IsNumbering, WhereUnfolded}
 
 pub opens : (spelling : ℕ → List ℕ) (steps : List Step) (names : ℕ) (k : Checker) (tree : Tree) → IsOpeningChecker steps names k → IsNumbering names spelling →
@@ -70,9 +71,13 @@ unfolding plan_of
 plan_fault program ends.NoMemory shows g r is = subst (λ z. GivesOutcome z (plan_of program)) (sym is) tt
 plan_fault program (ends.Check f) shows g r is = subst (λ z. GivesOutcome z (plan_of program)) (sym is) (ap (λ o. o >>= λ s. Ok (with_pieces s)) g)
 
-pub unfold_fault : (program : Program) (e : PlanEnd) (shows : UnfoldingState → Type 0) →
-    WhereUnfolded {A = Unit {0}} (Err e) (unfold_tasks program.two max_tasks 0 (opening_state program.body)) shows → (r : Result Unfolded PlanEnd) → r ≡ Err e →
-    GivesUnfolded r program
+pub visited_fault : (program : Program) (e : PlanEnd) (shows : UnfoldingState → Type 0) →
+    WhereUnfolded {A = Unit {0}} (Err e) (unfold_tasks program.two max_tasks 0 (opening_state program.body)) shows → (r : Result Checker PlanEnd) → r ≡ Err e →
+    GivesVisited r program
 unfolding plan_of
-unfold_fault program ends.NoMemory shows g r is = subst (λ z. GivesUnfolded z program) (sym is) tt
-unfold_fault program (ends.Check f) shows g r is = subst (λ z. GivesUnfolded z program) (sym is) (ap (λ o. o >>= λ s. Ok (with_pieces s)) g)
+visited_fault program ends.NoMemory shows g r is = subst (λ z. GivesVisited z program) (sym is) tt
+visited_fault program (ends.Check f) shows g r is = subst (λ z. GivesVisited z program) (sym is) (ap (λ o. o >>= λ s. Ok (with_pieces s)) g)
+
+pub unfold_fault : (program : Program) (e : PlanEnd) → GivesVisited (Err e) program → (r : Result Unfolded PlanEnd) → r ≡ Err e → GivesUnfolded r program
+unfold_fault program ends.NoMemory g r is = subst (λ z. GivesUnfolded z program) (sym is) tt
+unfold_fault program (ends.Check f) g r is = subst (λ z. GivesUnfolded z program) (sym is) g

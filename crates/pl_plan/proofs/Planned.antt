@@ -18,7 +18,7 @@ use Rattle.pl_syntax.specs.Tree.{Tree, count, height}
 use Rattle.pl_plan.specs.declared.step.Step.{Step}
 use Rattle.pl_plan.specs.inside.Steps.{IsSpelled}
 use Rattle.pl_plan.specs.inside.Numbers.{spelling}
-use Rattle.pl_plan.specs.inside.Flattening.{AddsSteps}
+use Rattle.pl_plan.specs.inside.Flattening.{AddsSteps, AreStepsOf}
 use Rattle.pl_plan.specs.inside.Checker.{Checker, CheckerStart, IsChecker, StartFits}
 use Rattle.pl_plan.specs.inside.FoldsSteps.{AreFolded, CanBeFolded, HasTreeAt, SpellStarts, SpellsStart, pieces_by}
 use Rattle.pl_plan.specs.inside.Opening.{IsOpeningChecker}
@@ -31,27 +31,32 @@ use Rattle.pl_plan.proofs.Spelled.{spelled_count, spelled_few, spelled_near}
 use Rattle.pl_plan.proofs.Opens.{opens, plan_found}
 use Rattle.pl_plan.proofs.UnfoldedIsChecked.{unfolded_is_checked}
 
--- as many steps as statements
-pub as_many_steps : (a b : List (Bor (List ℕ))) (old steps : List Step) (tree : Tree) → old ≡ [] → AddsSteps a b old steps tree → length steps ≡ count tree
-as_many_steps a b old steps tree empty adds =
-    omega (arith, spelled_count (length b) (spelling b) steps (length old) tree (length steps) adds.spelled, ap length empty)
+-- the steps that a body adds to none are its own
+pub flattened_alone : (a b : List (Bor (List ℕ))) (old steps : List Step) (tree : Tree) (names : ℕ) → old ≡ [] → names ≡ length b → AddsSteps a b old steps tree →
+    AreStepsOf steps names tree
+flattened_alone a b old steps tree names empty many adds = record {
+  spelling = spelling b;
+  distinct = subst (λ n. IsNumbering n (spelling b)) (sym many) adds.distinct;
+  spelled = subst (λ n. IsSpelled n (spelling b) steps 0 tree (length steps)) (sym many)
+      (subst (λ z. IsSpelled (length b) (spelling b) steps z tree (length steps)) (ap length empty) adds.spelled);
+}
 
--- what is kept first shows the state before the first visit
-pub opens_flat :
-    (a b : List (Bor (List ℕ))) (old steps : List Step) (tree : Tree) (names : ℕ) (k : Checker) → old ≡ [] → names ≡ length b → AddsSteps a b old steps tree →
-    IsOpeningChecker steps names k → ShowsState (spelling b) k (opening_state tree)
-opens_flat a b old steps tree names k empty many adds o =
-    opens (spelling b) steps names k tree o (subst (λ n. IsNumbering n (spelling b)) (sym many) adds.distinct)
-    (subst (λ n. IsSpelled n (spelling b) steps 0 tree (length steps)) (sym many)
-    (subst (λ z. IsSpelled (length b) (spelling b) steps z tree (length steps)) (ap length empty) adds.spelled))
+module _ {steps : List Step} {names : ℕ} {tree : Tree} (flat : AreStepsOf steps names tree) where
+  -- as many steps as statements
+  pub as_many_steps : length steps ≡ count tree
+  as_many_steps = omega (arith, spelled_count names flat.spelling steps 0 tree (length steps) flat.spelled)
 
--- no await of a tree whose steps were added looks farther than it may
-pub added_near : {a b : List (Bor (List ℕ))} {old steps : List Step} {tree : Tree} → AddsSteps a b old steps tree → AreNear tree
-added_near {a} {b} {old} {steps} {tree} adds = spelled_near (length b) (spelling b) steps (length old) tree (length steps) adds.spelled
+  -- what is kept first shows the state before the first visit
+  pub opens_flat : (k : Checker) → IsOpeningChecker steps names k → ShowsState flat.spelling k (opening_state tree)
+  opens_flat k o = opens flat.spelling steps names k tree o flat.distinct flat.spelled
 
--- and no loop of it has too many turns
-pub added_few : {a b : List (Bor (List ℕ))} {old steps : List Step} {tree : Tree} → AddsSteps a b old steps tree → HasFewTurns tree
-added_few {a} {b} {old} {steps} {tree} adds = spelled_few (length b) (spelling b) steps (length old) tree (length steps) adds.spelled
+  -- no await looks farther than it may
+  pub flat_near : AreNear tree
+  flat_near = spelled_near names flat.spelling steps 0 tree (length steps) flat.spelled
+
+  -- and no loop has too many turns
+  pub flat_few : HasFewTurns tree
+  flat_few = spelled_few names flat.spelling steps 0 tree (length steps) flat.spelled
 
 -- ---- what is kept last
 

@@ -8,3 +8,4 @@ pub mod Opening
 pub mod Flattening
 pub mod FoldsSteps
 pub mod KeptForks
+pub mod Visited

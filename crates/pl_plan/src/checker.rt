@@ -4,7 +4,7 @@ ghost use Rattle.std.specs.Prelude.{◌≡◌, ◌+◌, ◌*◌, ◌<◌, ◌≤
 ghost use Rattle.pl_plan.specs.inside.Steps.{step_at};
 ghost use Rattle.pl_plan.specs.inside.Opening.{IsOpeningChecker};
 ghost use Rattle.pl_plan.specs.declared.step.Thing.TheVariants.{Nothing};
-ghost use Rattle.pl_plan.specs.inside.Checker.{Checker as CheckerValue, IsChecker, IsThings, slot_of, thing_at, slotted, with_thing, with_task, with_maker, pushed, with_membership, started, with_start_things, range_of};
+ghost use Rattle.pl_plan.specs.inside.Checker.{Checker as CheckerValue, IsChecker, IsThings, slot_of, thing_at, slotted, with_thing, with_task, with_maker, pushed, with_membership, started, padded, with_start_things, range_of};
 ghost use Rattle.pl_plan.specs.inside.CheckerSteps.{member};
 ghost use Rattle.pl_plan.specs.inside.KeptForks.{kept_fork};
 
@@ -297,11 +297,7 @@ impl Checker {
         match &self.starts[t.0 as usize] {
             None => Ok(None),
             Some(start) => {
-                let mut things = Vec::from_slice(alloc, &start.things)?;
-                let left = MAX_SLOTS - things.len();
-                if things.extend_from_slice(&no_things(alloc, left)?).is_err() {
-                    return Err(AllocError);
-                }
+                let things = padded(alloc, &start.things)?;
                 let range = (start.first, start.after);
                 self.bindings.things = things;
                 self.bindings.shared = None;
@@ -369,6 +365,19 @@ impl Checker {
             starts: self.starts,
         }
     }
+}
+
+// These things, and nothing in each slot behind them.
+fn padded(alloc: Global, things: &[Thing]) -> Result<Vec<Thing>, AllocError>
+    requires { length things.now ≤ MAX_TASKS + MAX_PHASERS }
+    ensures { IfOk result (λ v. v.items ≡ padded things.now) }
+{
+    let mut all = Vec::from_slice(alloc, things)?;
+    let free = no_things(alloc, MAX_SLOTS - things.len())?;
+    if all.extend_from_slice(&free).is_err() {
+        return Err(AllocError);
+    }
+    Ok(all)
 }
 
 // Slots with nothing in them.

@@ -5,8 +5,10 @@ ghost use Rattle.pl_syntax.specs.Tree.{count, height};
 ghost use Rattle.pl_plan.specs.Unfolding.{plan_of};
 ghost use Rattle.pl_plan.specs.calls.Planning.{GivesOutcome};
 ghost use Rattle.pl_plan.specs.calls.Forks.{GivesUnfolded};
+ghost use Rattle.pl_plan.specs.inside.Flattening.{AreStepsOf};
 ghost use Rattle.pl_plan.specs.inside.FoldsSteps.{AreFolded, CanBeFolded};
 ghost use Rattle.pl_plan.specs.inside.KeptForks.{kept_fork};
+ghost use Rattle.pl_plan.specs.inside.Visited.{GivesVisited};
 
 use crate::checker::{Checker, Parts, Start};
 use crate::fault::PlanEnd;
@@ -16,7 +18,7 @@ use crate::step::Step;
 use crate::tasks::unfold_tasks;
 use armus_base::{Code, List, NoMemory, Op, Plan};
 use indexmap::IndexSet;
-use pl_syntax::{MAX_OPEN_BRACES, Program};
+use pl_syntax::{Body, MAX_OPEN_BRACES, Program};
 use std::alloc::Global;
 
 // The codes of the tasks. Each list of ops is let go as soon as it is folded.
@@ -68,6 +70,28 @@ fn fork_numbers(alloc: Global, starts: &[Option<Start>]) -> Result<Vec<Option<u3
     Ok(forks)
 }
 
+// The flat steps of a body, and how many names it has.
+fn flat_steps(alloc: Global, body: &Body) -> Result<(Vec<Step>, usize), NoMemory>
+    requires { count body.now < 2 ^ 32 }
+    ensures { IfOk result (λ r. AreStepsOf r.0.items r.1 body.now) }
+{
+    let mut names = IndexSet::new(alloc);
+    let mut steps = Vec::new(alloc);
+    flatten_body(&mut names, &mut steps, body)?;
+    Ok((steps, names.len()))
+}
+
+// What the checker keeps behind the last visit of a program, or the program's first fault.
+fn visited(alloc: Global, program: &Program) -> Result<Checker, PlanEnd>
+    requires { count program.now.body < 2 ^ 32 }
+    ensures { GivesVisited result program.now }
+{
+    let (steps, names) = flat_steps(alloc, &program.body)?;
+    let mut checker = Checker::new(alloc, steps, names)?;
+    unfold_tasks(alloc, &mut checker, program.two)?;
+    Ok(checker)
+}
+
 /// The plan to which a program unfolds, with the statements that fork its tasks; or its first check fault.
 ///
 /// Tasks are unfolded in order of their numbers, from task 0 with the whole program. `Check` comes exactly where the unfolding has a fault, with the
@@ -79,11 +103,7 @@ pub fn unfold(alloc: Global, program: &Program) -> Result<Unfolded, PlanEnd>
     requires shallow { height program.now.body ≤ MAX_OPEN_BRACES }
     ensures unfolded { GivesUnfolded result program.now }
 {
-    let mut names = IndexSet::new(alloc);
-    let mut steps = Vec::new(alloc);
-    flatten_body(&mut names, &mut steps, &program.body)?;
-    let mut checker = Checker::new(alloc, steps, names.len())?;
-    unfold_tasks(alloc, &mut checker, program.two)?;
+    let checker = visited(alloc, program)?;
     let Parts {
         steps,
         parents,

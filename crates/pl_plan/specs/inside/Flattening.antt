@@ -13,3 +13,9 @@ pub record AddsSteps (old_names new_names : List (Bor (List ℕ))) (old new : Li
   pub distinct : IsNumbering (length new_names) (spelling new_names)
   pub added : (steps : List Step) × (new ≡ old ++ steps)
   pub spelled : IsSpelled (length new_names) (spelling new_names) new (length old) tree (length new)
+
+-- the steps spell the tree, with so many names
+pub record AreStepsOf (steps : List Step) (names : ℕ) (tree : Tree) : Type 0 where
+  pub spelling : ℕ → List ℕ
+  pub distinct : IsNumbering names spelling
+  pub spelled : IsSpelled names spelling steps 0 tree (length steps)
