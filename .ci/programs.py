@@ -5,6 +5,9 @@ than what it is made from; `built` takes bin/NAME, which ./build leaves without 
 else one of ./build; each script that runs programs says in its first line which it has."""
 import difflib, functools, os, re, subprocess, sys
 
+# the programs of this repository; one whose crate is not there is passed over
+PROGRAMS = ['armus', 'armus_explain', 'armus_monitor']
+
 TOP = os.path.abspath(os.path.join(os.path.dirname(os.path.abspath(__file__)), '..'))
 LONGEST = 120   # so many seconds may a run take
 
@@ -30,6 +33,11 @@ def below(crate):
         if it in crates():
             found |= below(it)
     return found
+
+
+def there():
+    """The programs whose crates are in this repository."""
+    return [name for name in PROGRAMS if name in crates()]
 
 
 def newest(crate, parts):
