@@ -13,7 +13,7 @@ ghost use Rattle.avoider.specs.calls.Decisions.{supposed_statuses};
 ghost use Rattle.avoider.specs.inside.Waiting.{AreImpederSets, AreImpeders, ArePlaces, IsPlaceOfEvent};
 
 use armus_base::{Event, NoMemory, TaskId};
-use order_graph::{Row, Waits};
+use order_graph::{TaskSet, Waits};
 use pl_core::World;
 use std::alloc::{AllocError, Global};
 
@@ -103,12 +103,12 @@ fn impeders(
     awaited: Event,
     t: TaskId,
     event: Event,
-) -> Result<Row, AllocError>
+) -> Result<TaskSet, AllocError>
     requires phaser { awaited.p.0 < length world.now.plan.makers }
     ensures { IfOk result (AreImpeders (if_published (state_of world.now) t.0 event) (length world.now.plan.parents) awaited) }
 {
     let _plan = world.plan();
-    let mut row = Row::none(alloc);
+    let mut row = TaskSet::none(alloc);
     let mut next = 0;
     'impeding: while let Some(u) = world.next_impeder(awaited, TaskId(next), t, event) {
         row.put(u)?;
@@ -124,12 +124,12 @@ fn impeder_sets(
     events: &[Event],
     t: TaskId,
     event: Event,
-) -> Result<Vec<Row>, AllocError>
+) -> Result<Vec<TaskSet>, AllocError>
     requires phasers { All (λ e. e.p.0 < length world.now.plan.makers) events.now }
     ensures { IfOk result (λ sets. AreImpederSets (if_published (state_of world.now) t.0 event) (length world.now.plan.parents) events.now sets.items) }
 {
     let mut sets = Vec::new(alloc);
-    sets.push(Row::none(alloc))?;
+    sets.push(TaskSet::none(alloc))?;
     for awaited in events {
         let set = impeders(alloc, world, *awaited, t, event)?;
         sets.push(set)?;

@@ -15,5 +15,5 @@ mod walk;
 pub use laws::{ops_have_statements, statements_have_offsets};
 pub use notes::{ClockBegun, ClockThing};
 pub use offsets::clock_offsets;
-pub use ops::op_origins;
+pub use ops::clock_op_origins;
 pub use origins::ClockOrigins;

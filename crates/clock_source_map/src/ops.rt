@@ -50,7 +50,7 @@ fn task_origins(
 /// From which statement each op of a plan comes, for each task in order of its number, and each op of its code: the number of the statement, and None for
 /// the ops by which an activity leaves its clocks and its finish at its end. The plan is that to which the program unfolds. The time is linear in the visits
 /// of the unfolding and in the ops; the answer takes 8 bytes an op.
-pub fn op_origins(
+pub fn clock_op_origins(
     alloc: Global,
     program: &ClockProgram,
     plan: &Plan,

@@ -5,8 +5,8 @@ use Rattle.pl_syntax.specs.Tree.{Plain, new_task, new_phaser, reg, dereg, adv, a
 use Rattle.pl_plan.specs.Stages.{FailsAt, StagePasses, after_stage, at_visit, comes}
 use Rattle.pl_plan.specs.Tests.{table}
 use Rattle.pl_plan.specs.declared.fault.CheckFault.{CheckFault}
-use Rattle.pl_plan.specs.declared.step.Step.{Step}
-use Rattle.pl_plan.specs.declared.step.Step.TheVariants as a_step
+use Rattle.pl_plan.specs.declared.step.FlatStep.{FlatStep}
+use Rattle.pl_plan.specs.declared.step.FlatStep.TheVariants as a_step
 use Rattle.pl_plan.specs.inside.Checker.{Checker, IsChecker, Keeps}
 use Rattle.pl_plan.specs.inside.CheckerSteps.{HasNames, checker_act, checker_count, checker_fork}
 use Rattle.pl_plan.specs.inside.Shows.{ShowsState}
@@ -21,7 +21,7 @@ use Rattle.explain_check.specs.declared.frames.Item.{Item}
 use Rattle.explain_check.specs.inside.Framed.{Comes, to_adv, to_await, to_dereg, to_fork, to_loop, to_new_phaser, to_new_task, to_reg, to_skip, to_turn}
 use Rattle.explain_check.specs.inside.Seen.{visit_checked}
 
-pub has_names : (n : ℕ) (names : ℕ → List ℕ) (steps : List Step) (item : Item) (m : Visit) → Comes n names steps item m → HasNames n item.step
+pub has_names : (n : ℕ) (names : ℕ → List ℕ) (steps : List FlatStep) (item : Item) (m : Visit) → Comes n names steps item m → HasNames n item.step
 has_names n names steps i m (to_new_task x l) = l
 has_names n names steps i m (to_new_phaser x l) = l
 has_names n names steps i m (to_reg x y l r) = (l, r)
@@ -33,7 +33,7 @@ has_names n names steps i m (to_fork x after body l within spelled) = l
 has_names n names steps i m (to_loop k after steady) = tt
 has_names n names steps i m to_turn = tt
 
-pub statement_is : (n : ℕ) (names : ℕ → List ℕ) (steps : List Step) (item : Item) (m : Visit) → Comes n names steps item m → m.statement ≡ item.at + 1
+pub statement_is : (n : ℕ) (names : ℕ → List ℕ) (steps : List FlatStep) (item : Item) (m : Visit) → Comes n names steps item m → m.statement ≡ item.at + 1
 statement_is n names steps i m (to_new_task x l) = refl
 statement_is n names steps i m (to_new_phaser x l) = refl
 statement_is n names steps i m (to_reg x y l r) = refl
@@ -71,7 +71,7 @@ module _ (names : ℕ → List ℕ) (k : Checker) (s : UnfoldingState) (f : IsCh
 
   -- a statement without a body
   plain_sim :
-      (at : ℕ) (step : Step) (c : Plain) → IsStep (length k.bindings.slots) names step c →
+      (at : ℕ) (step : FlatStep) (c : Plain) → IsStep (length k.bindings.slots) names step c →
       Simulates names (checker_count (at + 1) k >>= checker_act t (at + 1) step) (make_visit t (visit (at + 1) (a_plain c)) s)
   plain_sim at step c is =
       on_count (at + 1) (checker_act t (at + 1) step) (act t (at + 1) c)
@@ -79,7 +79,7 @@ module _ (names : ℕ → List ℕ) (k : Checker) (s : UnfoldingState) (f : IsCh
       (subst (λ n. IsStep n names step c) (sym keeps.slots) is))
 
   nothing_sim :
-      (at : ℕ) (step : Step) (c : Coming) → ((k1 : Checker) → checker_act t (at + 1) step k1 ≡ Ok k1) → ((s1 : UnfoldingState) → come_to t (at + 1) c s1 ≡ Ok s1) →
+      (at : ℕ) (step : FlatStep) (c : Coming) → ((k1 : Checker) → checker_act t (at + 1) step k1 ≡ Ok k1) → ((s1 : UnfoldingState) → come_to t (at + 1) c s1 ≡ Ok s1) →
       Simulates names (checker_count (at + 1) k >>= checker_act t (at + 1) step) (make_visit t (visit (at + 1) c) s)
   nothing_sim at step c ks ss =
       on_count (at + 1) (checker_act t (at + 1) step) (come_to t (at + 1) c)
@@ -101,7 +101,7 @@ module _ (names : ℕ → List ℕ) (k : Checker) (s : UnfoldingState) (f : IsCh
   simulates_come i m (to_loop {at} n after steady) = nothing_sim at (a_step.Loop n after steady) a_loop (λ k1. refl) (λ s1. refl)
   simulates_come i m (to_turn {at}) = nothing_sim at a_step.Skip a_turn (λ k1. refl) (λ s1. refl)
 
-  plain_keeps : (at : ℕ) (step : Step) → HasNames (length k.bindings.slots) step → KeepsAll k (checker_count (at + 1) k >>= checker_act t (at + 1) step)
+  plain_keeps : (at : ℕ) (step : FlatStep) → HasNames (length k.bindings.slots) step → KeepsAll k (checker_count (at + 1) k >>= checker_act t (at + 1) step)
   plain_keeps at step l =
       keeps_count_then (at + 1) (checker_act t (at + 1) step) (λ k1 keeps. keeps_acting k1 keeps.fits t (at + 1) step (subst (λ n. HasNames n step) (sym keeps.slots) l))
 

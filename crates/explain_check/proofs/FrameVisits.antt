@@ -7,8 +7,8 @@ use Rattle.std.proofs.lemmas.List.{length-append}
 use Rattle.armus_base.specs.Pieces.{times}
 use Rattle.pl_syntax.specs.Tree.{Plain, Tree, done, plain, fork, loop, count, new_task, new_phaser, reg, dereg, adv, await, skip}
 use Rattle.pl_plan.specs.Unfolding.{Visit, a_fork, a_loop, a_plain, a_turn, visit, visits_of}
-use Rattle.pl_plan.specs.declared.step.Step.{Step}
-use Rattle.pl_plan.specs.declared.step.Step.TheVariants as a_step
+use Rattle.pl_plan.specs.declared.step.FlatStep.{FlatStep}
+use Rattle.pl_plan.specs.declared.step.FlatStep.TheVariants as a_step
 use Rattle.pl_plan.specs.inside.Steps.{IsSpelled, IsStep, step_at}
 use Rattle.pl_plan.proofs.Spelled.{spelled_count}
 use Rattle.explain_check.specs.declared.frames.OpenBody.{OpenBody}
@@ -37,7 +37,7 @@ some_left {i} left e = elim (eqb_tells i 0) [
   | inr n ↦ n.0
 ]
 
-module _ (n : ℕ) (names : ℕ → List ℕ) (steps : List Step) where
+module _ (n : ℕ) (names : ℕ → List ℕ) (steps : List FlatStep) where
   -- ---- the innermost frame
 
   pub frames_push : (fs : List OpenBody) (f : OpenBody) (own ms : List Visit) → FrameIs n names steps f own → FramesAre n names steps fs ms → FramesAre n names steps (fs ++ f ∷ []) (own ++ ms)
@@ -103,7 +103,7 @@ module _ (n : ℕ) (names : ℕ → List ℕ) (steps : List Step) where
     visits_are = refl;
   }
 
-  plain_comes : (at : ℕ) (step : Step) (c : Plain) → IsStep n names step c → Comes n names steps (an_item at false step) (visit (at + 1) (a_plain c))
+  plain_comes : (at : ℕ) (step : FlatStep) (c : Plain) → IsStep n names step c → Comes n names steps (an_item at false step) (visit (at + 1) (a_plain c))
   plain_comes at step (new_task x) h =
       subst (λ z. Comes n names steps (an_item at false z) (visit (at + 1) (a_plain (new_task x)))) (sym h.1)
       (subst (λ y. Comes n names steps (an_item at false (a_step.NewTask h.0)) (visit (at + 1) (a_plain (new_task y)))) h.2.1 (to_new_task h.0 h.2.0))
@@ -126,7 +126,7 @@ module _ (n : ℕ) (names : ℕ → List ℕ) (steps : List Step) where
       (subst (λ y. Comes n names steps (an_item at false (a_step.Await h.0 off)) (visit (at + 1) (a_plain (await y off)))) h.2.1 (to_await h.0 off h.2.0 h.3))
   plain_comes at step skip h = subst (λ z. Comes n names steps (an_item at false z) (visit (at + 1) (a_plain skip))) (sym h) to_skip
 
-  plain_frames : (f : OpenBody) (step : Step) (c : Plain) (fs : List OpenBody) → IsStep n names step c → frames_at f step fs ≡ fs ++ record f { at = f.at + 1 } ∷ []
+  plain_frames : (f : OpenBody) (step : FlatStep) (c : Plain) (fs : List OpenBody) → IsStep n names step c → frames_at f step fs ≡ fs ++ record f { at = f.at + 1 } ∷ []
   plain_frames f step (new_task x) fs h = ap (λ z. frames_at f z fs) h.1
   plain_frames f step (new_phaser x) fs h = ap (λ z. frames_at f z fs) h.1
   plain_frames f step (reg x y) fs h = ap (λ z. frames_at f z fs) h.2
@@ -293,7 +293,7 @@ module _ (n : ℕ) (names : ℕ → List ℕ) (steps : List Step) where
 some_few : (fs : List OpenBody) (f : OpenBody) → length (fs ++ f ∷ []) ≤ length fs + 2
 some_few fs f = omega (arith, length-append fs (f ∷ []))
 
-at_few : (f : OpenBody) (step : Step) (fs : List OpenBody) → length (frames_at f step fs) ≤ length fs + 2
+at_few : (f : OpenBody) (step : FlatStep) (fs : List OpenBody) → length (frames_at f step fs) ≤ length fs + 2
 at_few f (a_step.Loop k after steady) fs =
     let inner : OpenBody = record { at = after; to = after; of_loop = f.at; left = k } in
     omega (arith, length-append (fs ++ record f { at = after } ∷ []) (inner ∷ []), length-append fs (record f { at = after } ∷ []))
@@ -306,7 +306,7 @@ at_few f (a_step.Adv x) fs = some_few fs (record f { at = f.at + 1 })
 at_few f (a_step.Await x off) fs = some_few fs (record f { at = f.at + 1 })
 at_few f a_step.Skip fs = some_few fs (record f { at = f.at + 1 })
 
-pub frames_few : (steps : List Step) (f : OpenBody) (fs : List OpenBody) → length (frames_after steps f fs) ≤ length fs + 2
+pub frames_few : (steps : List FlatStep) (f : OpenBody) (fs : List OpenBody) → length (frames_after steps f fs) ≤ length fs + 2
 frames_few steps f fs = by (nat_lt f.at f.to) (f.left == 0)
   where
     by : (b c : Bool) → length (if b then frames_at f (step_at steps f.at) fs else (if c then fs else fs ++ record f { at = f.of_loop + 1; left = f.left - 1 } ∷ [])) ≤ length fs + 2

@@ -7,7 +7,7 @@ use Rattle.std.proofs.lemmas.List.{append-nil, get_or-set_other, get_or-set_same
 use Rattle.armus_base.specs.declared.ids.TaskId.{TaskId}
 use Rattle.pl_plan.specs.Unfolding.{Visit}
 use Rattle.pl_plan.specs.Stages.{Stage, comes}
-use Rattle.pl_plan.specs.declared.step.Step.{Step}
+use Rattle.pl_plan.specs.declared.step.FlatStep.{FlatStep}
 use Rattle.pl_plan.specs.inside.Checker.{Checker}
 use Rattle.explain_check.specs.Turns.{begins_turn, comes_to_loop, turn_in, visits_among}
 use Rattle.explain_check.specs.declared.frames.Item.{Item}
@@ -83,7 +83,7 @@ module _ (t : TaskId) (xs : List Stage) (last_turns : List LastTurn) (told : Tur
             ∙ turn_more (other + 1) (visits_among t.0 xs) m false false (a (other + 1)) (b (other + 1) ∙ not_equal (at + 1) (other + 1) (λ e. differ (omega (arith, e)))))
       ]
 
-  pub turns_on : (k : Checker) (n : ℕ) (names : ℕ → List ℕ) (steps : List Step) (item : Item) (m : Visit) → Comes n names steps item m → item.at < length last_turns →
+  pub turns_on : (k : Checker) (n : ℕ) (names : ℕ → List ℕ) (steps : List FlatStep) (item : Item) (m : Visit) → Comes n names steps item m → item.at < length last_turns →
       TurnsTold t.0 (xs ++ comes t.0 m ∷ []) (with_last_turn (sight_of k t item) last_turns)
   turns_on k n names steps i m (to_new_task {at} x l) here = stays m (λ j. and_false ((at + 1) == j)) (λ j. and_false ((at + 1) == j))
   turns_on k n names steps i m (to_new_phaser {at} x l) here = stays m (λ j. and_false ((at + 1) == j)) (λ j. and_false ((at + 1) == j))
@@ -134,7 +134,7 @@ module _ (t : ℕ) (steps visits : ℕ) (xs : List Stage) (last_turns : List Las
       }
 
 pub last_turns_on : (t : TaskId) (steps visits : ℕ) (xs : List Stage) (last_turns : List LastTurn) → LastTurnsTell t.0 steps visits xs last_turns → (k : Checker) (n : ℕ) (names : ℕ → List ℕ)
-    (all : List Step) (item : Item) (m : Visit) → Comes n names all item m → item.at < length last_turns →
+    (all : List FlatStep) (item : Item) (m : Visit) → Comes n names all item m → item.at < length last_turns →
     LastTurnsTell t.0 steps (visits + 1) (xs ++ comes t.0 m ∷ []) (with_last_turn (sight_of k t item) last_turns)
 last_turns_on t steps visits xs last_turns tell k n names all item m c here = by item m c here (turns_on t xs last_turns tell.turns k n names all item m c here)
   where

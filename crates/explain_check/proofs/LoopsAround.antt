@@ -3,7 +3,7 @@ use Rattle.std.proofs.Common.{◌≡◌, ℕ, ◌+◌, ◌<◌, ◌≤◌, Bool,
 use Rattle.std.specs.Prelude.{◌&&◌, if◌then◌else◌, map, nat_le, nat_lt}
 use Rattle.std.proofs.lemmas.List.{append-nil}
 use Rattle.pl_syntax.specs.Tree.{Plain, Tree, done, plain, fork, loop, count, new_task, new_phaser, reg, dereg, adv, await, skip}
-use Rattle.pl_plan.specs.declared.step.Step.{Step}
+use Rattle.pl_plan.specs.declared.step.FlatStep.{FlatStep}
 use Rattle.pl_plan.specs.inside.Steps.{IsList, IsSpelled, IsStep, step_at}
 use Rattle.pl_plan.proofs.Spelled.{spelled_count}
 use Rattle.explain_check.specs.Turns.{loops_around}
@@ -11,7 +11,7 @@ use Rattle.explain_check.specs.declared.notes.LastTurn.{LastTurn}
 use Rattle.explain_check.specs.declared.scene.LoopTurn.{LoopTurn}
 use Rattle.explain_check.specs.inside.Told.{AreTurns, index_behind, enters, turn_told}
 
-plain_enters : (n : ℕ) (names : ℕ → List ℕ) (step : Step) (c : Plain) (at s : ℕ) → IsStep n names step c → enters step at s ≡ None
+plain_enters : (n : ℕ) (names : ℕ → List ℕ) (step : FlatStep) (c : Plain) (at s : ℕ) → IsStep n names step c → enters step at s ≡ None
 plain_enters n names step (new_task x) at s h = ap (λ z. enters z at s) h.1
 plain_enters n names step (new_phaser x) at s h = ap (λ z. enters z at s) h.1
 plain_enters n names step (reg x y) at s h = ap (λ z. enters z at s) h.2
@@ -20,7 +20,7 @@ plain_enters n names step (adv x) at s h = ap (λ z. enters z at s) h.1
 plain_enters n names step (await x off) at s h = ap (λ z. enters z at s) h.1
 plain_enters n names step skip at s h = ap (λ z. enters z at s) h
 
-plain_behind : (n : ℕ) (names : ℕ → List ℕ) (step : Step) (c : Plain) (at : ℕ) → IsStep n names step c → index_behind step at ≡ at + 1
+plain_behind : (n : ℕ) (names : ℕ → List ℕ) (step : FlatStep) (c : Plain) (at : ℕ) → IsStep n names step c → index_behind step at ≡ at + 1
 plain_behind n names step (new_task x) at h = ap (λ z. index_behind z at) h.1
 plain_behind n names step (new_phaser x) at h = ap (λ z. index_behind z at) h.1
 plain_behind n names step (reg x y) at h = ap (λ z. index_behind z at) h.2
@@ -35,7 +35,7 @@ some_is e = cc
 none_is : {a : ℕ} → ◌≡◌ {A = Option ℕ} None (Some a) → ⊥
 none_is e = absurd cc
 
-module _ (n : ℕ) (names : ℕ → List ℕ) (steps : List Step) (s at to : ℕ) where
+module _ (n : ℕ) (names : ℕ → List ℕ) (steps : List FlatStep) (s at to : ℕ) where
   -- the statement stands in this loop
   pub record Inside (tree : Tree) (end : ℕ) : Type 0 where
     pub body : Tree
@@ -110,14 +110,14 @@ module _ (n : ℕ) (names : ℕ → List ℕ) (steps : List Step) (s at to : ℕ
 -- ---- the loop
 
 -- these turns, and those of what is left, are all
-pub record Nears (steps : List Step) (last_turns : List LastTurn) (t s first after at to : ℕ) (turns : List LoopTurn) : Type 0 where
+pub record Nears (steps : List FlatStep) (last_turns : List LastTurn) (t s first after at to : ℕ) (turns : List LoopTurn) : Type 0 where
   pub within : to ≤ length steps
   pub some : (count : ℕ) × IsList count steps at to
   pub all : (n : ℕ) (names : ℕ → List ℕ) (tree : Tree) → IsSpelled n names steps first tree after →
       (rest : Tree) × IsSpelled n names steps at rest to
       × (map (turn_told last_turns t) (loops_around (first + 1) tree s) ≡ turns ++ map (turn_told last_turns t) (loops_around (at + 1) rest s))
 
-module _ (steps : List Step) (last_turns : List LastTurn) (t s first after : ℕ) where
+module _ (steps : List FlatStep) (last_turns : List LastTurn) (t s first after : ℕ) where
   pub nears_start : after ≤ length steps → (count : ℕ) × IsList count steps first after → Nears steps last_turns t s first after first after []
   nears_start within some = record { within = within; some = some; all = λ n names tree e. (tree, e, refl) }
 

@@ -9,7 +9,7 @@ use Rattle.pl_plan.specs.Stages.{FailsAt, Stage, at_visit, comes, leaves}
 use Rattle.pl_plan.specs.Tests.{first_thing, is_task, phaser_wanted, table, task_number}
 use Rattle.pl_plan.specs.declared.fault.CheckFault.{CheckFault}
 use Rattle.pl_plan.specs.declared.step.NameId.{NameId}
-use Rattle.pl_plan.specs.declared.step.Step.{Step}
+use Rattle.pl_plan.specs.declared.step.FlatStep.{FlatStep}
 use Rattle.pl_plan.specs.declared.step.Thing as code
 use Rattle.pl_plan.specs.declared.step.Thing.TheVariants as a_thing
 use Rattle.pl_plan.specs.inside.Checker.{Checker, thing_at}
@@ -190,7 +190,7 @@ module _ (names : ℕ → List ℕ) (notes : List Note) (past : Past) (told : No
     parent_is : (c : ℕ) → slice_index_or past.there.plan.parents c None ≡ slice_index_or k.parents c None
     parent_is c = ap (λ ps. slice_index_or ps c None) shows.plan.parents
 
-    visit_by : (steps : List Step) (kind : ℕ) (item : Item) (m : Visit) → Comes (length k.bindings.slots) names steps item m → first_kind table past.there t.0 m.coming ≡ Some kind →
+    visit_by : (steps : List FlatStep) (kind : ℕ) (item : Item) (m : Visit) → Comes (length k.bindings.slots) names steps item m → first_kind table past.there t.0 m.coming ≡ Some kind →
         about_visit past kind t.0 m.coming ≡ visit_told names notes kind (sight_of k t item)
     visit_by steps kind item m (to_fork {at} x after body l within spelled) some =
         named_same kind m.coming (sight_of k t item) refl (one_same v.Fork x l) (phaser_named names k past.there shows t x l) (task_named names k past.there shows t x l)
@@ -224,7 +224,7 @@ module _ (names : ℕ → List ℕ) (notes : List Note) (past : Past) (told : No
 
     -- the matter of a visit, by the kinds that the table gives
     pub visit_same :
-        (steps : List Step) (kind : ℕ) (s : StepSight) (m : Visit) → Comes (length k.bindings.slots) names steps s.item m → s ≡ sight_of k t s.item →
+        (steps : List FlatStep) (kind : ℕ) (s : StepSight) (m : Visit) → Comes (length k.bindings.slots) names steps s.item m → s ≡ sight_of k t s.item →
         first_kind table past.there t.0 m.coming ≡ Some kind → about_visit past kind t.0 m.coming ≡ visit_told names notes kind s
     visit_same steps kind s m comes_to is some =
         subst (λ z. about_visit past kind t.0 m.coming ≡ visit_told names notes kind z) (sym is) (visit_by steps kind s.item m comes_to some)

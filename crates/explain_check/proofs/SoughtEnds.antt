@@ -10,7 +10,7 @@ use Rattle.armus_base.specs.Numbers.{phaser}
 use Rattle.pl_plan.specs.Unfolding.{Outcome, Start, UnfoldingState, add_op, fault_unless, leave, opening_state, too_many_ops, with_member, with_members, ◌>>=◌}
 use Rattle.pl_plan.specs.Stages.{FailsAt, IsNextStage, Stage, StagePasses, after_stage, at_end, begins, has_op_left, leaves, leaves_below, with_code}
 use Rattle.pl_plan.specs.declared.fault.CheckFault.{CheckFault}
-use Rattle.pl_plan.specs.declared.step.Step.{Step}
+use Rattle.pl_plan.specs.declared.step.FlatStep.{FlatStep}
 use Rattle.pl_plan.specs.inside.Checker.{Checker, Keeps}
 use Rattle.pl_plan.specs.inside.CheckerSteps.{checker_leave}
 use Rattle.pl_plan.specs.inside.Shows.{ShowsState}
@@ -97,13 +97,13 @@ module _ (g : NamedProgram) where
           fits = keeps.fits;
           shows = shows;
           steps_are = keeps.steps ∙ st.shown.steps_are;
-          small = subst (λ (ss : List Step). length ss < 2 ^ 32) (sym keeps.steps) st.shown.small;
+          small = subst (λ (ss : List FlatStep). length ss < 2 ^ 32) (sym keeps.steps) st.shown.small;
         };
         told =
             subst (λ ns. NotesTell g.names (opening_state g.program.body) (st.stages ++ v ∷ []) ns) (append-nil notes)
             (tells_more g.names two st.stages (opening_state g.program.body) st.state v notes [] st.past.leads st.told (λ d did means. quiet.unnoted st.state d did means));
         last_turns_tell =
-            subst (λ (ss : List Step). LastTurnsTell t (length ss) e.visits (st.stages ++ v ∷ []) last_turns) (sym keeps.steps)
+            subst (λ (ss : List FlatStep). LastTurnsTell t (length ss) e.visits (st.stages ++ v ∷ []) last_turns) (sym keeps.steps)
             (subst (λ i. LastTurnsTell t (length k.steps) i (st.stages ++ v ∷ []) last_turns) (sym visits)
             (quiet_last_turns t (length k.steps) st.state.visits st.stages last_turns v quiet st.last_turns_tell));
       }

@@ -10,7 +10,7 @@ use Rattle.pl_syntax.specs.declared.tree.Program.{Program}
 use Rattle.pl_plan.specs.Unfolding.{Outcome, opening_state, plan_of}
 use Rattle.pl_plan.specs.Stages.{IsFirstCheckFault, IsNextStage, Stage}
 use Rattle.pl_plan.specs.declared.fault.CheckFault.{CheckFault}
-use Rattle.pl_plan.specs.declared.step.Step.{Step}
+use Rattle.pl_plan.specs.declared.step.FlatStep.{FlatStep}
 use Rattle.pl_plan.specs.inside.Checker.{Checker, IsChecker, IsThingBelow, IsThings, StartFits}
 use Rattle.pl_plan.specs.inside.Flattening.{AddsSteps}
 use Rattle.pl_plan.specs.inside.Numbers.{spelling}
@@ -25,7 +25,7 @@ use Rattle.explain_check.specs.inside.Seeks.{Before, HasSource, Passed, NamedPro
 
 -- ---- what is kept first fits
 
-module _ (steps : List Step) (names : ℕ) (k : Checker) (o : IsOpeningChecker steps names k) (list : IsList (length k.bindings.slots) k.steps 0 (length steps)) where
+module _ (steps : List FlatStep) (names : ℕ) (k : Checker) (o : IsOpeningChecker steps names k) (list : IsList (length k.bindings.slots) k.steps 0 (length steps)) where
   nothing_there : IsThings (length k.parents) (length k.makers) k.bindings.slot_count k.bindings.things
   nothing_there = record {
     none = o.bindings.things 0;
@@ -92,7 +92,7 @@ none_tell n last_turns is = subst (λ ls. LastTurnsTell 0 n 0 [] ls) (sym is) (r
 
 -- ---- the first task is the next one
 
-module _ (program : Program) (a b : List (Bor (List ℕ))) (old steps : List Step) (names : ℕ) (k : Checker) (notes : List Note) (last_turns : List LastTurn)
+module _ (program : Program) (a b : List (Bor (List ℕ))) (old steps : List FlatStep) (names : ℕ) (k : Checker) (notes : List Note) (last_turns : List LastTurn)
     (empty : old ≡ []) (many : names ≡ length b) (adds : AddsSteps a b old steps program.body) (o : IsOpeningChecker steps names k) (few : count program.body < 2 ^ 32)
     (none : notes ≡ []) (no_turns : last_turns ≡ replicate (length steps) no_turn) where
   abbrev source : NamedProgram
@@ -120,7 +120,7 @@ module _ (program : Program) (a b : List (Bor (List ℕ))) (old steps : List Ste
         small = omega (arith, few_steps, ap length o.steps_are);
       };
       told = λ d did means. subst (λ ns. MarkTells (spelling b) (last_noted d ns) None) (sym none) tt;
-      last_turns_tell = none_tell (length k.steps) last_turns (no_turns ∙ ap (λ (ss : List Step). replicate (length ss) no_turn) (sym o.steps_are));
+      last_turns_tell = none_tell (length k.steps) last_turns (no_turns ∙ ap (λ (ss : List FlatStep). replicate (length ss) no_turn) (sym o.steps_are));
     };
     own = refl;
   }

@@ -8,7 +8,7 @@ use Rattle.pl_syntax.specs.Tree.{new_task, new_phaser, reg, dereg, adv, await, s
 use Rattle.pl_plan.specs.Unfolding.{Coming, UnfoldingState, Visit, a_fork, a_loop, a_plain, a_turn, opening_state}
 use Rattle.pl_plan.specs.Stages.{IsNextStage, after_stage, comes, ends_of, stages_below}
 use Rattle.pl_plan.specs.Tests.{Passes}
-use Rattle.pl_plan.specs.declared.step.Step.{Step}
+use Rattle.pl_plan.specs.declared.step.FlatStep.{FlatStep}
 use Rattle.pl_plan.specs.inside.Checker.{Checker, IsChecker, Keeps}
 use Rattle.pl_plan.specs.inside.CheckerSteps.{HasNames}
 use Rattle.pl_plan.specs.inside.Shows.{ShowsState}
@@ -52,7 +52,7 @@ module _ (g : NamedProgram) where
 
   shown_steps : (k new : Checker) (s e : UnfoldingState) → IsShown g k s → Keeps k new → ShowsState g.names new e → IsShown g new e
   shown_steps k new s e shown keeps shows =
-      record { fits = keeps.fits; shows = shows; steps_are = keeps.steps ∙ shown.steps_are; small = subst (λ (ss : List Step). length ss < 2 ^ 32) (sym keeps.steps) shown.small }
+      record { fits = keeps.fits; shows = shows; steps_are = keeps.steps ∙ shown.steps_are; small = subst (λ (ss : List FlatStep). length ss < 2 ^ 32) (sym keeps.steps) shown.small }
 
   pub start_later :
       (t first after n n' : ℕ) (s e : UnfoldingState) → n' ≡ n → slice_index_or e.starts t None ≡ slice_index_or s.starts t None → HasStart g t first after n s →
@@ -108,7 +108,7 @@ module _ (g : NamedProgram) where
                 (tells_more g.names two st.stages (opening_state g.program.body) st.state (comes t.0 m) notes (notes_at (sight_of k t item) item.step) st.past.leads st.told
                 (notes_fit g.names k st.state st.shown.shows t item m c_kept));
             last_turns_tell =
-                subst (λ (ss : List Step). LastTurnsTell t.0 (length ss) e.visits (st.stages ++ comes t.0 m ∷ []) new_last_turns) (sym past.keeps.steps)
+                subst (λ (ss : List FlatStep). LastTurnsTell t.0 (length ss) e.visits (st.stages ++ comes t.0 m ∷ []) new_last_turns) (sym past.keeps.steps)
                 (subst (λ v. LastTurnsTell t.0 (length k.steps) v (st.stages ++ comes t.0 m ∷ []) new_last_turns) (sym one_more)
                 (subst (λ ls. LastTurnsTell t.0 (length k.steps) (st.state.visits + 1) (st.stages ++ comes t.0 m ∷ []) ls) (sym last_turns_are)
                 (last_turns_on t (length k.steps) st.state.visits st.stages last_turns st.last_turns_tell k (length k.bindings.slots) g.names g.steps item m c in_last_turns)));
@@ -163,10 +163,10 @@ module _ (g : NamedProgram) where
     popped = frames_pop (length k.bindings.slots) g.names g.steps fs f now.visits now.frames_are
 
     few_steps : length g.steps < 2 ^ 32
-    few_steps = subst (λ (ss : List Step). length ss < 2 ^ 32) now.stands.shown.steps_are now.stands.shown.small
+    few_steps = subst (λ (ss : List FlatStep). length ss < 2 ^ 32) now.stands.shown.steps_are now.stands.shown.small
 
     pub frame_within : f.to ≤ length k.steps
-    frame_within = subst (λ (ss : List Step). f.to ≤ length ss) (sym now.stands.shown.steps_are) popped.is.within
+    frame_within = subst (λ (ss : List FlatStep). f.to ≤ length ss) (sym now.stands.shown.steps_are) popped.is.within
 
     pub frame_small : f.of_loop + 1 < 2 ^ 32
     frame_small = popped.is.small

@@ -10,7 +10,7 @@ use Rattle.pl_plan.specs.Stages.{IsNextStage, Stage, begins, comes, ends_of, sta
 use Rattle.pl_plan.specs.inside.Checker.{Checker, CheckerStart, Keeps, range_of, with_start_things}
 use Rattle.pl_plan.specs.inside.Shows.{MaybeStartShows, ShowsState}
 use Rattle.pl_plan.specs.inside.Steps.{IsSpelled}
-use Rattle.pl_plan.specs.declared.step.Step.{Step}
+use Rattle.pl_plan.specs.declared.step.FlatStep.{FlatStep}
 use Rattle.pl_plan.proofs.Beginning.{kept_begun, ready, range_is, spelled_there, shows_begun}
 use Rattle.pl_plan.proofs.Unfolds as unfolds
 use Rattle.explain_check.specs.Turns.{turn_in}
@@ -145,7 +145,7 @@ module _ (g : NamedProgram) where
           record {
             stands = stands;
             here = here_now;
-            started = record { start = f.start; start_is = f.start_is; first_is = f.first_is; spelled = spelled; within = subst (λ (ss : List Step). after ≤ length ss) steps r.within };
+            started = record { start = f.start; start_is = f.start_is; first_is = f.first_is; spelled = spelled; within = subst (λ (ss : List FlatStep). after ≤ length ss) steps r.within };
             visits = ms;
             frames_are = (
               [],
@@ -155,7 +155,7 @@ module _ (g : NamedProgram) where
                 rest_there = spelled;
                 body = done;
                 body_there = λ l. absurd (omega (arith, l));
-                within = subst (λ (ss : List Step). after ≤ length ss) steps r.within;
+                within = subst (λ (ss : List FlatStep). after ≤ length ss) steps r.within;
                 small = omega arith;
                 visits_are = ap (λ i. visits_of i f.start.body) f.first_is ∙ sym (append-nil (visits_of (first + 1) f.start.body));
               },

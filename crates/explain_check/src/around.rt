@@ -7,11 +7,11 @@ ghost use Rattle.explain_check.specs.inside.Told.{AreTurns, index_behind, enters
 use crate::notes::{LastTurn, turn_of};
 use crate::scene::LoopTurn;
 use armus_base::{List, NoMemory, TaskId};
-use pl_plan::step::Step;
+use pl_plan::step::FlatStep;
 use std::alloc::Global;
 
 // The step with this index.
-fn step_of(steps: &[Step], at: u32) -> Step
+fn step_of(steps: &[FlatStep], at: u32) -> FlatStep
     requires { at < length steps.now }
     ensures { result ≡ step_at steps.now at }
 {
@@ -19,12 +19,12 @@ fn step_of(steps: &[Step], at: u32) -> Step
 }
 
 // The end of a loop around statement `n`, if the step with this index is one.
-fn enters(step: Step, at: u32, n: u32) -> Option<u32>
+fn enters(step: FlatStep, at: u32, n: u32) -> Option<u32>
     requires { at + 1 < 2 ^ 32 }
     ensures { result ≡ enters step at n }
 {
     match step {
-        Step::Loop {
+        FlatStep::Loop {
             k: _,
             after,
             steady: _,
@@ -40,17 +40,17 @@ fn enters(step: Step, at: u32, n: u32) -> Option<u32>
 }
 
 // The index behind a statement with its body.
-fn behind(step: Step, at: u32) -> u32
+fn behind(step: FlatStep, at: u32) -> u32
     requires { at + 1 < 2 ^ 32 }
     ensures { result ≡ index_behind step at }
 {
     match step {
-        Step::Loop {
+        FlatStep::Loop {
             k: _,
             after,
             steady: _,
         } => after,
-        Step::Fork { x: _, after } => after,
+        FlatStep::Fork { x: _, after } => after,
         _ => at + 1,
     }
 }
@@ -70,7 +70,7 @@ fn turn_told(last_turns: &[LastTurn], t: TaskId, at: u32) -> LoopTurn
 /// The loops around statement `n`, with the turns in which task `t` is, of the statements of these steps from one index on, before another; from outside in.
 pub(crate) fn turns_told(
     alloc: Global,
-    steps: &[Step],
+    steps: &[FlatStep],
     range: (u32, u32),
     last_turns: &[LastTurn],
     t: TaskId,

@@ -20,7 +20,7 @@ use armus_base::{List, NoMemory, PhaserId, TaskId};
 use indexmap::IndexSet;
 use pl_plan::checker::Checker;
 use pl_plan::flatten::flatten_body;
-use pl_plan::step::Step;
+use pl_plan::step::FlatStep;
 use pl_syntax::{MAX_OPEN_BRACES, Program};
 use std::alloc::{AllocError, Global};
 
@@ -29,7 +29,7 @@ fn visit_scene(
     alloc: Global,
     names: &[&[u8]],
     seeker: &Seeker,
-    steps: &[Step],
+    steps: &[FlatStep],
     stop: FoundFault,
     sight: StepSight,
 ) -> Result<Scene, NoMemory>
@@ -79,7 +79,7 @@ fn place_scene(
     alloc: Global,
     names: &[&[u8]],
     seeker: &Seeker,
-    steps: &[Step],
+    steps: &[FlatStep],
     stop: FoundFault,
 ) -> Result<Scene, NoMemory>
     requires { PlaceCanBeTold seeker.now.last_turns.items steps.now stop.first stop.after stop.place }
@@ -103,7 +103,7 @@ fn no_turns(alloc: Global, n: usize) -> Result<Vec<LastTurn>, AllocError>
 }
 
 // What is kept before the first visit.
-fn new_seeker(alloc: Global, steps: Vec<Step>, names: usize) -> Result<Seeker, NoMemory>
+fn new_seeker(alloc: Global, steps: Vec<FlatStep>, names: usize) -> Result<Seeker, NoMemory>
     requires { length steps.items < 2 ^ 32 }
     ensures checker { IfOk result (λ s. IsOpeningChecker steps.items names s.checker) }
     ensures notes { IfOk result (λ s. s.notes ≡ []) }
@@ -121,7 +121,7 @@ fn new_seeker(alloc: Global, steps: Vec<Step>, names: usize) -> Result<Seeker, N
 fn find_scene(
     alloc: Global,
     names: &[&[u8]],
-    steps: &[Step],
+    steps: &[FlatStep],
     seeker: &mut Seeker,
     two: bool,
 ) -> Result<Option<Scene>, NoMemory>

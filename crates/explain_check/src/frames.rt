@@ -5,14 +5,14 @@ ghost use Rattle.explain_check.specs.inside.Framed.{frames_after, frames_at, nex
 
 use armus_base::NoMemory;
 use pl_plan::checker::Checker;
-use pl_plan::step::Step;
+use pl_plan::step::FlatStep;
 
 /// A coming to the step with this index, or to a turn of the loop with it, whose step stands for nothing.
 #[derive(Clone, Copy)]
 pub(crate) struct Item {
     pub at: u32,
     pub turn: bool,
-    pub step: Step,
+    pub step: FlatStep,
 }
 
 /// A list of statements that a task goes through: the next one, the end, and, where it is the body of a loop, the loop's index and how many turns are left.
@@ -33,12 +33,12 @@ fn push(frames: &mut Vec<OpenBody>, frame: OpenBody) -> Result<(), NoMemory>
 }
 
 // Behind a coming to this step the frame stands again, and the body of a loop on top of it.
-fn push_on(frames: &mut Vec<OpenBody>, frame: OpenBody, step: Step) -> Result<(), NoMemory>
+fn push_on(frames: &mut Vec<OpenBody>, frame: OpenBody, step: FlatStep) -> Result<(), NoMemory>
     requires { frame.at < frame.to }
     ensures { OnOk result (frames.new.items ≡ frames_at frame step frames.old.items) }
 {
     match step {
-        Step::Loop {
+        FlatStep::Loop {
             k,
             after,
             steady: _,
@@ -54,7 +54,7 @@ fn push_on(frames: &mut Vec<OpenBody>, frame: OpenBody, step: Step) -> Result<()
                 },
             )
         }
-        Step::Fork { x: _, after } => push(frames, OpenBody { at: after, ..frame }),
+        FlatStep::Fork { x: _, after } => push(frames, OpenBody { at: after, ..frame }),
         _ => push(
             frames,
             OpenBody {
@@ -99,6 +99,6 @@ pub(crate) fn go_on(
     Ok(Some(Item {
         at: frame.of_loop,
         turn: true,
-        step: Step::Skip,
+        step: FlatStep::Skip,
     }))
 }

@@ -5,7 +5,7 @@ ghost use Rattle.explain_check.specs.inside.Noted.{a_deed, last_noted, phaser_in
 
 use crate::sight::StepSight;
 use armus_base::{List, NoMemory, TaskId};
-use pl_plan::step::{NameId, Step, Thing};
+use pl_plan::step::{FlatStep, NameId, Thing};
 
 /// What a statement did: its kind, and the numbers of one or two things. It drew a task (0), made a phaser (1), forked a task (2), registered a task at a
 /// phaser (3), or by it a task left a phaser (4).
@@ -80,12 +80,12 @@ pub(crate) fn put_note(notes: &mut List<Note>, sight: StepSight) -> Result<(), N
 {
     let statement = sight.item.at + 1;
     match sight.item.step {
-        Step::NewTask { x } => put_deed(notes, 0, sight.tasks, 0, statement, Some(x)),
-        Step::NewPhaser { x } => put_deed(notes, 1, sight.phasers, 0, statement, Some(x)),
-        Step::Fork { x: _, after: _ } => {
+        FlatStep::NewTask { x } => put_deed(notes, 0, sight.tasks, 0, statement, Some(x)),
+        FlatStep::NewPhaser { x } => put_deed(notes, 1, sight.phasers, 0, statement, Some(x)),
+        FlatStep::Fork { x: _, after: _ } => {
             put_deed(notes, 2, task_in(sight.x), 0, statement, None)
         }
-        Step::Reg { x: _, y: _ } => put_deed(
+        FlatStep::Reg { x: _, y: _ } => put_deed(
             notes,
             3,
             task_in(sight.x),
@@ -93,7 +93,7 @@ pub(crate) fn put_note(notes: &mut List<Note>, sight: StepSight) -> Result<(), N
             statement,
             None,
         ),
-        Step::Dereg { x: _ } => {
+        FlatStep::Dereg { x: _ } => {
             put_deed(notes, 4, sight.t.0, phaser_in(sight.x), statement, None)
         }
         _ => Ok(()),
@@ -144,7 +144,7 @@ pub(crate) fn count_turn(last_turns: &mut Vec<LastTurn>, sight: StepSight)
         last_turns[at] = LastTurn { task, turn };
         return;
     }
-    if let Step::Loop {
+    if let FlatStep::Loop {
         k: _,
         after: _,
         steady: _,

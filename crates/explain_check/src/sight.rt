@@ -9,7 +9,7 @@ use crate::frames::Item;
 use armus_base::{MAX_PHASERS, NoMemory, PhaserId, TaskId};
 use pl_plan::checker::Checker;
 use pl_plan::statements::{act, count_visit, fork, leave_if_member};
-use pl_plan::step::{NameId, Step, Thing};
+use pl_plan::step::{FlatStep, NameId, Thing};
 use pl_plan::{CheckFault, PlanEnd};
 use std::alloc::Global;
 
@@ -27,25 +27,25 @@ pub(crate) struct StepSight {
 }
 
 // The first name of a step.
-fn first_of(step: Step) -> Option<NameId>
+fn first_of(step: FlatStep) -> Option<NameId>
     ensures { result ≡ first_name_of step }
 {
     match step {
-        Step::Fork { x, after: _ } => Some(x),
-        Step::Reg { x, y: _ } => Some(x),
-        Step::Dereg { x } => Some(x),
-        Step::Adv { x } => Some(x),
-        Step::Await { x, off: _ } => Some(x),
+        FlatStep::Fork { x, after: _ } => Some(x),
+        FlatStep::Reg { x, y: _ } => Some(x),
+        FlatStep::Dereg { x } => Some(x),
+        FlatStep::Adv { x } => Some(x),
+        FlatStep::Await { x, off: _ } => Some(x),
         _ => None,
     }
 }
 
 // The second name of a step.
-fn second_of(step: Step) -> Option<NameId>
+fn second_of(step: FlatStep) -> Option<NameId>
     ensures { result ≡ second_of step }
 {
     match step {
-        Step::Reg { x: _, y } => Some(y),
+        FlatStep::Reg { x: _, y } => Some(y),
         _ => None,
     }
 }
@@ -102,7 +102,7 @@ fn act_or_fork(
     checker: &mut Checker,
     t: TaskId,
     n: u32,
-    step: Step,
+    step: FlatStep,
 ) -> Result<(), PlanEnd>
     requires fits { IsChecker checker.old }
     requires task { t.0 < length checker.old.parents }
@@ -110,13 +110,19 @@ fn act_or_fork(
     ensures { GivesChecker result (checker_do t.0 n step checker.old) checker.new }
 {
     match step {
-        Step::Fork { x, after } => fork(alloc, checker, t, n, x, after),
+        FlatStep::Fork { x, after } => fork(alloc, checker, t, n, x, after),
         _ => act(alloc, checker, t, n, step),
     }
 }
 
 // A visit.
-fn come(alloc: Global, checker: &mut Checker, t: TaskId, at: u32, step: Step) -> Result<(), PlanEnd>
+fn come(
+    alloc: Global,
+    checker: &mut Checker,
+    t: TaskId,
+    at: u32,
+    step: FlatStep,
+) -> Result<(), PlanEnd>
     requires fits { IsChecker checker.old }
     requires task { t.0 < length checker.old.parents }
     requires names { HasNames (length checker.old.bindings.slots) step }

@@ -9,7 +9,7 @@ use crate::notes::{Deed, Note, last_note, phaser_in, task_in};
 use crate::scene::{Matter, NamedPhaser, NamedTask, Verb};
 use crate::sight::StepSight;
 use armus_base::{List, MAX_PHASERS, MAX_TASKS, NoMemory, PhaserId, TaskId};
-use pl_plan::step::{NameId, Step, Thing};
+use pl_plan::step::{FlatStep, NameId, Thing};
 use pl_plan::{
     ALREADY_FORKED, ALREADY_MEMBER, NOT_DRAWN_HERE, NOT_MEMBER, OTHER_KIND, TOO_MANY_CELLS,
     TOO_MANY_OPS, TOO_MANY_PHASERS, TOO_MANY_TASKS, UNKNOWN_NAME,
@@ -164,11 +164,11 @@ fn names_told(
     ensures { IfOk result (λ m. m ≡ names_told (spelling names.now) notes.now sight sight.item.step) }
 {
     match sight.item.step {
-        Step::Fork { x, after: _ } => thing_told(alloc, names, notes, Verb::Fork, x, sight.x),
-        Step::Reg { x, y } => reg_told(alloc, names, notes, sight, x, y),
-        Step::Dereg { x } => thing_told(alloc, names, notes, Verb::Dereg, x, sight.x),
-        Step::Adv { x } => thing_told(alloc, names, notes, Verb::Adv, x, sight.x),
-        Step::Await { x, off: _ } => thing_told(alloc, names, notes, Verb::Await, x, sight.x),
+        FlatStep::Fork { x, after: _ } => thing_told(alloc, names, notes, Verb::Fork, x, sight.x),
+        FlatStep::Reg { x, y } => reg_told(alloc, names, notes, sight, x, y),
+        FlatStep::Dereg { x } => thing_told(alloc, names, notes, Verb::Dereg, x, sight.x),
+        FlatStep::Adv { x } => thing_told(alloc, names, notes, Verb::Adv, x, sight.x),
+        FlatStep::Await { x, off: _ } => thing_told(alloc, names, notes, Verb::Await, x, sight.x),
         _ => Ok(Matter::TooManyVisits),
     }
 }
@@ -178,7 +178,7 @@ fn wanted_told(sight: StepSight) -> u32
     ensures { result ≡ wanted_told sight sight.item.step }
 {
     match sight.item.step {
-        Step::Reg { x: _, y: _ } => phaser_in(sight.y),
+        FlatStep::Reg { x: _, y: _ } => phaser_in(sight.y),
         _ => phaser_in(sight.x),
     }
 }
@@ -267,7 +267,7 @@ fn cells_told(sight: StepSight) -> Matter
     ensures { result ≡ cells_told sight sight.item.step }
 {
     match sight.item.step {
-        Step::NewTask { x: _ } => Matter::TooManyCells {
+        FlatStep::NewTask { x: _ } => Matter::TooManyCells {
             tasks: sight.tasks + 1,
             phasers: sight.phasers,
         },

@@ -9,7 +9,7 @@ ghost use Rattle.explain_steps.specs.calls.Known.{clock_part_of, kept_parts, kno
 
 use crate::statements::{statement_at, statements_of};
 use armus_base::{List, NoMemory, Plan, TaskId};
-use clock_source_map::op_origins;
+use clock_source_map::clock_op_origins;
 use clock_syntax::{ClockProgram, ClockStmt};
 use explain_clock::{ClockLayout, ClockTextFacts};
 use source_map::TextPlaces;
@@ -48,7 +48,7 @@ impl<'a> ClockOpFacts<'a> {
     {
         let of_text = ClockTextFacts::new(alloc, places, None, layout);
         let statements = statements_of(alloc, &program.body)?;
-        let origins = op_origins(alloc, program, plan)?;
+        let origins = clock_op_origins(alloc, program, plan)?;
         Ok(ClockOpFacts {
             alloc,
             of_text,

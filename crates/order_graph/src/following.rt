@@ -4,12 +4,12 @@ ghost use Rattle.order_graph.specs.calls.Orders.{IsOrder, IsTaskOf};
 ghost use Rattle.order_graph.specs.calls.Waits.{AreWaitsAmong, Awaits, own_set};
 ghost use Rattle.order_graph.specs.inside.Steps.{AnswersEdges, HasOthers, KeepsPairs, PairsFrom, ToWanted};
 
-use crate::{Added, Followed, Order, Row, Waits};
+use crate::{Added, Followed, Order, TaskSet, Waits};
 use armus_base::{NoMemory, TaskId};
 use std::alloc::{AllocError, Global};
 
 // The set of those for whom a task waits.
-fn own_set(waits: &Waits, t: u32) -> &Row
+fn own_set(waits: &Waits, t: u32) -> &TaskSet
     requires task { t < length waits.now.own.items }
     requires inside { All (λ i. i < length waits.now.sets.items) waits.now.own.items }
     ensures { result.now ≡ own_set waits.now (record { 0 = t }) }
@@ -62,7 +62,12 @@ pub(crate) fn add_missing(
 }
 
 // Adds the edges from a task to the tasks of a set that are missing.
-fn add_row(alloc: Global, order: &mut Order, t: TaskId, wanted: &Row) -> Result<Followed, NoMemory>
+fn add_row(
+    alloc: Global,
+    order: &mut Order,
+    t: TaskId,
+    wanted: &TaskSet,
+) -> Result<Followed, NoMemory>
     requires order { IsOrder order.old }
     requires task { IsTaskOf order.old t }
     requires wanted { All (IsTaskOf order.old) wanted.now }

@@ -18,5 +18,5 @@ mod words;
 
 pub use answers::{Added, Followed};
 pub use order::Order;
-pub use row::Row;
+pub use row::TaskSet;
 pub use waits::Waits;

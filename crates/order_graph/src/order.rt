@@ -14,7 +14,7 @@ ghost use Rattle.order_graph.specs.inside.Rows.{KeepsOnly};
 
 use crate::mending::{FoundBelow, look};
 use crate::waits::waits_of;
-use crate::{Added, Followed, Row, Waits, following, settling};
+use crate::{Added, Followed, TaskSet, Waits, following, settling};
 use armus_base::{List, NoMemory, TaskId};
 use dep_state::DepState;
 use std::alloc::{AllocError, Global};
@@ -26,7 +26,7 @@ use std::marker::Model;
 pub struct Order {
     positions: Vec<u32>,
     at: Vec<TaskId>,
-    rows: Vec<Row>,
+    rows: Vec<TaskSet>,
 }
 
 impl Model for Order {
@@ -52,7 +52,7 @@ impl Order {
         for t in 0..tasks {
             positions.push(t)?;
             at.push(TaskId(t))?;
-            rows.push(Row::none(alloc))?;
+            rows.push(TaskSet::none(alloc))?;
         }
         Ok(Order {
             positions,
@@ -147,7 +147,7 @@ impl Order {
     }
 
     // The tasks to which there is an edge from a task.
-    pub(crate) fn row(&self, a: TaskId) -> &Row
+    pub(crate) fn row(&self, a: TaskId) -> &TaskSet
         requires { IsTaskOf self.now a }
         ensures row { result.now ≡ successors_of self.now a }
         ensures order { IsOrder self.now }
@@ -198,7 +198,7 @@ impl Order {
     }
 
     // Takes the edges from a task away that do not lead to wanted tasks; true only where all edges to wanted tasks are there.
-    pub(crate) fn keep_only(&mut self, t: TaskId, wanted: &Row) -> bool
+    pub(crate) fn keep_only(&mut self, t: TaskId, wanted: &TaskSet) -> bool
         requires task { IsTaskOf self.old t }
         ensures kept { KeepsOnly t wanted.now self.old self.new }
         ensures all { IsTrue result → successors_of self.new t ≡ wanted.now }

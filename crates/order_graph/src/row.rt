@@ -10,11 +10,11 @@ use std::marker::Model;
 
 /// A set of tasks, a bit for each. Contracts see the tasks in order of number.
 #[derive(Drop)]
-pub struct Row {
+pub struct TaskSet {
     words: Vec<u64>,
 }
 
-impl Model for Row {
+impl Model for TaskSet {
     ghost use Rattle.std.specs.Prelude.{List, length, ◌≤◌, ◌^◌};
     ghost use Rattle.armus_base.specs.declared.ids.TaskId.{TaskId};
     ghost use Rattle.order_graph.specs.inside.Bits.{tasks_by_bits};
@@ -26,12 +26,12 @@ impl Model for Row {
     ghost invariant = { λ r. length r.words.items ≤ 2 ^ 26 };
 }
 
-impl Row {
+impl TaskSet {
     /// No task.
-    pub fn none(alloc: Global) -> Row
+    pub fn none(alloc: Global) -> TaskSet
         ensures { result ≡ [] }
     {
-        Row {
+        TaskSet {
             words: Vec::new(alloc),
         }
     }
@@ -64,7 +64,7 @@ impl Row {
     }
 
     /// Leaves the tasks alone that are of another set too; true only where these are all of that set.
-    pub fn keep_common(&mut self, other: &Row) -> bool
+    pub fn keep_common(&mut self, other: &TaskSet) -> bool
         ensures ascends { Ascend self.new }
         ensures members { (u : TaskId) → Contains self.new u ↔ (Contains self.old u × Contains other.now u) }
         ensures same { IsTrue result → self.new ≡ other.now }
@@ -73,7 +73,7 @@ impl Row {
     }
 
     /// Whether two sets have the same tasks.
-    pub fn is_same(&self, other: &Row) -> bool
+    pub fn is_same(&self, other: &TaskSet) -> bool
         ensures { IsTrue result → self.now ≡ other.now }
     {
         words::is_same(&self.words, &other.words)
@@ -87,7 +87,7 @@ impl Row {
     }
 
     /// The tasks that another set does not have.
-    pub fn tasks_less(&self, alloc: Global, other: &Row) -> Result<Vec<TaskId>, AllocError>
+    pub fn tasks_less(&self, alloc: Global, other: &TaskSet) -> Result<Vec<TaskId>, AllocError>
         ensures within { IfOk result (λ list. (u : TaskId) → Contains list.items u → Contains self.now u × (Contains other.now u → ⊥)) }
         ensures all { IfOk result (λ list. (u : TaskId) → Contains self.now u → Contains list.items u ⊎ Contains other.now u) }
     {

@@ -9,7 +9,7 @@ ghost use Rattle.dep_state.specs.inside.Names.{named};
 ghost use Rattle.order_graph.specs.calls.Waits.{AreWaitsAmong, Awaits};
 ghost use Rattle.order_graph.specs.inside.Gathered.{AreImpeding, AreOwnPlaces};
 
-use crate::Row;
+use crate::TaskSet;
 use armus_base::{NoMemory, TaskId};
 use dep_state::DepState;
 use std::alloc::{AllocError, Global};
@@ -18,17 +18,17 @@ use std::alloc::{AllocError, Global};
 #[derive(Drop)]
 pub struct Waits {
     /// sets of tasks
-    pub sets: Vec<Row>,
+    pub sets: Vec<TaskSet>,
     /// for each task the place among the sets of that for whose tasks it waits
     pub own: Vec<u32>,
 }
 
 // The set of the tasks at some places.
-fn set_of(alloc: Global, tasks: &[TaskId], places: &[u32]) -> Result<Row, AllocError>
+fn set_of(alloc: Global, tasks: &[TaskId], places: &[u32]) -> Result<TaskSet, AllocError>
     requires { All (λ k. k < length tasks.now) places.now }
     ensures { IfOk result (λ row. (u : TaskId) → Contains row u ↔ Contains (named tasks.now places.now) u) }
 {
-    let mut row = Row::none(alloc);
+    let mut row = TaskSet::none(alloc);
     for k in places {
         row.put(tasks[*k as usize])?;
     }
@@ -36,7 +36,7 @@ fn set_of(alloc: Global, tasks: &[TaskId], places: &[u32]) -> Result<Row, AllocE
 }
 
 // For each event the set of the tasks that impede it, and then the empty set.
-fn sets_of(alloc: Global, deps: &DepState) -> Result<Vec<Row>, AllocError>
+fn sets_of(alloc: Global, deps: &DepState) -> Result<Vec<TaskSet>, AllocError>
     ensures sets { IfOk result (λ sets. AreImpeding deps.now sets.items) }
     ensures formed { AreRelations deps.now }
 {
@@ -45,7 +45,7 @@ fn sets_of(alloc: Global, deps: &DepState) -> Result<Vec<Row>, AllocError>
         let set = set_of(alloc, deps.tasks(), deps.impeders_at(e as u32))?;
         sets.push(set)?;
     }
-    sets.push(Row::none(alloc))?;
+    sets.push(TaskSet::none(alloc))?;
     Ok(sets)
 }
 

@@ -77,18 +77,18 @@ fn clear_refused(phases: &mut MemberTable, t: usize, refused: bool)
 
 // What is kept of the tasks, and their phases, so far.
 #[derive(Drop)]
-pub(crate) struct Walk {
+pub(crate) struct CodeWalk {
     pub(crate) tasks: Vec<TaskRecord>,
     pub(crate) phases: MemberTable,
 }
 
-impl Walk {
+impl CodeWalk {
     /// What is kept at these places, and a cursor for each task.
     pub(crate) fn to_places<'p>(
         alloc: Global,
         plan: &'p Plan,
         places: &[Place],
-    ) -> Result<(Walk, Vec<Cursor<'p>>), NoMemory>
+    ) -> Result<(CodeWalk, Vec<Cursor<'p>>), NoMemory>
         requires given { AreReachable plan.now places.now }
         ensures kept { IfOk result (λ w. KeepsState plan.now w.0.tasks.items w.0.phases) }
         ensures places { IfOk result (λ w. kept_places w.0.tasks.items ≡ places.now) }
@@ -97,7 +97,7 @@ impl Walk {
         let count = plan.tasks() as usize;
         let phases = MemberTable::of(alloc, plan)?;
         let tasks = first_tasks(alloc, count)?;
-        let mut walk = Walk { tasks, phases };
+        let mut walk = CodeWalk { tasks, phases };
         let mut cursors = Vec::new(alloc);
         for t in 0..plan.tasks() {
             cursors.push(walk.settle(plan, places, TaskId(t)))?;

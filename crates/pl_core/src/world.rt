@@ -16,7 +16,7 @@ use crate::cursors::first_cursors;
 use crate::highest::highest_of;
 use crate::phase_table::MemberTable;
 use crate::task::{TaskRecord, first_tasks};
-use crate::walk::Walk;
+use crate::walk::CodeWalk;
 use armus_base::{Cursor, NoMemory, Plan};
 use std::alloc::Global;
 use std::marker::Model;
@@ -70,7 +70,7 @@ impl<'p> World<'p> {
         requires reachable { IsReachable plan.now (places_at plan.now places.now) }
         ensures at { IfOk result (λ world. IsAtPlaces plan.now places.now world) }
     {
-        let (walk, cursors) = Walk::to_places(alloc, plan, places)?;
+        let (walk, cursors) = CodeWalk::to_places(alloc, plan, places)?;
         let highest = highest_of(alloc, &walk.tasks, plan.phasers() as usize)?;
         Ok(World {
             plan,

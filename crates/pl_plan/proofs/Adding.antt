@@ -11,8 +11,8 @@ use Rattle.pl_syntax.specs.Tree.{Tree, done, fork, loop, count}
 use Rattle.pl_syntax.specs.calls.Bodies.{followed_by, tree_of}
 use Rattle.pl_plan.specs.FoldedOps.{is_steady}
 use Rattle.pl_plan.specs.declared.step.NameId.{NameId}
-use Rattle.pl_plan.specs.declared.step.Step.{Step}
-use Rattle.pl_plan.specs.declared.step.Step.TheVariants as a_step
+use Rattle.pl_plan.specs.declared.step.FlatStep.{FlatStep}
+use Rattle.pl_plan.specs.declared.step.FlatStep.TheVariants as a_step
 use Rattle.pl_plan.specs.inside.Steps.{IsNumberOfName, IsSpelled, step_at}
 use Rattle.pl_plan.specs.inside.Shows.{IsNumbering}
 use Rattle.pl_plan.specs.inside.Numbers.{spelling, IsMore}
@@ -35,31 +35,31 @@ earlier_name a b i x h n = name_more (length a) (spelling a) (length b) (spellin
 
 -- where a body's steps end, behind one step
 body_end :
-    (c : List (Bor (List ℕ))) (steps mid new : List Step) (step : Step) (after : ℕ) (body : Tree) → mid ≡ steps ++ step ∷ [] →
+    (c : List (Bor (List ℕ))) (steps mid new : List FlatStep) (step : FlatStep) (after : ℕ) (body : Tree) → mid ≡ steps ++ step ∷ [] →
     after ≡ length steps + 1 + count body → IsSpelled (length c) (spelling c) new (length mid) body (length new) → after ≡ length new
 body_end c steps mid new step after body is at h =
     omega (arith, spelled_count (length c) (spelling c) new (length mid) body (length new) h, ap length is ∙ length-append steps (step ∷ []))
 
 -- the step before a body
-step_before : (steps mid new : List Step) (step : Step) → mid ≡ steps ++ step ∷ [] → (more : List Step) × (new ≡ mid ++ more) → step_at new (length steps) ≡ step
+step_before : (steps mid new : List FlatStep) (step : FlatStep) → mid ≡ steps ++ step ∷ [] → (more : List FlatStep) × (new ≡ mid ++ more) → step_at new (length steps) ≡ step
 step_before steps mid new step is more =
     ap (λ xs. step_at xs (length steps)) (more.1 ∙ ap (λ xs. xs ++ more.0) is ∙ append_assoc steps (step ∷ []) more.0)
     ∙ get_or-append_seam steps step more.0 a_step.Skip
 
 -- a body's steps begin behind the one step
 body_steps :
-    (c : List (Bor (List ℕ))) (steps mid new : List Step) (step : Step) (after : ℕ) (body : Tree) → mid ≡ steps ++ step ∷ [] → after ≡ length new →
+    (c : List (Bor (List ℕ))) (steps mid new : List FlatStep) (step : FlatStep) (after : ℕ) (body : Tree) → mid ≡ steps ++ step ∷ [] → after ≡ length new →
     IsSpelled (length c) (spelling c) new (length mid) body (length new) → IsSpelled (length c) (spelling c) new (length steps + 1) body after
 body_steps c steps mid new step after body is ends h =
     subst (λ z. IsSpelled (length c) (spelling c) new (length steps + 1) body z) (sym ends)
     (subst (λ z. IsSpelled (length c) (spelling c) new z body (length new)) (ap length is ∙ length-append steps (step ∷ [])) h)
 
-added_behind : (steps mid new : List Step) (step : Step) → mid ≡ steps ++ step ∷ [] → (more : List Step) × (new ≡ mid ++ more) → (more : List Step) × (new ≡ steps ++ more)
+added_behind : (steps mid new : List FlatStep) (step : FlatStep) → mid ≡ steps ++ step ∷ [] → (more : List FlatStep) × (new ≡ mid ++ more) → (more : List FlatStep) × (new ≡ steps ++ more)
 added_behind steps mid new step is more = (step ∷ [] ++ more.0, more.1 ∙ ap (λ xs. xs ++ more.0) is ∙ append_assoc steps (step ∷ []) more.0)
 
 -- a fork, and the steps of its body
 pub adds_fork :
-    (a b c : List (Bor (List ℕ))) (steps mid new : List Step) (i : NameId) (x : List ℕ) (after : ℕ) (body : Tree) → IsMore a b →
+    (a b c : List (Bor (List ℕ))) (steps mid new : List FlatStep) (i : NameId) (x : List ℕ) (after : ℕ) (body : Tree) → IsMore a b →
     mid ≡ steps ++ a_step.Fork i after ∷ [] → after ≡ length steps + 1 + count body → IsNumberOfName (length b) (spelling b) i x →
     AddsSteps b c mid new body → AddsSteps a c steps new (fork x body done)
 adds_fork a b c steps mid new i x after body more is at named adds =
@@ -80,7 +80,7 @@ adds_fork a b c steps mid new i x after body more is at named adds =
 
 -- a loop, and the steps of its body
 pub adds_loop :
-    (a c : List (Bor (List ℕ))) (steps mid new : List Step) (k after : ℕ) (steady : Bool) (body : Tree) → k ≤ max_turns → steady ≡ is_steady body →
+    (a c : List (Bor (List ℕ))) (steps mid new : List FlatStep) (k after : ℕ) (steady : Bool) (body : Tree) → k ≤ max_turns → steady ≡ is_steady body →
     mid ≡ steps ++ a_step.Loop k after steady ∷ [] → after ≡ length steps + 1 + count body → AddsSteps a c mid new body →
     AddsSteps a c steps new (loop k body done)
 adds_loop a c steps mid new k after steady body few same is at adds =
@@ -99,12 +99,12 @@ adds_loop a c steps mid new k after steady body few same is at adds =
     }
 
 -- no statement
-pub adds_nothing : (a : List (Bor (List ℕ))) (steps : List Step) → IsNumbering (length a) (spelling a) → AddsSteps a a steps steps done
+pub adds_nothing : (a : List (Bor (List ℕ))) (steps : List FlatStep) → IsNumbering (length a) (spelling a) → AddsSteps a a steps steps done
 adds_nothing a steps distinct = record { names = same_names a; distinct = distinct; added = ([], sym (append-nil steps)); spelled = refl }
 
 -- one statement more
 pub adds_more :
-    (a b c : List (Bor (List ℕ))) (steps mid new : List Step) (xs : List Stmt) (q : Stmt) → AddsSteps a b steps mid (tree_of xs) →
+    (a b c : List (Bor (List ℕ))) (steps mid new : List FlatStep) (xs : List Stmt) (q : Stmt) → AddsSteps a b steps mid (tree_of xs) →
     AddsSteps b c mid new (followed_by q done) → AddsSteps a c steps new (tree_of (xs ++ q ∷ []))
 adds_more a b c steps mid new xs q h k =
     record {
@@ -119,12 +119,12 @@ adds_more a b c steps mid new xs q h k =
     }
 
 -- So many statements of a body are flattened, and the rest has room.
-pub record Flattened (old_names names : List (Bor (List ℕ))) (old steps : List Step) (items : List Stmt) (i : ℕ) : Type 0 where
+pub record Flattened (old_names names : List (Bor (List ℕ))) (old steps : List FlatStep) (items : List Stmt) (i : ℕ) : Type 0 where
   pub so_far : AddsSteps old_names names old steps (tree_of (take i items))
   pub room : length steps + count (tree_of (drop i items)) ≡ length old + count (tree_of items)
 
 pub flattened_more :
-    (a b c : List (Bor (List ℕ))) (old mid new : List Step) (items : List Stmt) (i : ℕ) (q : Stmt) → i < length items → q ≡ get_or items i q →
+    (a b c : List (Bor (List ℕ))) (old mid new : List FlatStep) (items : List Stmt) (i : ℕ) (q : Stmt) → i < length items → q ≡ get_or items i q →
     Flattened a b old mid items i → AddsSteps b c mid new (followed_by q done) → Flattened a c old new items (i + 1)
 flattened_more a b c old mid new items i q l is h k =
     record {

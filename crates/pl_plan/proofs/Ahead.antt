@@ -2,8 +2,8 @@
 use Rattle.std.proofs.Common.{◌≡◌, ℕ, suc, ◌+◌, ◌-◌, ◌<◌, ◌≤◌, Bool, List, length, Ok, Err, Result, arith, sym, ◌∙◌, ap, subst, refl}
 use Rattle.pl_syntax.specs.Tree.{Tree}
 use Rattle.pl_plan.specs.declared.step.NameId.{NameId}
-use Rattle.pl_plan.specs.declared.step.Step.{Step}
-use Rattle.pl_plan.specs.declared.step.Step.TheVariants as a_step
+use Rattle.pl_plan.specs.declared.step.FlatStep.{FlatStep}
+use Rattle.pl_plan.specs.declared.step.FlatStep.TheVariants as a_step
 use Rattle.pl_plan.specs.declared.fault.CheckFault.{CheckFault}
 use Rattle.pl_plan.specs.declared.fault.PlanEnd.{PlanEnd}
 use Rattle.pl_plan.specs.declared.fault.PlanEnd.TheVariants as ends
@@ -67,15 +67,15 @@ module _ (from to t : ℕ) (old : Checker) (at : ℕ) (k : Checker) (old_runs : 
     pub steps1 : k1.steps ≡ old.steps
     steps1 = kept1.steps ∙ inv.keeps.steps
 
-    pub ahead_names : (step : Step) → step ≡ step_at k.steps at → IsPlain step → HasNames (length k1.bindings.slots) step
+    pub ahead_names : (step : FlatStep) → step ≡ step_at k.steps at → IsPlain step → HasNames (length k1.bindings.slots) step
     ahead_names step is p = subst (HasNames (length k1.bindings.slots)) (sym is) (plain_names to t at k here_fits run lt list k1 visited (subst IsPlain is p))
 
-    pub ahead_plain : (step : Step) → step ≡ step_at k.steps at → IsPlain step → (k2 : Checker) → checker_act t (at + 1) step k1 ≡ Ok k2 →
+    pub ahead_plain : (step : FlatStep) → step ≡ step_at k.steps at → IsPlain step → (k2 : Checker) → checker_act t (at + 1) step k1 ≡ Ok k2 →
         On (length old.bindings.slots) to t old.steps from old (at + 1) k2
     ahead_plain step is p k2 did = next_on (at + 1) k2
         (plain_on to t at k here_fits run lt list k1 visited (subst IsPlain is p) k2 (ap (λ z. checker_act t (at + 1) z k1) (sym is) ∙ did))
 
-    pub ahead_plain_fails : (step : Step) → step ≡ step_at k.steps at → IsPlain step → (e : PlanEnd) (k2 kk : Checker) →
+    pub ahead_plain_fails : (step : FlatStep) → step ≡ step_at k.steps at → IsPlain step → (e : PlanEnd) (k2 kk : Checker) →
         GivesChecker {A = Unit {0}} (Err e) (checker_act t (at + 1) step k1) k2 → (r : Result (Unit {0}) PlanEnd) → r ≡ Err e → FollowsFrom from to t old r kk
     ahead_plain_fails step is p e k2 kk g = end_follows from to t old kk e
         (λ f ef. failed_from f (plain_fails to t at k here_fits run lt list k1 visited (subst IsPlain is p) f
@@ -203,7 +203,7 @@ pub turn_spelled : (a b : Checker) (names : ℕ → List ℕ) (i : ℕ) (tree : 
     IsSpelled (length b.bindings.slots) names b.steps i tree to
 turn_spelled = respell
 
-pub plain_is : (step : Step) → ((x : NameId) (a : ℕ) → step ≡ a_step.Fork x a → ⊥) → ((i a : ℕ) (steady : Bool) → step ≡ a_step.Loop i a steady → ⊥) → IsPlain step
+pub plain_is : (step : FlatStep) → ((x : NameId) (a : ℕ) → step ≡ a_step.Fork x a → ⊥) → ((i a : ℕ) (steady : Bool) → step ≡ a_step.Loop i a steady → ⊥) → IsPlain step
 plain_is (a_step.Fork x a) f l = f x a refl
 plain_is (a_step.Loop i a steady) f l = l i a steady refl
 plain_is (a_step.NewTask x) f l = tt

@@ -7,19 +7,19 @@ use Rattle.armus_base.specs.declared.piece.Piece.{Piece}
 use Rattle.armus_base.specs.Finals.{list_below}
 use Rattle.armus_base.specs.Limits.{max_ops}
 use Rattle.armus_base.specs.calls.Pieces.{IsFolded}
-use Rattle.pl_plan.specs.declared.step.Step.{Step}
+use Rattle.pl_plan.specs.declared.step.FlatStep.{FlatStep}
 use Rattle.pl_plan.specs.Unfolding.{Start, code_pieces}
 use Rattle.pl_plan.specs.inside.Checker.{CheckerStart}
 use Rattle.pl_plan.specs.inside.FoldsSteps.{AreFolded, CanBeFolded, HasTreeAt, SpellStarts, SpellsStart, pieces_by}
 
 -- the codes of the tasks whose lists are taken out
-pub record CodesFolded (steps : List Step) (kept : List (Option CheckerStart)) (lists yielded rest : List (List Op)) (codes : List (List Piece)) : Type 0 where
+pub record CodesFolded (steps : List FlatStep) (kept : List (Option CheckerStart)) (lists yielded rest : List (List Op)) (codes : List (List Piece)) : Type 0 where
   pub all : lists ≡ yielded ++ rest
   pub many : length codes ≡ length yielded
   pub folded : (n : ℕ) (names : ℕ → List ℕ) (starts : List (Option Start)) → SpellStarts n names steps starts kept →
       codes ≡ list_below (pieces_by starts lists) (length codes)
 
-pub codes_start : (steps : List Step) (kept : List (Option CheckerStart)) (lists rest : List (List Op)) (codes : List (List Piece)) → rest ≡ lists → codes ≡ [] →
+pub codes_start : (steps : List FlatStep) (kept : List (Option CheckerStart)) (lists rest : List (List Op)) (codes : List (List Piece)) → rest ≡ lists → codes ≡ [] →
     CodesFolded steps kept lists [] rest codes
 codes_start steps kept lists rest codes all none = record {
   all = sym all;
@@ -27,14 +27,14 @@ codes_start steps kept lists rest codes all none = record {
   folded = λ n names starts spell. none ∙ ap (λ m. list_below (pieces_by starts lists) m) (sym (ap (λ xs. length xs) none));
 }
 
-pub codes_end : (steps : List Step) (kept : List (Option CheckerStart)) (lists yielded rest : List (List Op)) (codes : List (List Piece)) → rest ≡ [] →
+pub codes_end : (steps : List FlatStep) (kept : List (Option CheckerStart)) (lists yielded rest : List (List Op)) (codes : List (List Piece)) → rest ≡ [] →
     CodesFolded steps kept lists yielded rest codes → AreFolded steps kept lists codes
 codes_end steps kept lists yielded rest codes none h n names starts spell =
     let whole : length codes ≡ length lists =
     h.many ∙ ap (λ xs. length xs) (sym (h.all ∙ ap (λ xs. yielded ++ xs) none ∙ append-nil yielded)) in
     h.folded n names starts spell ∙ ap (λ m. list_below (pieces_by starts lists) m) whole
 
-module _ (steps : List Step) (kept : List (Option CheckerStart)) (lists yielded rest : List (List Op)) (codes : List (List Piece))
+module _ (steps : List FlatStep) (kept : List (Option CheckerStart)) (lists yielded rest : List (List Op)) (codes : List (List Piece))
     (can : CanBeFolded steps kept lists) (h : CodesFolded steps kept lists yielded rest codes) (ops : List Op) (later : List (List Op)) (first : rest ≡ ops ∷ later) where
   there : lists ≡ yielded ++ ops ∷ later
   there = h.all ∙ ap (λ xs. yielded ++ xs) first

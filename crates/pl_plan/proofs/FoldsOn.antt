@@ -7,8 +7,8 @@ use Rattle.armus_base.specs.declared.piece.Piece.{Piece}
 use Rattle.armus_base.specs.declared.piece.Piece.TheVariants.{Repeat}
 use Rattle.pl_syntax.specs.Tree.{Tree, done, plain, fork, loop, Plain, new_task, new_phaser, reg, dereg, adv, await, skip, count}
 use Rattle.pl_plan.specs.declared.step.NameId.{NameId}
-use Rattle.pl_plan.specs.declared.step.Step.{Step}
-use Rattle.pl_plan.specs.declared.step.Step.TheVariants as a_step
+use Rattle.pl_plan.specs.declared.step.FlatStep.{FlatStep}
+use Rattle.pl_plan.specs.declared.step.FlatStep.TheVariants as a_step
 use Rattle.pl_plan.specs.FoldedOps.{Folding, folding, is_steady, is_steady_plain, loop_behind, loop_pieces, makes_op, one_piece, pieces_in, steady_pieces, then_on, turn_pieces}
 use Rattle.pl_plan.specs.inside.Steps.{IsSpelled, IsStep, step_at}
 use Rattle.pl_plan.specs.inside.FoldsSteps.{HasTree, HasTreeOf, step_folding}
@@ -53,7 +53,7 @@ goes_on_end old now whole left h = (
 -- ---- the steps of a list
 
 -- the steps up to this index are folded
-pub record StepsFolded (steps : List Step) (from to : ℕ) (ops : List Op) (old : List Piece) (at : ℕ) (left : List Op) (now : List Piece) : Type 0 where
+pub record StepsFolded (steps : List FlatStep) (from to : ℕ) (ops : List Op) (old : List Piece) (at : ℕ) (left : List Op) (now : List Piece) : Type 0 where
   pub within : at ≤ to
   pub forward : from ≤ at
   pub spelled : HasTree steps at to
@@ -61,7 +61,7 @@ pub record StepsFolded (steps : List Step) (from to : ℕ) (ops : List Op) (old 
   pub all : (n : ℕ) (names : ℕ → List ℕ) (tree : Tree) → IsSpelled n names steps from tree to →
       (rest : Tree) × IsSpelled n names steps at rest to × GoesOn old now (pieces_in tree ops) (pieces_in rest left)
 
-pub steps_start : (steps : List Step) (from to : ℕ) (ops : List Op) (old : List Piece) → HasTree steps from to → StepsFolded steps from to ops old from ops old
+pub steps_start : (steps : List FlatStep) (from to : ℕ) (ops : List Op) (old : List Piece) → HasTree steps from to → StepsFolded steps from to ops old from ops old
 steps_start steps from to ops old h = record {
   within = (let c = spelled_count h.0 h.1 steps from h.2 to h.3 in omega arith);
   forward = omega arith;
@@ -71,7 +71,7 @@ steps_start steps from to ops old h = record {
 }
 
 -- what a step without a body folds is what its statement does
-plain_folds : (n : ℕ) (names : ℕ → List ℕ) (step : Step) (s : Plain) → IsStep n names step s → (rest : Tree) (os : List Op) →
+plain_folds : (n : ℕ) (names : ℕ → List ℕ) (step : FlatStep) (s : Plain) → IsStep n names step s → (rest : Tree) (os : List Op) →
     pieces_in (plain s rest) os ≡ then_on (step_folding step os) (pieces_in rest)
 plain_folds n names step (new_task x) h rest os = ap (λ z. then_on (step_folding z os) (pieces_in rest)) (sym h.1)
 plain_folds n names step (new_phaser x) h rest os = ap (λ z. then_on (step_folding z os) (pieces_in rest)) (sym h.1)
@@ -85,7 +85,7 @@ one_fewer : (os : List Op) → length (one_piece os).rest ≤ length os
 one_fewer [] = omega arith
 one_fewer (o ∷ os) = omega arith
 
-step_fewer : (step : Step) (os : List Op) → length (step_folding step os).rest ≤ length os
+step_fewer : (step : FlatStep) (os : List Op) → length (step_folding step os).rest ≤ length os
 step_fewer (a_step.NewTask x) os = omega arith
 step_fewer a_step.Skip os = omega arith
 step_fewer (a_step.NewPhaser x) os = one_fewer os
@@ -96,9 +96,9 @@ step_fewer (a_step.Adv x) os = one_fewer os
 step_fewer (a_step.Await x off) os = one_fewer os
 step_fewer (a_step.Loop k a steady) os = one_fewer os
 
-module _ (steps : List Step) (from to : ℕ) (ops : List Op) (old : List Piece) (at : ℕ) (left : List Op) (now : List Piece)
+module _ (steps : List FlatStep) (from to : ℕ) (ops : List Op) (old : List Piece) (at : ℕ) (left : List Op) (now : List Piece)
     (h : StepsFolded steps from to ops old at left now) (lt : at < to) where
-  pub steps_plain : (step : Step) → step ≡ step_at steps at → IsPlain step → (next : List Piece) (after : List Op) →
+  pub steps_plain : (step : FlatStep) → step ≡ step_at steps at → IsPlain step → (next : List Piece) (after : List Op) →
       (next ≡ now ++ (step_folding step left).pieces) × (after ≡ (step_folding step left).rest) → StepsFolded steps from to ops old (at + 1) after next
   steps_plain step is p next after did =
       let plain_there = subst IsPlain is p in
@@ -184,7 +184,7 @@ module _ (steps : List Step) (from to : ℕ) (ops : List Op) (old : List Piece) 
               );
         }
 
-pub steps_end : (steps : List Step) (from to : ℕ) (ops : List Op) (old : List Piece) (at : ℕ) (left : List Op) (now : List Piece) →
+pub steps_end : (steps : List FlatStep) (from to : ℕ) (ops : List Op) (old : List Piece) (at : ℕ) (left : List Op) (now : List Piece) →
     StepsFolded steps from to ops old at left now → to ≤ at → (n : ℕ) (names : ℕ → List ℕ) (tree : Tree) → IsSpelled n names steps from tree to →
     (now ≡ old ++ (pieces_in tree ops).pieces) × (left ≡ (pieces_in tree ops).rest)
 steps_end steps from to ops old at left now h le n names tree sp =
@@ -200,12 +200,12 @@ steps_end steps from to ops old at left now h le n names tree sp =
 -- ---- turn by turn
 
 -- so many turns are folded
-pub record TurnsFolded (steps : List Step) (at after turns : ℕ) (ops : List Op) (old : List Piece) (i : ℕ) (left : List Op) (now : List Piece) : Type 0 where
+pub record TurnsFolded (steps : List FlatStep) (at after turns : ℕ) (ops : List Op) (old : List Piece) (i : ℕ) (left : List Op) (now : List Piece) : Type 0 where
   pub fewer : length left ≤ length ops
   pub all : (n : ℕ) (names : ℕ → List ℕ) (tree : Tree) → IsSpelled n names steps (at + 1) tree after →
       GoesOn old now (turn_pieces turns (pieces_in tree) ops) (turn_pieces (turns - i) (pieces_in tree) left)
 
-pub turns_start : (steps : List Step) (at after turns : ℕ) (ops : List Op) (old : List Piece) → TurnsFolded steps at after turns ops old 0 ops old
+pub turns_start : (steps : List FlatStep) (at after turns : ℕ) (ops : List Op) (old : List Piece) → TurnsFolded steps at after turns ops old 0 ops old
 turns_start steps at after turns ops old = record {
   fewer = omega arith;
   all = λ n names tree sp.
@@ -214,7 +214,7 @@ turns_start steps at after turns ops old = record {
       (goes_on_start old (turn_pieces turns (pieces_in tree) ops));
 }
 
-module _ (steps : List Step) (at after turns : ℕ) (ops : List Op) (old : List Piece) (i : ℕ) (left : List Op) (now : List Piece)
+module _ (steps : List FlatStep) (at after turns : ℕ) (ops : List Op) (old : List Piece) (i : ℕ) (left : List Op) (now : List Piece)
     (h : TurnsFolded steps at after turns ops old i left now) where
   pub turns_next : i < turns → (next : List Piece) (os : List Op) → length os ≤ length left →
       ((n : ℕ) (names : ℕ → List ℕ) (tree : Tree) → IsSpelled n names steps (at + 1) tree after →

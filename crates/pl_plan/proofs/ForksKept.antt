@@ -3,7 +3,7 @@ use Rattle.std.proofs.Common.{◌≡◌, ℕ, ◌-◌, ◌<◌, Option, Some, No
 use Rattle.std.proofs.lemmas.List.{ext_get_or, get_or-map, length-map}
 use Rattle.armus_base.specs.Limits.{max_tasks}
 use Rattle.pl_syntax.specs.declared.tree.Program.{Program}
-use Rattle.pl_plan.specs.declared.step.Step.{Step}
+use Rattle.pl_plan.specs.declared.step.FlatStep.{FlatStep}
 use Rattle.pl_plan.specs.Forks.{fork_of, fork_statements, starts_in, starts_of}
 use Rattle.pl_plan.specs.Unfolding.{Start, UnfoldingState, opening_state, unfold_tasks}
 use Rattle.pl_plan.specs.inside.Checker.{Checker, CheckerStart}
@@ -15,7 +15,7 @@ pub starts_found : (program : Program) (end : UnfoldingState) → unfold_tasks p
 unfolding starts_of
 starts_found program end e = ap starts_in e
 
-same_fork : (names : ℕ → List ℕ) (slots : List ℕ) (steps : List Step) (start : Option Start) (kept : Option CheckerStart) → MaybeStartShows names slots steps start kept →
+same_fork : (names : ℕ → List ℕ) (slots : List ℕ) (steps : List FlatStep) (start : Option Start) (kept : Option CheckerStart) → MaybeStartShows names slots steps start kept →
     kept_fork kept ≡ fork_of start
 same_fork names slots steps None None h = cc
 same_fork names slots steps (Some start) (Some kept) h = ap Some (let e : kept.first ≡ start.first - 1 = omega (arith, h.first) in e)

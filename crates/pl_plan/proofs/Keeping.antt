@@ -5,7 +5,7 @@ use Rattle.std.proofs.lemmas.Bool.{cases_lt}
 use Rattle.std.proofs.lemmas.List.{length-set, length-append, length-take, length-replicate, get_or-set_same, get_or-set_other, get_or-take, get_or-replicate, get_or_past, get_or_append_left, get_or-append_right}
 use Rattle.armus_base.specs.Limits.{max_tasks, max_phasers}
 use Rattle.armus_base.specs.declared.op.Op.{Op}
-use Rattle.pl_plan.specs.declared.step.Step.{Step}
+use Rattle.pl_plan.specs.declared.step.FlatStep.{FlatStep}
 use Rattle.pl_plan.specs.declared.step.Thing.{Thing}
 use Rattle.pl_plan.specs.declared.step.Thing.TheVariants.{Nothing, Task, Phaser}
 use Rattle.pl_plan.specs.inside.Steps.{IsList}
@@ -62,7 +62,7 @@ padded_same vs k = elim (cases_lt k (length vs)) [
 pub length_padded : (vs : List Thing) → length vs ≤ max_tasks + max_phasers → length (padded vs) ≡ max_tasks + max_phasers
 length_padded vs le = omega (arith, length-append vs (replicate (max_tasks + max_phasers - length vs) Nothing), length-replicate (max_tasks + max_phasers - length vs) Nothing)
 
-pub start_more : (a b n a' b' n' m m' : ℕ) (steps : List Step) (o : Option CheckerStart) → a ≤ a' → b ≤ b' → n ≤ n' → m ≡ m' → StartFits a b n m steps o →
+pub start_more : (a b n a' b' n' m m' : ℕ) (steps : List FlatStep) (o : Option CheckerStart) → a ≤ a' → b ≤ b' → n ≤ n' → m ≡ m' → StartFits a b n m steps o →
     StartFits a' b' n' m' steps o
 start_more a b n a' b' n' m m' steps None p q r e h = tt
 start_more a b n a' b' n' m m' steps (Some s) p q r e h = record {

@@ -2,8 +2,8 @@
 use Rattle.std.proofs.Common.{◌≡◌, ℕ, ◌+◌, ◌<◌, ◌≤◌, Bool, List, ◌∷◌, ◌++◌, length, Ok, Err, arith, sym, ◌∙◌, ap, subst}
 use Rattle.pl_syntax.specs.Tree.{Tree, done, plain, fork, loop, Plain, count}
 use Rattle.pl_plan.specs.declared.step.NameId.{NameId}
-use Rattle.pl_plan.specs.declared.step.Step.{Step}
-use Rattle.pl_plan.specs.declared.step.Step.TheVariants as a_step
+use Rattle.pl_plan.specs.declared.step.FlatStep.{FlatStep}
+use Rattle.pl_plan.specs.declared.step.FlatStep.TheVariants as a_step
 use Rattle.pl_plan.specs.declared.fault.CheckFault.{CheckFault}
 use Rattle.pl_plan.specs.inside.Steps.{IsStep, step_at, IsSpelled, IsList}
 use Rattle.pl_plan.specs.inside.Checker.{Checker, IsChecker, Keeps}
@@ -210,10 +210,10 @@ module _ (to t at : ℕ) (k : Checker) (f : IsChecker k) (run : t < length k.par
           loop_all names tree s p m.0 m.1 ∙ ap (λ o. o >>= rest) w
 
 -- what is said at the lists of a later state holds at those of an earlier one
-pub on_same : (n n' to t : ℕ) (steps steps' : List Step) (at : ℕ) (k : Checker) (at' : ℕ) (k' : Checker) → n ≡ n' → steps ≡ steps' →
+pub on_same : (n n' to t : ℕ) (steps steps' : List FlatStep) (at : ℕ) (k : Checker) (at' : ℕ) (k' : Checker) → n ≡ n' → steps ≡ steps' →
     On n to t steps at k at' k' → On n' to t steps' at k at' k'
 on_same n n' to t steps steps' at k at' k' p q h = subst (λ z. On z to t steps' at k at' k') p (subst (λ z. On n to t z at k at' k') q h)
 
-pub failed_same : (n n' to t : ℕ) (steps steps' : List Step) (at : ℕ) (k : Checker) (f : CheckFault) → n ≡ n' → steps ≡ steps' → Failed n to t steps at k f →
+pub failed_same : (n n' to t : ℕ) (steps steps' : List FlatStep) (at : ℕ) (k : Checker) (f : CheckFault) → n ≡ n' → steps ≡ steps' → Failed n to t steps at k f →
     Failed n' to t steps' at k f
 failed_same n n' to t steps steps' at k f p q h = subst (λ z. Failed z to t steps' at k f) p (subst (λ z. Failed n to t z at k f) q h)

@@ -7,7 +7,7 @@ use Rattle.armus_base.specs.Limits.{max_tasks}
 use Rattle.armus_base.specs.Plans.{Plan}
 use Rattle.pl_syntax.specs.declared.tree.Program.{Program}
 use Rattle.pl_syntax.specs.Tree.{Tree}
-use Rattle.pl_plan.specs.declared.step.Step.{Step}
+use Rattle.pl_plan.specs.declared.step.FlatStep.{FlatStep}
 use Rattle.pl_plan.specs.declared.fault.PlanEnd.{PlanEnd}
 use Rattle.pl_plan.specs.declared.fault.PlanEnd.TheVariants as ends
 use Rattle.pl_plan.specs.inside.Steps.{IsSpelled}
@@ -21,7 +21,7 @@ use Rattle.pl_plan.specs.Unfolding.{UnfoldingState, Start, ◌>>=◌, opening_st
 use Rattle.pl_plan.specs.inside.Visited.{GivesVisited}
 use Rattle.pl_plan.specs.inside.Shows.{ShowsState, MaybeStartShows, StartShows, IsNumbering, WhereUnfolded}
 
-pub opens : (spelling : ℕ → List ℕ) (steps : List Step) (names : ℕ) (k : Checker) (tree : Tree) → IsOpeningChecker steps names k → IsNumbering names spelling →
+pub opens : (spelling : ℕ → List ℕ) (steps : List FlatStep) (names : ℕ) (k : Checker) (tree : Tree) → IsOpeningChecker steps names k → IsNumbering names spelling →
     IsSpelled names spelling steps 0 tree (length steps) → ShowsState spelling k (opening_state tree)
 opens spelling steps names k tree o distinct spelled = record {
   distinct = subst (λ n. IsNumbering n spelling) (sym o.bindings.slots_many) distinct;

@@ -15,10 +15,10 @@ use Rattle.pl_syntax.specs.declared.tree.Program.{Program}
 use Rattle.pl_syntax.specs.declared.limits.TheConstants.{MAX_OPEN_BRACES}
 use Rattle.pl_syntax.specs.calls.Tree.{AreNear}
 use Rattle.pl_syntax.specs.Tree.{Tree, count, height}
-use Rattle.pl_plan.specs.declared.step.Step.{Step}
+use Rattle.pl_plan.specs.declared.step.FlatStep.{FlatStep}
 use Rattle.pl_plan.specs.inside.Steps.{IsSpelled}
 use Rattle.pl_plan.specs.inside.Numbers.{spelling}
-use Rattle.pl_plan.specs.inside.Flattening.{AddsSteps, AreStepsOf}
+use Rattle.pl_plan.specs.inside.Flattening.{AddsSteps, AreFlattened}
 use Rattle.pl_plan.specs.inside.Checker.{Checker, CheckerStart, IsChecker, StartFits}
 use Rattle.pl_plan.specs.inside.FoldsSteps.{AreFolded, CanBeFolded, HasTreeAt, SpellStarts, SpellsStart, pieces_by}
 use Rattle.pl_plan.specs.inside.Opening.{IsOpeningChecker}
@@ -32,8 +32,8 @@ use Rattle.pl_plan.proofs.Opens.{opens, plan_found}
 use Rattle.pl_plan.proofs.UnfoldedIsChecked.{unfolded_is_checked}
 
 -- the steps that a body adds to none are its own
-pub flattened_alone : (a b : List (Bor (List ℕ))) (old steps : List Step) (tree : Tree) (names : ℕ) → old ≡ [] → names ≡ length b → AddsSteps a b old steps tree →
-    AreStepsOf steps names tree
+pub flattened_alone : (a b : List (Bor (List ℕ))) (old steps : List FlatStep) (tree : Tree) (names : ℕ) → old ≡ [] → names ≡ length b → AddsSteps a b old steps tree →
+    AreFlattened steps names tree
 flattened_alone a b old steps tree names empty many adds = record {
   spelling = spelling b;
   distinct = subst (λ n. IsNumbering n (spelling b)) (sym many) adds.distinct;
@@ -41,7 +41,7 @@ flattened_alone a b old steps tree names empty many adds = record {
       (subst (λ z. IsSpelled (length b) (spelling b) steps z tree (length steps)) (ap length empty) adds.spelled);
 }
 
-module _ {steps : List Step} {names : ℕ} {tree : Tree} (flat : AreStepsOf steps names tree) where
+module _ {steps : List FlatStep} {names : ℕ} {tree : Tree} (flat : AreFlattened steps names tree) where
   -- as many steps as statements
   pub as_many_steps : length steps ≡ count tree
   as_many_steps = omega (arith, spelled_count names flat.spelling steps 0 tree (length steps) flat.spelled)
@@ -61,12 +61,12 @@ module _ {steps : List Step} {names : ℕ} {tree : Tree} (flat : AreStepsOf step
 -- ---- what is kept last
 
 -- the steps of a start that is kept
-tree_at : (tasks phasers slot_count names : ℕ) (steps : List Step) (kept : Option CheckerStart) → StartFits tasks phasers slot_count names steps kept → HasTreeAt steps kept
+tree_at : (tasks phasers slot_count names : ℕ) (steps : List FlatStep) (kept : Option CheckerStart) → StartFits tasks phasers slot_count names steps kept → HasTreeAt steps kept
 tree_at tasks phasers slot_count names steps None h = tt
 tree_at tasks phasers slot_count names steps (Some kept) h = (h.within, (names, h.list.0, h.list.1, h.list.2))
 
 -- are those of the start that it shows
-spells_start : (names : ℕ → List ℕ) (slots : List ℕ) (steps : List Step) (start : Option Start) (kept : Option CheckerStart) →
+spells_start : (names : ℕ → List ℕ) (slots : List ℕ) (steps : List FlatStep) (start : Option Start) (kept : Option CheckerStart) →
     MaybeStartShows names slots steps start kept → SpellsStart (length slots) names steps start kept
 spells_start names slots steps None None h = tt
 spells_start names slots steps (Some start) (Some kept) h = h.spelled
@@ -74,7 +74,7 @@ spells_start names slots steps None (Some kept) h = h
 spells_start names slots steps (Some start) None h = h
 
 -- what is kept behind the last visit shows where the unfolding ends, and these are its parts
-pub record IsLast (names : ℕ → List ℕ) (k : Checker) (program : Program) (steps : List Step) (kept : List (Option CheckerStart)) (codes : List (List Op)) :
+pub record IsLast (names : ℕ → List ℕ) (k : Checker) (program : Program) (steps : List FlatStep) (kept : List (Option CheckerStart)) (codes : List (List Op)) :
     Type 0 where
   pub fits : IsChecker k
   pub deep : height program.body ≤ MAX_OPEN_BRACES
@@ -84,7 +84,7 @@ pub record IsLast (names : ℕ → List ℕ) (k : Checker) (program : Program) (
   pub kept_are : kept ≡ k.starts
   pub codes_are : codes ≡ k.codes
 
-module _ {names : ℕ → List ℕ} {k : Checker} {program : Program} {steps : List Step} {kept : List (Option CheckerStart)} {codes : List (List Op)}
+module _ {names : ℕ → List ℕ} {k : Checker} {program : Program} {steps : List FlatStep} {kept : List (Option CheckerStart)} {codes : List (List Op)}
     (l : IsLast names k program steps kept codes) where
   abbrev w : (s : UnfoldingState) × (unfold_tasks program.two max_tasks 0 (opening_state program.body) ≡ Ok s) × ShowsState names k s
   w = l.end

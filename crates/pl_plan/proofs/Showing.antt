@@ -7,7 +7,7 @@ use Rattle.std.proofs.lemmas.List.{length-set, length-append, get_or-set_same, g
 use Rattle.std.proofs.lemmas.List.Sums.{sum_by-set, sum_by-append}
 use Rattle.armus_base.specs.declared.op.Op.{Op}
 use Rattle.pl_syntax.specs.Tree.{Tree}
-use Rattle.pl_plan.specs.declared.step.Step.{Step}
+use Rattle.pl_plan.specs.declared.step.FlatStep.{FlatStep}
 use Rattle.pl_plan.specs.declared.step.Thing as code
 use Rattle.pl_plan.specs.declared.step.Thing.TheVariants as a_thing
 use Rattle.pl_plan.specs.inside.Steps.{IsSpelled}
@@ -140,7 +140,7 @@ named_new names slots things env x n in_ zero_ none free h = λ y lt.
     (λ ne. h y here)
     (λ le. absurd (omega arith))
 
-starts_new : (names : ℕ → List ℕ) (a b n m : ℕ) (slots : List ℕ) (steps : List Step) (x : ℕ) (o : Option Start) (o' : Option CheckerStart) →
+starts_new : (names : ℕ → List ℕ) (a b n m : ℕ) (slots : List ℕ) (steps : List FlatStep) (x : ℕ) (o : Option Start) (o' : Option CheckerStart) →
     x < length slots → slice_index_or slots x 0 ≡ 0 → StartFits a b n m steps o' → MaybeStartShows names slots steps o o' → MaybeStartShows names (slice_set slots x n) steps o o'
 starts_new names a b n m slots steps x None None i z f h = tt
 starts_new names a b n m slots steps x None (Some s) i z f h = h

@@ -8,7 +8,7 @@ use Rattle.armus_base.specs.declared.offset.Offset.{Offset}
 use Rattle.armus_base.specs.declared.op.Op.{Op}
 use Rattle.armus_base.specs.declared.op.Op.TheVariants as op
 use Rattle.pl_syntax.specs.Tree.{Tree, new_task, new_phaser, reg, dereg, adv, await}
-use Rattle.pl_plan.specs.declared.step.Step.{Step}
+use Rattle.pl_plan.specs.declared.step.FlatStep.{FlatStep}
 use Rattle.pl_plan.specs.declared.step.Thing as code
 use Rattle.pl_plan.specs.declared.step.Thing.TheVariants as a_thing
 use Rattle.pl_plan.specs.inside.Steps.{IsSpelled, IsList}
@@ -54,7 +54,7 @@ lt_true : (a b : ℕ) → nat_lt a b ≡ true → a < b
 lt_true a b e = grind (arith, e)
 
 -- the owner's two tests
-same_start : (names : ℕ → List ℕ) (slots : List ℕ) (steps : List Step) (o : Option Start) (o' : Option CheckerStart) → MaybeStartShows names slots steps o o' →
+same_start : (names : ℕ → List ℕ) (slots : List ℕ) (steps : List FlatStep) (o : Option Start) (o' : Option CheckerStart) → MaybeStartShows names slots steps o o' →
     is_some o ≡ is_some o'
 same_start names slots steps None None h = refl
 same_start names slots steps (Some s) (Some s') h = refl

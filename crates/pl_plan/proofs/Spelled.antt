@@ -4,8 +4,8 @@ use Rattle.std.proofs.lemmas.List.{get_or_append_left}
 use Rattle.pl_syntax.specs.calls.Tree.{AreNear, PlainIsNear}
 use Rattle.pl_syntax.specs.Tree.{Tree, done, plain, fork, loop, Plain, new_task, new_phaser, reg, dereg, adv, await, skip, count}
 use Rattle.pl_plan.specs.declared.step.NameId.{NameId}
-use Rattle.pl_plan.specs.declared.step.Step.{Step}
-use Rattle.pl_plan.specs.declared.step.Step.TheVariants as a_step
+use Rattle.pl_plan.specs.declared.step.FlatStep.{FlatStep}
+use Rattle.pl_plan.specs.declared.step.FlatStep.TheVariants as a_step
 use Rattle.pl_plan.specs.calls.Folding.{HasFewTurns}
 use Rattle.pl_plan.specs.inside.Steps.{IsNumberOfName, IsStep, step_at, IsSpelled}
 
@@ -18,7 +18,7 @@ pub name_more : (n : ℕ) (names : ℕ → List ℕ) (n' : ℕ) (names' : ℕ �
     IsNumberOfName n names i x → IsNumberOfName n' names' i x
 name_more n names n' names' i x a h = (omega (arith, a.more, h.0), a.same i.0 h.0 ∙ h.1)
 
-step_more : (n : ℕ) (names : ℕ → List ℕ) (n' : ℕ) (names' : ℕ → List ℕ) (step step' : Step) (s : Plain) → step' ≡ step → NamesAgree n names n' names' →
+step_more : (n : ℕ) (names : ℕ → List ℕ) (n' : ℕ) (names' : ℕ → List ℕ) (step step' : FlatStep) (s : Plain) → step' ≡ step → NamesAgree n names n' names' →
     IsStep n names step s → IsStep n' names' step' s
 step_more n names n' names' z z' (new_task x) e a h = (h.0, e ∙ h.1, name_more n names n' names' h.0 x a h.2)
 step_more n names n' names' z z' (new_phaser x) e a h = (h.0, e ∙ h.1, name_more n names n' names' h.0 x a h.2)
@@ -29,7 +29,7 @@ step_more n names n' names' z z' (await x off) e a h = (h.0, e ∙ h.1, name_mor
 step_more n names n' names' z z' skip e a h = e ∙ h
 
 -- a tree's steps are as many as its statements
-pub spelled_count : (n : ℕ) (names : ℕ → List ℕ) (steps : List Step) (i : ℕ) (tree : Tree) (to : ℕ) → IsSpelled n names steps i tree to → to ≡ i + count tree
+pub spelled_count : (n : ℕ) (names : ℕ → List ℕ) (steps : List FlatStep) (i : ℕ) (tree : Tree) (to : ℕ) → IsSpelled n names steps i tree to → to ≡ i + count tree
 spelled_count n names steps i done to e = omega (arith, sym e)
 spelled_count n names steps i (plain s rest) to e = omega (arith, spelled_count n names steps (i + 1) rest to e.1)
 spelled_count n names steps i (fork x body rest) to e =
@@ -41,7 +41,7 @@ spelled_count n names steps i (loop k body rest) to e =
     let b = spelled_count n names steps e.0 rest to e.4 in
     omega arith
 
-step_near : (n : ℕ) (names : ℕ → List ℕ) (step : Step) (s : Plain) → IsStep n names step s → PlainIsNear s
+step_near : (n : ℕ) (names : ℕ → List ℕ) (step : FlatStep) (s : Plain) → IsStep n names step s → PlainIsNear s
 step_near n names step (new_task x) h = tt
 step_near n names step (new_phaser x) h = tt
 step_near n names step (reg x y) h = tt
@@ -51,20 +51,20 @@ step_near n names step (await x off) h = h.3
 step_near n names step skip h = tt
 
 -- no await of a tree with steps looks farther than it may
-pub spelled_near : (n : ℕ) (names : ℕ → List ℕ) (steps : List Step) (i : ℕ) (tree : Tree) (to : ℕ) → IsSpelled n names steps i tree to → AreNear tree
+pub spelled_near : (n : ℕ) (names : ℕ → List ℕ) (steps : List FlatStep) (i : ℕ) (tree : Tree) (to : ℕ) → IsSpelled n names steps i tree to → AreNear tree
 spelled_near n names steps i done to e = tt
 spelled_near n names steps i (plain s rest) to e = (step_near n names (step_at steps i) s e.0, spelled_near n names steps (i + 1) rest to e.1)
 spelled_near n names steps i (fork x body rest) to e = (spelled_near n names steps (i + 1) body e.1 e.4, spelled_near n names steps e.1 rest to e.5)
 spelled_near n names steps i (loop k body rest) to e = (spelled_near n names steps (i + 1) body e.0 e.3, spelled_near n names steps e.0 rest to e.4)
 
 -- no loop of it has too many turns
-pub spelled_few : (n : ℕ) (names : ℕ → List ℕ) (steps : List Step) (i : ℕ) (tree : Tree) (to : ℕ) → IsSpelled n names steps i tree to → HasFewTurns tree
+pub spelled_few : (n : ℕ) (names : ℕ → List ℕ) (steps : List FlatStep) (i : ℕ) (tree : Tree) (to : ℕ) → IsSpelled n names steps i tree to → HasFewTurns tree
 spelled_few n names steps i done to e = tt
 spelled_few n names steps i (plain s rest) to e = spelled_few n names steps (i + 1) rest to e.1
 spelled_few n names steps i (fork x body rest) to e = (spelled_few n names steps (i + 1) body e.1 e.4, spelled_few n names steps e.1 rest to e.5)
 spelled_few n names steps i (loop k body rest) to e = (e.2, spelled_few n names steps (i + 1) body e.0 e.3, spelled_few n names steps e.0 rest to e.4)
 
-module _ (n : ℕ) (names : ℕ → List ℕ) (n' : ℕ) (names' : ℕ → List ℕ) (a : NamesAgree n names n' names') (steps later : List Step) where
+module _ (n : ℕ) (names : ℕ → List ℕ) (n' : ℕ) (names' : ℕ → List ℕ) (a : NamesAgree n names n' names') (steps later : List FlatStep) where
   same_step : (i : ℕ) → i < length steps → step_at (steps ++ later) i ≡ step_at steps i
   same_step i lt = get_or_append_left steps later a_step.Skip i lt
 

@@ -9,7 +9,7 @@ ghost use Rattle.pl_plan.specs.inside.CheckerSteps.{member};
 ghost use Rattle.pl_plan.specs.inside.KeptForks.{kept_fork};
 
 use crate::membership::Membership;
-use crate::step::{NameId, Step, Thing};
+use crate::step::{FlatStep, NameId, Thing};
 use armus_base::{List, MAX_PHASERS, MAX_TASKS, NoMemory, Op, PhaserId, TaskId};
 use std::alloc::{AllocError, AllocFailed, Global};
 use std::marker::Model;
@@ -56,7 +56,7 @@ pub(crate) struct Counts {
 /// a name has come to stand for something else since the last fork.
 #[derive(Drop)]
 pub struct Checker {
-    steps: Vec<Step>,
+    steps: Vec<FlatStep>,
     parents: Vec<Option<TaskId>>,
     makers: Vec<TaskId>,
     codes: Vec<List<Op>>,
@@ -122,7 +122,7 @@ impl Checker {
     }
 
     /// The step with this index.
-    pub fn step(&self, i: u32) -> Step
+    pub fn step(&self, i: u32) -> FlatStep
         requires { i < length self.now.steps }
         ensures { result ≡ step_at self.now.steps i }
     {
@@ -307,7 +307,7 @@ impl Checker {
     }
 
     /// What is kept before the first visit.
-    pub fn new(alloc: Global, steps: Vec<Step>, names: usize) -> Result<Checker, AllocError>
+    pub fn new(alloc: Global, steps: Vec<FlatStep>, names: usize) -> Result<Checker, AllocError>
         requires { length steps.items < 2 ^ 32 }
         ensures { IfOk result (λ k. IsOpeningChecker steps.items names k) }
     {
@@ -400,7 +400,7 @@ fn no_slots(alloc: Global, n: usize) -> Result<Vec<u32>, AllocError>
 /// The three lists of a plan, with the flat steps and each task's start, by which the codes are folded.
 #[derive(Drop)]
 pub struct Parts {
-    pub steps: Vec<Step>,
+    pub steps: Vec<FlatStep>,
     pub parents: Vec<Option<TaskId>>,
     pub makers: Vec<TaskId>,
     pub codes: Vec<List<Op>>,

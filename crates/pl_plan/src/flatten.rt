@@ -9,7 +9,7 @@ ghost use Rattle.pl_plan.specs.inside.Numbers.{spelling, IsMore};
 ghost use Rattle.pl_plan.specs.inside.Flattening.{AddsSteps};
 
 use crate::steady::is_steady;
-use crate::step::{NameId, Step};
+use crate::step::{FlatStep, NameId};
 use armus_base::{NoMemory, Offset};
 use indexmap::IndexSet;
 use pl_syntax::{Body, Stmt};
@@ -29,7 +29,7 @@ pub fn number<'p>(names: &mut IndexSet<&'p [u8]>, name: &'p [u8]) -> Result<Name
 }
 
 // One step more.
-fn push(steps: &mut Vec<Step>, step: Step) -> Result<(), NoMemory>
+fn push(steps: &mut Vec<FlatStep>, step: FlatStep) -> Result<(), NoMemory>
     ensures { OnOk result (steps.new.items ≡ steps.old.items ++ step ∷ []) }
 {
     steps.push(step)?;
@@ -52,7 +52,7 @@ fn as_written(off: Offset) -> Offset
 #[cycle(flatten)]
 pub fn flatten_statement<'p>(
     names: &mut IndexSet<&'p [u8]>,
-    steps: &mut Vec<Step>,
+    steps: &mut Vec<FlatStep>,
     stmt: &'p Stmt,
 ) -> Result<(), NoMemory>
     requires small { length steps.old.items + count (followed_by stmt.now done) < 2 ^ 32 }
@@ -62,35 +62,35 @@ pub fn flatten_statement<'p>(
     match stmt {
         Stmt::NewTask { x } => {
             let x = number(names, x.as_bytes())?;
-            push(steps, Step::NewTask { x })
+            push(steps, FlatStep::NewTask { x })
         }
         Stmt::NewPhaser { x } => {
             let x = number(names, x.as_bytes())?;
-            push(steps, Step::NewPhaser { x })
+            push(steps, FlatStep::NewPhaser { x })
         }
         Stmt::Reg { x, y } => {
             let x = number(names, x.as_bytes())?;
             let y = number(names, y.as_bytes())?;
-            push(steps, Step::Reg { x, y })
+            push(steps, FlatStep::Reg { x, y })
         }
         Stmt::Dereg { x } => {
             let x = number(names, x.as_bytes())?;
-            push(steps, Step::Dereg { x })
+            push(steps, FlatStep::Dereg { x })
         }
         Stmt::Adv { x } => {
             let x = number(names, x.as_bytes())?;
-            push(steps, Step::Adv { x })
+            push(steps, FlatStep::Adv { x })
         }
         Stmt::Await { x, off } => {
             let x = number(names, x.as_bytes())?;
             let off = as_written(*off);
-            push(steps, Step::Await { x, off })
+            push(steps, FlatStep::Await { x, off })
         }
-        Stmt::Skip => push(steps, Step::Skip),
+        Stmt::Skip => push(steps, FlatStep::Skip),
         Stmt::Fork { x, body } => {
             let x = number(names, x.as_bytes())?;
             let after = steps.len() as u32 + 1 + body.statements();
-            push(steps, Step::Fork { x, after })?;
+            push(steps, FlatStep::Fork { x, after })?;
             flatten_body(names, steps, body)
         }
         Stmt::Loop { k, body } => {
@@ -98,7 +98,7 @@ pub fn flatten_statement<'p>(
             let steady = is_steady(body);
             push(
                 steps,
-                Step::Loop {
+                FlatStep::Loop {
                     k: *k,
                     after,
                     steady,
@@ -113,7 +113,7 @@ pub fn flatten_statement<'p>(
 #[cycle(flatten)]
 pub fn flatten_body<'p>(
     names: &mut IndexSet<&'p [u8]>,
-    steps: &mut Vec<Step>,
+    steps: &mut Vec<FlatStep>,
     body: &'p Body,
 ) -> Result<(), NoMemory>
     requires small { length steps.old.items + count body.now < 2 ^ 32 }

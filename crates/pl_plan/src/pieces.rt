@@ -7,7 +7,7 @@ ghost use Rattle.pl_plan.specs.inside.Steps.{step_at};
 ghost use Rattle.pl_plan.specs.inside.FoldsSteps.{GivesFolding, HasTree, HasTreeOf, FoldsFrom, FoldsLoop, step_folding, HasTreeAt, FoldsCode};
 
 use crate::checker::Start;
-use crate::step::Step;
+use crate::step::FlatStep;
 use armus_base::{List, MAX_OPS, NoMemory, Op, Piece};
 use std::alloc::Global;
 
@@ -23,12 +23,16 @@ fn fold_op<'o>(ops: &'o [Op], pieces: &mut Vec<Piece>) -> Result<&'o [Op], NoMem
 }
 
 // A step without a body.
-fn fold_plain<'o>(step: Step, ops: &'o [Op], pieces: &mut Vec<Piece>) -> Result<&'o [Op], NoMemory>
+fn fold_plain<'o>(
+    step: FlatStep,
+    ops: &'o [Op],
+    pieces: &mut Vec<Piece>,
+) -> Result<&'o [Op], NoMemory>
     ensures { GivesFolding result pieces.old.items pieces.new.items (step_folding step ops.now) }
 {
     match step {
-        Step::NewTask { x: _ } => Ok(ops),
-        Step::Skip => Ok(ops),
+        FlatStep::NewTask { x: _ } => Ok(ops),
+        FlatStep::Skip => Ok(ops),
         _ => fold_op(ops, pieces),
     }
 }
@@ -41,7 +45,7 @@ fn behind(ops: &[Op], n: usize) -> &[Op]
 }
 
 // The step with this index.
-fn step_at(steps: &[Step], i: u32) -> Step
+fn step_at(steps: &[FlatStep], i: u32) -> FlatStep
     requires { i < length steps.now }
     ensures { result ≡ step_at steps.now i }
 {
@@ -51,7 +55,7 @@ fn step_at(steps: &[Step], i: u32) -> Step
 // The turns of the loop with index at, one after the other.
 #[cycle(fold)]
 fn fold_turns<'o>(
-    steps: &[Step],
+    steps: &[FlatStep],
     ops: &'o [Op],
     at: u32,
     turns: u16,
@@ -75,7 +79,7 @@ fn fold_turns<'o>(
 // The steady loop with index at: a Repeat and the pieces of its first turn; the ops of its other turns are passed over.
 #[cycle(fold)]
 fn fold_steady<'o>(
-    steps: &[Step],
+    steps: &[FlatStep],
     ops: &'o [Op],
     at: u32,
     turns: u16,
@@ -108,7 +112,7 @@ fn fold_steady<'o>(
 // The loop with index at.
 #[cycle(fold)]
 fn fold_loop<'o>(
-    steps: &[Step],
+    steps: &[FlatStep],
     ops: &'o [Op],
     at: u32,
     turns: u16,
@@ -133,7 +137,7 @@ fn fold_loop<'o>(
 // The steps from one index on, before another.
 #[cycle(fold)]
 fn fold_steps<'o>(
-    steps: &[Step],
+    steps: &[FlatStep],
     ops: &'o [Op],
     from: u32,
     to: u32,
@@ -150,11 +154,11 @@ fn fold_steps<'o>(
     while at < to {
         let step = step_at(steps, at);
         match step {
-            Step::Loop { k, after, steady } => {
+            FlatStep::Loop { k, after, steady } => {
                 left = fold_loop(steps, left, at, k, after, steady, pieces)?;
                 at = after;
             }
-            Step::Fork { x: _, after } => {
+            FlatStep::Fork { x: _, after } => {
                 left = fold_op(left, pieces)?;
                 at = after;
             }
@@ -181,7 +185,7 @@ pub fn push_each(ops: &[Op], pieces: &mut Vec<Piece>) -> Result<(), NoMemory>
 // gone through once.
 pub(crate) fn code_pieces(
     alloc: Global,
-    steps: &[Step],
+    steps: &[FlatStep],
     start: &Option<Start>,
     ops: &[Op],
 ) -> Result<List<Piece>, NoMemory>

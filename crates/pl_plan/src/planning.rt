@@ -5,7 +5,7 @@ ghost use Rattle.pl_syntax.specs.Tree.{count, height};
 ghost use Rattle.pl_plan.specs.Unfolding.{plan_of};
 ghost use Rattle.pl_plan.specs.calls.Planning.{GivesOutcome};
 ghost use Rattle.pl_plan.specs.calls.Forks.{GivesUnfolded};
-ghost use Rattle.pl_plan.specs.inside.Flattening.{AreStepsOf};
+ghost use Rattle.pl_plan.specs.inside.Flattening.{AreFlattened};
 ghost use Rattle.pl_plan.specs.inside.FoldsSteps.{AreFolded, CanBeFolded};
 ghost use Rattle.pl_plan.specs.inside.KeptForks.{kept_fork};
 ghost use Rattle.pl_plan.specs.inside.Visited.{GivesVisited};
@@ -14,7 +14,7 @@ use crate::checker::{Checker, Parts, Start};
 use crate::fault::PlanEnd;
 use crate::flatten::flatten_body;
 use crate::pieces::code_pieces;
-use crate::step::Step;
+use crate::step::FlatStep;
 use crate::tasks::unfold_tasks;
 use armus_base::{Code, List, NoMemory, Op, Plan};
 use indexmap::IndexSet;
@@ -24,7 +24,7 @@ use std::alloc::Global;
 // The codes of the tasks. Each list of ops is let go as soon as it is folded.
 fn codes_of(
     alloc: Global,
-    steps: &[Step],
+    steps: &[FlatStep],
     starts: &[Option<Start>],
     lists: Vec<List<Op>>,
 ) -> Result<List<Code>, NoMemory>
@@ -71,9 +71,9 @@ fn fork_numbers(alloc: Global, starts: &[Option<Start>]) -> Result<Vec<Option<u3
 }
 
 // The flat steps of a body, and how many names it has.
-fn flat_steps(alloc: Global, body: &Body) -> Result<(Vec<Step>, usize), NoMemory>
+fn flat_steps(alloc: Global, body: &Body) -> Result<(Vec<FlatStep>, usize), NoMemory>
     requires { count body.now < 2 ^ 32 }
-    ensures { IfOk result (λ r. AreStepsOf r.0.items r.1 body.now) }
+    ensures { IfOk result (λ r. AreFlattened r.0.items r.1 body.now) }
 {
     let mut names = IndexSet::new(alloc);
     let mut steps = Vec::new(alloc);

@@ -11,7 +11,7 @@ use crate::fault::{
     TOO_MANY_CELLS, TOO_MANY_OPS, TOO_MANY_PHASERS, TOO_MANY_TASKS, TOO_MANY_VISITS, UNKNOWN_NAME,
 };
 use crate::limits::MAX_VISITS;
-use crate::step::{NameId, Step, Thing};
+use crate::step::{FlatStep, NameId, Thing};
 use armus_base::{MAX_CELLS, MAX_OPS, MAX_PHASERS, MAX_TASKS, Offset, Op, PhaserId, TaskId};
 use std::alloc::Global;
 
@@ -285,7 +285,7 @@ pub fn act(
     checker: &mut Checker,
     t: TaskId,
     n: u32,
-    step: Step,
+    step: FlatStep,
 ) -> Result<(), PlanEnd>
     requires fits { IsChecker checker.old }
     requires task { t.0 < length checker.old.parents }
@@ -293,12 +293,12 @@ pub fn act(
     ensures { GivesChecker result (checker_act t.0 n step checker.old) checker.new }
 {
     match step {
-        Step::NewTask { x } => new_task(alloc, checker, t, n, x),
-        Step::NewPhaser { x } => new_phaser(checker, t, n, x),
-        Step::Reg { x, y } => register(checker, t, n, x, y),
-        Step::Dereg { x } => leave(checker, t, n, x),
-        Step::Adv { x } => advance(checker, t, n, x),
-        Step::Await { x, off } => wait(checker, t, n, x, off),
+        FlatStep::NewTask { x } => new_task(alloc, checker, t, n, x),
+        FlatStep::NewPhaser { x } => new_phaser(checker, t, n, x),
+        FlatStep::Reg { x, y } => register(checker, t, n, x, y),
+        FlatStep::Dereg { x } => leave(checker, t, n, x),
+        FlatStep::Adv { x } => advance(checker, t, n, x),
+        FlatStep::Await { x, off } => wait(checker, t, n, x, off),
         _ => Ok(()),
     }
 }

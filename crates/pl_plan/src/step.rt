@@ -8,7 +8,7 @@ pub struct NameId(pub u32);
 
 /// A statement: the step with index i is that with number i + 1. What stands after a body begins at `after`. A loop knows whether its body is steady.
 #[derive(Clone, Copy, Debug)]
-pub enum Step {
+pub enum FlatStep {
     NewTask { x: NameId },
     NewPhaser { x: NameId },
     Fork { x: NameId, after: u32 },

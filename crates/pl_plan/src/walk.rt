@@ -8,7 +8,7 @@ ghost use Rattle.pl_plan.specs.inside.Shows.{FollowsFrom, FollowsTurns};
 use crate::checker::Checker;
 use crate::fault::PlanEnd;
 use crate::statements::{act, count_visit, fork};
-use crate::step::Step;
+use crate::step::FlatStep;
 use armus_base::TaskId;
 use std::alloc::Global;
 
@@ -61,7 +61,7 @@ pub(crate) fn walk(
         let step = checker.step(at);
         count_visit(checker, at + 1)?;
         match step {
-            Step::Loop {
+            FlatStep::Loop {
                 k,
                 after,
                 steady: _,
@@ -69,7 +69,7 @@ pub(crate) fn walk(
                 walk_turns(alloc, checker, t, at, k, after)?;
                 at = after;
             }
-            Step::Fork { x, after } => {
+            FlatStep::Fork { x, after } => {
                 fork(alloc, checker, t, at + 1, x, after)?;
                 at = after;
             }

@@ -24,4 +24,4 @@ pub use detect::run_detect;
 pub use pool::run_pool;
 pub use ran::{Ran, RunEnd};
 pub use site_runs::run_sites;
-pub use world_runs::{RunOptions, WorldEnd, run_journal, run_to_world, serial_run_ends};
+pub use world_runs::{RunOptions, run_journal};

@@ -1,8 +1,8 @@
 -- What is noted of the stages that passed, and what the notes tell.
 use Rattle.std.specs.Prelude.{◌≡◌, ℕ, ◌+◌, ◌<◌, ◌≤◌, ◌==◌, Bool, ◌&&◌, if◌then◌else◌, List, [], ◌∷◌, ◌++◌, length, slice_set, slice_index_or, Option, Some, None}
 use Rattle.pl_plan.specs.declared.step.NameId.{NameId}
-use Rattle.pl_plan.specs.declared.step.Step.{Step}
-use Rattle.pl_plan.specs.declared.step.Step.TheVariants as a_step
+use Rattle.pl_plan.specs.declared.step.FlatStep.{FlatStep}
+use Rattle.pl_plan.specs.declared.step.FlatStep.TheVariants as a_step
 use Rattle.pl_plan.specs.declared.step.Thing as code
 use Rattle.pl_plan.specs.declared.step.Thing.TheVariants as a_thing
 use Rattle.pl_plan.specs.Unfolding.{UnfoldingState}
@@ -43,7 +43,7 @@ phaser_in (a_thing.Task c) = 0
 phaser_in (a_thing.Phaser p) = p.0
 
 -- the notes of a visit that passes, which are one or none, by its step
-abbrev pub notes_at : StepSight → Step → List Note
+abbrev pub notes_at : StepSight → FlatStep → List Note
 notes_at v (a_step.NewTask x) = record { deed = a_deed 0 v.tasks 0; statement = v.item.at + 1; name = Some x } ∷ []
 notes_at v (a_step.NewPhaser x) = record { deed = a_deed 1 v.phasers 0; statement = v.item.at + 1; name = Some x } ∷ []
 notes_at v (a_step.Fork x after) = record { deed = a_deed 2 (task_in v.x) 0; statement = v.item.at + 1; name = None } ∷ []
@@ -73,7 +73,7 @@ abbrev pub turn_at : List LastTurn → ℕ → ℕ → ℕ
 turn_at last_turns t at = turn_by t (slice_index_or last_turns at no_turn)
 
 -- the last turns with this visit, by its step
-abbrev pub last_turns_at : StepSight → Step → List LastTurn → List LastTurn
+abbrev pub last_turns_at : StepSight → FlatStep → List LastTurn → List LastTurn
 last_turns_at v (a_step.Loop k after steady) last_turns = slice_set last_turns v.item.at (record { task = v.t; turn = 0 })
 last_turns_at v (a_step.NewTask x) last_turns = last_turns
 last_turns_at v (a_step.NewPhaser x) last_turns = last_turns

@@ -3,7 +3,7 @@ use Rattle.std.specs.Prelude.{◌≡◌, ℕ, ◌+◌, suc, ◌<◌, ◌≤◌, 
 use Rattle.armus_base.specs.declared.errors.NoMemory.{NoMemory}
 use Rattle.armus_base.specs.declared.ids.TaskId.{TaskId}
 use Rattle.pl_syntax.specs.declared.tree.Program.{Program}
-use Rattle.pl_plan.specs.declared.step.Step.{Step}
+use Rattle.pl_plan.specs.declared.step.FlatStep.{FlatStep}
 use Rattle.pl_plan.specs.inside.Checker.{Checker, IsChecker}
 use Rattle.pl_plan.specs.inside.Shows.{ShowsState}
 use Rattle.pl_plan.specs.inside.Steps.{IsSpelled}
@@ -26,7 +26,7 @@ use Rattle.explain_check.specs.inside.Seen.{visit_checked, sight_of}
 pub record NamedProgram : Type 0 where
   pub program : Program
   pub names : ℕ → List ℕ
-  pub steps : List Step
+  pub steps : List FlatStep
 
 module _ (g : NamedProgram) where
   -- these stages lead to this state
@@ -163,11 +163,11 @@ abbrev pub HasBefore : Bool → ℕ → Checker → List Note → List LastTurn 
 HasBefore two t k notes last_turns = (g : NamedProgram) × (g.program.two ≡ two) × Before g t k notes last_turns
 
 -- what is unfolded of a program, by the names and the steps
-abbrev pub a_source : Program → (ℕ → List ℕ) → List Step → NamedProgram
+abbrev pub a_source : Program → (ℕ → List ℕ) → List FlatStep → NamedProgram
 a_source program names steps = record { program = program; names = names; steps = steps }
 
 -- the first task of a program is the next one
-abbrev pub HasSource : Bool → (ℕ → List ℕ) → List Step → Checker → List Note → List LastTurn → Type 0
+abbrev pub HasSource : Bool → (ℕ → List ℕ) → List FlatStep → Checker → List Note → List LastTurn → Type 0
 HasSource two names steps k notes last_turns = (program : Program) × (program.two ≡ two) × Before (a_source program names steps) 0 k notes last_turns
 
 -- a coming to a step passed, or is at fault: what is then kept, noted and counted

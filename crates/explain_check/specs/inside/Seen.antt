@@ -6,8 +6,8 @@ use Rattle.pl_plan.specs.declared.fault.CheckFault.{CheckFault}
 use Rattle.pl_plan.specs.declared.fault.PlanEnd.{PlanEnd}
 use Rattle.pl_plan.specs.declared.fault.PlanEnd.TheVariants as ends
 use Rattle.pl_plan.specs.declared.step.NameId.{NameId}
-use Rattle.pl_plan.specs.declared.step.Step.{Step}
-use Rattle.pl_plan.specs.declared.step.Step.TheVariants as a_step
+use Rattle.pl_plan.specs.declared.step.FlatStep.{FlatStep}
+use Rattle.pl_plan.specs.declared.step.FlatStep.TheVariants as a_step
 use Rattle.pl_plan.specs.declared.step.Thing as code
 use Rattle.pl_plan.specs.declared.step.Thing.TheVariants as a_thing
 use Rattle.pl_plan.specs.inside.Checker.{Checker, thing_at}
@@ -18,7 +18,7 @@ use Rattle.explain_check.specs.declared.sight.StepSight.{StepSight}
 use Rattle.explain_check.specs.inside.Noted.{task_in}
 
 -- the first name of a step
-abbrev pub first_name_of : Step → Option NameId
+abbrev pub first_name_of : FlatStep → Option NameId
 first_name_of (a_step.NewTask x) = None
 first_name_of (a_step.NewPhaser x) = None
 first_name_of (a_step.Fork x after) = Some x
@@ -30,7 +30,7 @@ first_name_of a_step.Skip = None
 first_name_of (a_step.Loop k after steady) = None
 
 -- its second name
-abbrev pub second_of : Step → Option NameId
+abbrev pub second_of : FlatStep → Option NameId
 second_of (a_step.NewTask x) = None
 second_of (a_step.NewPhaser x) = None
 second_of (a_step.Fork x after) = None
@@ -68,7 +68,7 @@ IsOneOf n None = Unit {0}
 IsOneOf n (Some x) = x.0 < n
 
 -- what the checker does at a step, behind the count of the visit
-abbrev pub checker_do : ℕ → ℕ → Step → Checker → Outcome Checker
+abbrev pub checker_do : ℕ → ℕ → FlatStep → Checker → Outcome Checker
 checker_do t n (a_step.NewTask x) k = checker_act t n (a_step.NewTask x) k
 checker_do t n (a_step.NewPhaser x) k = checker_act t n (a_step.NewPhaser x) k
 checker_do t n (a_step.Fork x after) k = checker_fork t n x.0 after k
@@ -80,7 +80,7 @@ checker_do t n a_step.Skip k = checker_act t n a_step.Skip k
 checker_do t n (a_step.Loop i after steady) k = checker_act t n (a_step.Loop i after steady) k
 
 -- a visit
-abbrev pub visit_checked : ℕ → ℕ → Step → Checker → Outcome Checker
+abbrev pub visit_checked : ℕ → ℕ → FlatStep → Checker → Outcome Checker
 visit_checked t at step k = checker_count (at + 1) k >>= checker_do t (at + 1) step
 
 -- what was left is what this gives, or the fault is the one that this gives, unless memory ran out

@@ -3,8 +3,8 @@ use Rattle.std.specs.Prelude.{◌≡◌, ℕ, ◌+◌, ◌-◌, ◌==◌, ◌||�
 use Rattle.armus_base.specs.declared.ids.TaskId.{TaskId}
 use Rattle.armus_base.specs.Numbers.{phaser, task}
 use Rattle.pl_plan.specs.Unfolding.{already_forked, already_member, not_drawn_here, not_member, other_kind, too_many_cells, too_many_ops, too_many_phasers, too_many_tasks, unknown_name}
-use Rattle.pl_plan.specs.declared.step.Step.{Step}
-use Rattle.pl_plan.specs.declared.step.Step.TheVariants as a_step
+use Rattle.pl_plan.specs.declared.step.FlatStep.{FlatStep}
+use Rattle.pl_plan.specs.declared.step.FlatStep.TheVariants as a_step
 use Rattle.pl_plan.specs.declared.step.Thing as code
 use Rattle.pl_plan.specs.declared.step.Thing.TheVariants as a_thing
 use Rattle.pl_plan.specs.inside.Steps.{IsList, IsSpelled}
@@ -43,7 +43,7 @@ parent_told None = 0
 parent_told (Some u) = u.0
 
 -- the phaser of which the task has to be a member
-abbrev pub wanted_told : StepSight → Step → ℕ
+abbrev pub wanted_told : StepSight → FlatStep → ℕ
 wanted_told s (a_step.Reg x y) = phaser_in s.y
 wanted_told s (a_step.Fork x after) = phaser_in s.x
 wanted_told s (a_step.Dereg x) = phaser_in s.x
@@ -55,7 +55,7 @@ wanted_told s a_step.Skip = phaser_in s.x
 wanted_told s (a_step.Loop k after steady) = phaser_in s.x
 
 -- so many tasks and phasers, with the one that is drawn or made
-abbrev pub cells_told : StepSight → Step → Matter
+abbrev pub cells_told : StepSight → FlatStep → Matter
 cells_told s (a_step.NewTask x) = m.TooManyCells (s.tasks + 1) s.phasers
 cells_told s (a_step.NewPhaser x) = m.TooManyCells s.tasks (s.phasers + 1)
 cells_told s (a_step.Fork x after) = m.TooManyCells s.tasks (s.phasers + 1)
@@ -96,7 +96,7 @@ module _ (names : ℕ → List ℕ) (notes : List Note) where
   reg_told x y a_thing.Nothing other = thing_told v.Reg x a_thing.Nothing
 
   -- with the names of a step
-  abbrev pub names_told : StepSight → Step → Matter
+  abbrev pub names_told : StepSight → FlatStep → Matter
   names_told s (a_step.Fork x after) = thing_told v.Fork (names x.0) s.x
   names_told s (a_step.Reg x y) = reg_told (names x.0) (names y.0) s.x s.y
   names_told s (a_step.Dereg x) = thing_told v.Dereg (names x.0) s.x
@@ -140,7 +140,7 @@ abbrev pub turn_told : List LastTurn → ℕ → ℕ → LoopTurn
 turn_told last_turns t n = record { statement = n; turn = turn_at last_turns t (n - 1) }
 
 -- the end of a loop around statement n, if the step with this index is one
-abbrev pub enters : Step → ℕ → ℕ → Option ℕ
+abbrev pub enters : FlatStep → ℕ → ℕ → Option ℕ
 enters (a_step.Loop k after steady) at n = if nat_lt (at + 1) n && nat_le n after then Some after else None
 enters (a_step.Fork x after) at n = None
 enters (a_step.NewTask x) at n = None
@@ -152,7 +152,7 @@ enters (a_step.Await x off) at n = None
 enters a_step.Skip at n = None
 
 -- the index behind a statement with its body
-abbrev pub index_behind : Step → ℕ → ℕ
+abbrev pub index_behind : FlatStep → ℕ → ℕ
 index_behind (a_step.Loop k after steady) at = after
 index_behind (a_step.Fork x after) at = after
 index_behind (a_step.NewTask x) at = at + 1
@@ -164,14 +164,14 @@ index_behind (a_step.Await x off) at = at + 1
 index_behind a_step.Skip at = at + 1
 
 -- the turns of the loops around statement n, in the statements of these steps from one index on, before another
-abbrev pub AreTurns : List Step → ℕ → ℕ → List LastTurn → ℕ → ℕ → List LoopTurn → Type 0
+abbrev pub AreTurns : List FlatStep → ℕ → ℕ → List LastTurn → ℕ → ℕ → List LoopTurn → Type 0
 AreTurns steps first after last_turns t n turns =
     (count : ℕ) (names : ℕ → List ℕ) (tree : Tree) → IsSpelled count names steps first tree after → turns ≡ map (turn_told last_turns t) (loops_around (first + 1) tree n)
 
 -- ---- scenes
 
 -- what is told of a fault at a visit
-pub record VisitScene (names : ℕ → List ℕ) (notes : List Note) (last_turns : List LastTurn) (steps : List Step) (stop : FoundFault) (sight : StepSight) (scene : Scene) : Type 0 where
+pub record VisitScene (names : ℕ → List ℕ) (notes : List Note) (last_turns : List LastTurn) (steps : List FlatStep) (stop : FoundFault) (sight : StepSight) (scene : Scene) : Type 0 where
   pub fault_is : scene.fault ≡ stop.fault
   pub task_is : scene.task ≡ task_told names notes sight.t.0
   pub forked_is : scene.forked ≡ statement_noted (last_noted (a_deed 2 sight.t.0 0) notes)
@@ -187,12 +187,12 @@ pub record EndScene (names : ℕ → List ℕ) (notes : List Note) (stop : Found
   pub matter_is : scene.matter ≡ m.TooManyOpsAtEnd (phaser_told names notes p)
 
 -- what is told of a fault
-abbrev pub PlaceScene : (ℕ → List ℕ) → List Note → List LastTurn → List Step → FoundFault → FaultPlace → Scene → Type 0
+abbrev pub PlaceScene : (ℕ → List ℕ) → List Note → List LastTurn → List FlatStep → FoundFault → FaultPlace → Scene → Type 0
 PlaceScene names notes last_turns steps stop (p.Visit sight) scene = VisitScene names notes last_turns steps stop sight scene
 PlaceScene names notes last_turns steps stop (p.End t q) scene = EndScene names notes stop t.0 q.0 scene
 
 -- what has to be so that it can be told
-pub record CanBeTold (last_turns : List LastTurn) (steps : List Step) (first after : ℕ) (sight : StepSight) : Type 0 where
+pub record CanBeTold (last_turns : List LastTurn) (steps : List FlatStep) (first after : ℕ) (sight : StepSight) : Type 0 where
   pub few : length steps < 2 ^ 32
   pub many : length last_turns ≡ length steps
   pub within : after ≤ length steps
@@ -202,6 +202,6 @@ pub record CanBeTold (last_turns : List LastTurn) (steps : List Step) (first aft
   pub small : sight.item.at + 1 < 2 ^ 32
 
 -- the same of a fault
-abbrev pub PlaceCanBeTold : List LastTurn → List Step → ℕ → ℕ → FaultPlace → Type 0
+abbrev pub PlaceCanBeTold : List LastTurn → List FlatStep → ℕ → ℕ → FaultPlace → Type 0
 PlaceCanBeTold last_turns steps first after (p.Visit sight) = CanBeTold last_turns steps first after sight
 PlaceCanBeTold last_turns steps first after (p.End t q) = Unit {0}

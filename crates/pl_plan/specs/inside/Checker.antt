@@ -4,7 +4,7 @@ use Rattle.armus_base.specs.Limits.{max_tasks, max_phasers}
 use Rattle.armus_base.specs.declared.ids.TaskId.{TaskId}
 use Rattle.armus_base.specs.declared.op.Op.{Op}
 use Rattle.pl_plan.specs.calls.MemberRows.{marked}
-use Rattle.pl_plan.specs.declared.step.Step.{Step}
+use Rattle.pl_plan.specs.declared.step.FlatStep.{FlatStep}
 use Rattle.pl_plan.specs.inside.Steps.{IsList}
 use Rattle.pl_plan.specs.declared.step.Thing.{Thing}
 use Rattle.pl_plan.specs.declared.step.Thing.TheVariants.{Nothing, Task, Phaser}
@@ -28,7 +28,7 @@ pub record Counts : Type 0 where
 
 -- what is kept: the steps; the three lists of the plan; for each task its start and on which phasers it is a member, by number; the names; the counts
 pub record Checker : Type 0 where
-  pub steps : List Step
+  pub steps : List FlatStep
   pub parents : List (Option TaskId)
   pub makers : List TaskId
   pub codes : List (List Op)
@@ -58,14 +58,14 @@ pub record IsThings (tasks phasers slot_count : ℕ) (things : List Thing) : Typ
   pub inside : (k : ℕ) → IsThingBelow tasks phasers (slice_index_or things k Nothing)
 
 -- a start's steps are a list of statements
-pub record IsStart (tasks phasers slot_count names : ℕ) (steps : List Step) (start : CheckerStart) : Type 0 where
+pub record IsStart (tasks phasers slot_count names : ℕ) (steps : List FlatStep) (start : CheckerStart) : Type 0 where
   pub things : IsThings tasks phasers slot_count start.things
   pub short : length start.things ≤ max_tasks + max_phasers
   pub within : start.after ≤ length steps
   pub list : IsList names steps start.first start.after
 
 -- the same of a task that may have no start
-abbrev pub StartFits : ℕ → ℕ → ℕ → ℕ → List Step → Option CheckerStart → Type 0
+abbrev pub StartFits : ℕ → ℕ → ℕ → ℕ → List FlatStep → Option CheckerStart → Type 0
 StartFits tasks phasers slot_count names steps None = Unit {0}
 StartFits tasks phasers slot_count names steps (Some start) = IsStart tasks phasers slot_count names steps start
 

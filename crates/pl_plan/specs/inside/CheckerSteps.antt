@@ -5,8 +5,8 @@ use Rattle.armus_base.specs.Limits.{max_tasks, max_phasers, max_ops}
 use Rattle.armus_base.specs.declared.offset.Offset.{Offset}
 use Rattle.armus_base.specs.declared.op.Op.{Op}
 use Rattle.armus_base.specs.declared.op.Op.TheVariants as op
-use Rattle.pl_plan.specs.declared.step.Step.{Step}
-use Rattle.pl_plan.specs.declared.step.Step.TheVariants as a_step
+use Rattle.pl_plan.specs.declared.step.FlatStep.{FlatStep}
+use Rattle.pl_plan.specs.declared.step.FlatStep.TheVariants as a_step
 use Rattle.pl_plan.specs.declared.step.Thing as code
 use Rattle.pl_plan.specs.declared.step.Thing.TheVariants as a_thing
 use Rattle.pl_plan.specs.declared.fault.PlanEnd.{PlanEnd}
@@ -116,7 +116,7 @@ checker_count n k = do
   Ok (record k { counts = record k.counts { visits = k.counts.visits + 1 } })
 
 -- a statement without a body
-abbrev pub checker_act : ℕ → ℕ → Step → Checker → Outcome Checker
+abbrev pub checker_act : ℕ → ℕ → FlatStep → Checker → Outcome Checker
 checker_act t n (a_step.NewTask x) k = checker_new_task t n x.0 k
 checker_act t n (a_step.NewPhaser x) k = checker_new_phaser t n x.0 k
 checker_act t n (a_step.Reg x y) k = checker_reg t n x.0 y.0 k
@@ -128,7 +128,7 @@ checker_act t n (a_step.Loop i after steady) k = Ok k
 checker_act t n a_step.Skip k = Ok k
 
 -- the numbers of a step's names are below n
-abbrev pub HasNames : ℕ → Step → Type 0
+abbrev pub HasNames : ℕ → FlatStep → Type 0
 HasNames n (a_step.NewTask x) = x.0 < n
 HasNames n (a_step.NewPhaser x) = x.0 < n
 HasNames n (a_step.Reg x y) = (x.0 < n) × (y.0 < n)

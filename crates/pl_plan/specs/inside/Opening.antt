@@ -1,7 +1,7 @@
 -- What is kept before the first visit.
 use Rattle.std.specs.Prelude.{◌≡◌, ℕ, ◌+◌, List, [], ◌∷◌, length, slice_index_or, Some, None}
 use Rattle.armus_base.specs.Limits.{max_tasks, max_phasers}
-use Rattle.pl_plan.specs.declared.step.Step.{Step}
+use Rattle.pl_plan.specs.declared.step.FlatStep.{FlatStep}
 use Rattle.pl_plan.specs.declared.step.Thing.TheVariants as a_thing
 use Rattle.pl_plan.specs.inside.Checker.{Bindings, Checker}
 
@@ -14,7 +14,7 @@ pub record AreOpeningBindings (names : ℕ) (b : Bindings) : Type 0 where
   pub things : (i : ℕ) → slice_index_or b.things i a_thing.Nothing ≡ a_thing.Nothing
 
 -- what is kept before the first visit: task 0 alone, forked with all steps; no name stands for anything, nobody is a member
-pub record IsOpeningChecker (steps : List Step) (names : ℕ) (k : Checker) : Type 0 where
+pub record IsOpeningChecker (steps : List FlatStep) (names : ℕ) (k : Checker) : Type 0 where
   pub steps_are : k.steps ≡ steps
   pub parents : k.parents ≡ None ∷ []
   pub makers : k.makers ≡ []

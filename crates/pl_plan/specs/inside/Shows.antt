@@ -4,7 +4,7 @@ use Rattle.std.specs.Str.{bytes_eq}
 use Rattle.armus_base.specs.Plans.{Plan}
 use Rattle.armus_base.specs.declared.ids.TaskId.{TaskId}
 use Rattle.armus_base.specs.declared.op.Op.{Op}
-use Rattle.pl_plan.specs.declared.step.Step.{Step}
+use Rattle.pl_plan.specs.declared.step.FlatStep.{FlatStep}
 use Rattle.pl_plan.specs.declared.step.Thing as code
 use Rattle.pl_plan.specs.declared.step.Thing.TheVariants as a_thing
 use Rattle.pl_plan.specs.declared.fault.PlanEnd.{PlanEnd}
@@ -26,13 +26,13 @@ AreNamed names slots things env =
     (x : ℕ) → x < length slots → env (names x) ≡ thing_of (slice_index_or things (slice_index_or slots x 0) a_thing.Nothing)
 
 -- a start that is kept shows one of the unfolding
-pub record StartShows (names : ℕ → List ℕ) (slots : List ℕ) (steps : List Step) (start : Start) (kept : CheckerStart) : Type 0 where
+pub record StartShows (names : ℕ → List ℕ) (slots : List ℕ) (steps : List FlatStep) (start : Start) (kept : CheckerStart) : Type 0 where
   pub first : start.first ≡ kept.first + 1
   pub spelled : IsSpelled (length slots) names steps kept.first start.body kept.after
   pub named : AreNamed names slots kept.things start.names
 
 -- the same tasks have a start, and each shows its own
-abbrev pub MaybeStartShows : (ℕ → List ℕ) → List ℕ → List Step → Option Start → Option CheckerStart → Type 0
+abbrev pub MaybeStartShows : (ℕ → List ℕ) → List ℕ → List FlatStep → Option Start → Option CheckerStart → Type 0
 MaybeStartShows names slots steps None None = Unit {0}
 MaybeStartShows names slots steps (Some start) (Some kept) = StartShows names slots steps start kept
 MaybeStartShows names slots steps None (Some kept) = ⊥

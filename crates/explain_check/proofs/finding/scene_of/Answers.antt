@@ -1,5 +1,5 @@
 use Rattle.std.proofs.Common.{ℕ, List, ◌≡◌, ◌∙◌, ap, arith, refl, subst, sym}
-use Rattle.pl_plan.specs.declared.step.Step.{Step}
+use Rattle.pl_plan.specs.declared.step.FlatStep.{FlatStep}
 use Rattle.pl_plan.specs.inside.Numbers.{spelling}
 use Rattle.pl_plan.proofs.Planned.{as_many_steps}
 use Rattle.explain_check.specs.inside.Seeks.{Before, HasSource, a_source}
@@ -26,7 +26,7 @@ find_scene-requires c =
       next =
           subst (λ (names : ℕ → List ℕ). HasSource c.args.program.now.two names c.deref-2.result.now c.in_ok-seeker.seeker.checker c.in_ok-seeker.seeker.notes
           c.in_ok-seeker.seeker.last_turns.items) names_are
-          (subst (λ (steps : List Step). HasSource c.args.program.now.two (spelling c.flatten_body.new.names.keys) steps c.in_ok-seeker.seeker.checker
+          (subst (λ (steps : List FlatStep). HasSource c.args.program.now.two (spelling c.flatten_body.new.names.keys) steps c.in_ok-seeker.seeker.checker
           c.in_ok-seeker.seeker.notes c.in_ok-seeker.seeker.last_turns.items) steps_are first);
     }
 
@@ -42,6 +42,6 @@ returns c =
           c.find_scene.ensures c.args.program.now refl
           (subst (λ (names : ℕ → List ℕ). Before (a_source c.args.program.now names c.deref-2.result.now) 0 c.in_ok-seeker.seeker.checker c.in_ok-seeker.seeker.notes
           c.in_ok-seeker.seeker.last_turns.items) names_are
-          (subst (λ (steps : List Step). Before (a_source c.args.program.now (spelling c.flatten_body.new.names.keys) steps) 0 c.in_ok-seeker.seeker.checker
+          (subst (λ (steps : List FlatStep). Before (a_source c.args.program.now (spelling c.flatten_body.new.names.keys) steps) 0 c.in_ok-seeker.seeker.checker
           c.in_ok-seeker.seeker.notes c.in_ok-seeker.seeker.last_turns.items) steps_are first));
     }

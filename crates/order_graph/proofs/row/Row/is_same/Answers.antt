@@ -1,5 +1,5 @@
 use Rattle.order_graph.proofs.TaskBits.{in_same}
-use Rattle.order_graph.proofs.row.Row.is_same.Goals as goal
+use Rattle.order_graph.proofs.row.TaskSet.is_same.Goals as goal
 
 pub returns : goal.returns
 returns c same =

@@ -2,7 +2,7 @@ use Rattle.std.proofs.Common.{ap}
 use Rattle.order_graph.specs.inside.Bits.{tasks_by_bits}
 use Rattle.order_graph.proofs.RowBits.{common_members}
 use Rattle.order_graph.proofs.TaskBits.{in_ascends}
-use Rattle.order_graph.proofs.row.Row.keep_common.Goals as goal
+use Rattle.order_graph.proofs.row.TaskSet.keep_common.Goals as goal
 
 pub returns-clause-ascends : goal.returns-clause-ascends
 returns-clause-ascends c = in_ascends c.keep_common.new.words.items

@@ -5,7 +5,7 @@ use Rattle.armus_base.specs.declared.ids.TaskId.{TaskId}
 use Rattle.order_graph.proofs.OrderRows.{on_err_holds}
 use Rattle.order_graph.proofs.RowBits.{put_members, put_within}
 use Rattle.order_graph.proofs.TaskBits.{in_ascends, in_same}
-use Rattle.order_graph.proofs.row.Row.put.Goals as goal
+use Rattle.order_graph.proofs.row.TaskSet.put.Goals as goal
 
 pub returns-in_err-make_room-clause-ascends : goal.returns-in_err-make_room-clause-ascends
 returns-in_err-make_room-clause-ascends c = in_ascends c.make_room.new.words.items

@@ -2,7 +2,7 @@ use Rattle.std.proofs.Common.{◌≡◌, ◌++◌, arith, length, take, drop}
 use Rattle.std.proofs.lemmas.List.{with_items_is}
 use Rattle.order_graph.proofs.RowBits.{out_members}
 use Rattle.order_graph.proofs.TaskBits.{in_ascends}
-use Rattle.order_graph.proofs.row.Row.take_out.Goals as goal
+use Rattle.order_graph.proofs.row.TaskSet.take_out.Goals as goal
 
 module _ (c : goal.After-self-1) where
   kept : take c.self.inside.words.len (c.clear_bit.new.words ++ drop (length c.clear_bit.new.words) c.self.inside.words.items) ≡ c.clear_bit.new.words

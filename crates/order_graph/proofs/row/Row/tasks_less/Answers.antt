@@ -4,7 +4,7 @@ use Rattle.std.proofs.lemmas.Result.{IfOk-weaker}
 use Rattle.armus_base.specs.declared.ids.TaskId.{TaskId}
 use Rattle.order_graph.specs.inside.Bits.{bit_less, tasks_by, tasks_by_bits}
 use Rattle.order_graph.proofs.RowBits.{less_all, less_within}
-use Rattle.order_graph.proofs.row.Row.tasks_less.Goals as goal
+use Rattle.order_graph.proofs.row.TaskSet.tasks_less.Goals as goal
 
 pub returns-clause-within : goal.returns-clause-within
 returns-clause-within c =

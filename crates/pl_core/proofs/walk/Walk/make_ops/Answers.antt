@@ -14,7 +14,7 @@ use Rattle.pl_core.proofs.Stopping.{made_before, made_less, past_the_last, stop_
 use Rattle.pl_core.proofs.WalkBounds.{done_given, events_within}
 use Rattle.pl_core.proofs.WalkOps.{child_here, room, walk_more}
 use Rattle.pl_core.proofs.Walking.{walking_first}
-use Rattle.pl_core.proofs.walk.Walk.make_ops.Goals as goal
+use Rattle.pl_core.proofs.walk.CodeWalk.make_ops.Goals as goal
 
 -- what a cursor shows is the op of the code at its index
 shown : (code cursor : List Op) (k : ℕ) → cursor ≡ drop k code → (op o : Option Op) → op ≡ slice_get cursor 0 → op ≡ o → slice_get code k ≡ o

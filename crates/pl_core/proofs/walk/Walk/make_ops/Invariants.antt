@@ -4,7 +4,7 @@ use Rattle.pl_core.specs.inside.Cursors.{op_index_of}
 use Rattle.pl_core.specs.inside.Walks.{HasWalked, walking}
 use Rattle.pl_core.specs.calls.Worlds.{places_at}
 use Rattle.armus_base.specs.Plans.{code_of}
-use Rattle.pl_core.proofs.walk.Walk.make_ops.Given as goal
+use Rattle.pl_core.proofs.walk.CodeWalk.make_ops.Given as goal
 
 -- it has made the first ops, the cursor stands behind them, and so many events are left
 abbrev pub invariant-loop-op : goal.invariant-loop-op

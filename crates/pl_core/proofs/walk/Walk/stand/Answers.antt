@@ -6,7 +6,7 @@ use Rattle.pl_core.specs.inside.Walks.{AwaitsBelow, AwaitsNear, HasWalked, event
 use Rattle.pl_core.specs.calls.Worlds.{places_at}
 use Rattle.pl_core.proofs.KeptCursors.{keeps_others, op_set_same}
 use Rattle.pl_core.proofs.WalkEnds.{awaits_below, awaits_near, walk_stands}
-use Rattle.pl_core.proofs.walk.Walk.stand.Goals as goal
+use Rattle.pl_core.proofs.walk.CodeWalk.stand.Goals as goal
 
 pub event-event-requires-clause-phaser : goal.event-event-requires-clause-phaser
 event-event-requires-clause-phaser c =

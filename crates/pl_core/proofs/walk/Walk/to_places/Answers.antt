@@ -5,7 +5,7 @@ use Rattle.pl_core.specs.inside.Walks.{HasWalked, walked}
 use Rattle.pl_core.specs.calls.Worlds.{places_at}
 use Rattle.pl_core.proofs.KeptCursors.{at_more, at_none}
 use Rattle.pl_core.proofs.WalkDone.{same_places, walk_done, walk_start}
-use Rattle.pl_core.proofs.walk.Walk.to_places.Goals as goal
+use Rattle.pl_core.proofs.walk.CodeWalk.to_places.Goals as goal
 
 pub loop-t-init : goal.loop-t-init
 loop-t-init c = record {

@@ -1,7 +1,7 @@
 use Rattle.pl_core.specs.inside.Cursors.{AreAt}
 use Rattle.pl_core.specs.inside.Walks.{HasWalked, walked}
 use Rattle.pl_core.specs.calls.Worlds.{places_at}
-use Rattle.pl_core.proofs.walk.Walk.to_places.Given as goal
+use Rattle.pl_core.proofs.walk.CodeWalk.to_places.Given as goal
 
 abbrev pub invariant-loop-t : goal.invariant-loop-t
 invariant-loop-t l = record {

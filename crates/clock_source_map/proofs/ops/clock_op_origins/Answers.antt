@@ -1,7 +1,7 @@
 use Rattle.std.proofs.Common.{ap, arith, length}
 use Rattle.armus_base.specs.Plans.{Plan}
 use Rattle.clock_source_map.proofs.AllOrigins.{begun_many, origins_end, origins_next, unfolding_of_plan}
-use Rattle.clock_source_map.proofs.ops.op_origins.Goals as goal
+use Rattle.clock_source_map.proofs.ops.clock_op_origins.Goals as goal
 
 pub new-requires-clause-unfolds : goal.new-requires-clause-unfolds
 new-requires-clause-unfolds c =
