@@ -1,6 +1,6 @@
 -- The numbers that an unfolding gives to the activities, clocks and finishes of a program that are named by where they come from.
 use Rattle.std.specs.Prelude.{ℕ, ◌<◌, List, [], ◌∷◌, ◌++◌, Contains, length, slice_index_or}
-use Rattle.clock_semantics.specs.Moves.{Move, begins, opens, starts}
+use Rattle.clock_semantics.specs.Moves.{Move, begins, made_by, opens, started_by}
 use Rattle.clock_semantics.specs.Unfolding.{ClockUnfolding}
 use Rattle.clock_laws.specs.TextMachine.{Activity, Made}
 
