@@ -1,0 +1,15 @@
+use Rattle.std.proofs.Common.{arith}
+use Rattle.std.proofs.lemmas.Grind.{common_steps, elements}
+use Rattle.digraph.proofs.search.settle_all.Goals as goal
+
+pub loop-node-init : goal.loop-node-init
+loop-node-init c = grind (arith, common_steps)
+
+pub index-requires : goal.index-requires
+index-requires c = grind (arith, common_steps)
+
+pub returns : goal.returns
+returns c = grind (arith, common_steps)
+
+pub loop-node-preserved : goal.loop-node-preserved
+loop-node-preserved c = grind (arith, elements)
