@@ -27,7 +27,7 @@ module _ (plan : Plan) (mode : Mode) (a : ℕ → Place) (lock : Option ℕ) (ch
   consistent : IsConsistent plan a
   consistent = (reachable_is_fixed plan a checked (lawful_is_reachable (avoids mode) plan a lock lawful)).1
 
-  -- whoever is forked is exact, by the own_number of the task
+  -- whoever is forked is exact, by the number of the task
   known : (n t : ℕ) → t < n → t < length plan.parents → forked_at plan (done_by a) t ≡ true → seen.exact t ≡ true
   known zero t l small f = absurd (omega arith)
   known (suc n) t l small f = elim (cases_eq t 0) [

@@ -1,4 +1,4 @@
--- The tasks of a run in another order, and how often a own_number stands among them.
+-- The tasks of a run in another order, and how often a number stands among them.
 use Rattle.std.proofs.Common.{◌≡◌, ℕ, ◌≤◌, Bool, List, [], ◌∷◌, map, refl, ap, subst, arith, inl, inr, eq-eqb, eqb-true}
 use Rattle.std.specs.Prelude.{Contains, ◌==◌, if◌then◌else◌}
 use Rattle.std.specs.List.Sorted.{IsPermutation}
@@ -26,7 +26,7 @@ shuffled f xs ys p whole =
       ];
     }
 
--- what a task counts of those with own_number t
+-- what a task counts of those with number t
 abbrev one_if : Bool → ℕ
 one_if b = if b then 1 else 0
 

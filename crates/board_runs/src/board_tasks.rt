@@ -32,7 +32,7 @@ pub struct Rounded {
     pub forked: bool,
 }
 
-/// The tasks of a run on a board: those that live, in order of own_number, and those that act no more.
+/// The tasks of a run on a board: those that live, in order of number, and those that act no more.
 #[derive(Drop)]
 pub struct BoardTasks<'p> {
     pub(crate) live: Vec<Task<'p>>,
@@ -139,7 +139,7 @@ impl<'p> BoardTasks<'p> {
     }
 }
 
-// One turn of each of these tasks, after which the children whom they forked are tasks among them, in order of own_number.
+// One turn of each of these tasks, after which the children whom they forked are tasks among them, in order of number.
 fn go_round<'p, R: Threads + Sync, G: Gate>(
     setting: &TurnSetting<'_, R, G>,
     plan: &'p Plan,
@@ -160,7 +160,7 @@ fn go_round<'p, R: Threads + Sync, G: Gate>(
     Ok(Rounded { actions, forked })
 }
 
-// Makes tasks of the children's seats that these tasks have, and puts them among them, in order of own_number; answers whether there were any.
+// Makes tasks of the children's seats that these tasks have, and puts them among them, in order of number; answers whether there were any.
 fn take_on<'p>(alloc: Global, plan: &'p Plan, tasks: &mut Vec<Task<'p>>) -> Result<bool, NoMemory>
     requires start { (seat : Known) → IsChildIn tasks.old.items seat → IsAtStart plan.now seat }
     ensures joined { OnOk result (IsPermutation (map emptied tasks.old.items ++ flat_map fresh_of tasks.old.items) tasks.new.items) }

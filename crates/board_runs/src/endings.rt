@@ -24,7 +24,7 @@ pub fn first_places(alloc: Global, plan: &Plan) -> Result<Vec<Place>, NoMemory>
     Ok(places)
 }
 
-/// Notes the place of each of these tasks under its own_number.
+/// Notes the place of each of these tasks under its number.
 pub fn note_places(tasks: &[Task<'_>], places: &mut Vec<Place>)
     requires { All (λ task. own_number task < length places.old.items) tasks.now }
     ensures { NotesPlaces tasks.now places.old.items places.new.items }

@@ -90,7 +90,7 @@ impl<'p> Task<'p> {
         List::from_vec(std::mem::replace(&mut self.children, Vec::new(alloc)))
     }
 
-    /// Its own_number.
+    /// Its number.
     pub fn id(&self) -> TaskId
         ensures { self.now.seat.view.own ≡ Some result.0 }
     {

@@ -37,7 +37,7 @@ impl<'p> Model for ClockOrigins<'p> {
     ghost invariant = { λ o. length o.things.items < 2 ^ 32 };
 }
 
-// VisitNotes what an activity of this body does, and answers at which statements it waits.
+// Notes what an activity of this body does, and answers at which statements it waits.
 fn note_activity<'p>(
     alloc: Global,
     notes: &mut VisitNotes<'p>,

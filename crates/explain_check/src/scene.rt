@@ -34,7 +34,7 @@ pub struct LoopTurn {
     pub turn: u32,
 }
 
-/// What is wrong at a fault. StatementPlaces are told by their numbers.
+/// What is wrong at a fault. Statements are told by their numbers.
 #[derive(Drop)]
 pub enum Matter {
     /// The name stands for nothing.

@@ -116,7 +116,7 @@ impl OpenPass {
         Ok(())
     }
 
-    /// PassLoads the next await cell.
+    /// Loads the next await cell.
     pub(crate) fn load_await(
         &mut self,
         alloc: Global,
@@ -164,7 +164,7 @@ impl OpenPass {
         Ok(())
     }
 
-    /// PassLoads the next phase cell.
+    /// Loads the next phase cell.
     pub(crate) fn load_phase(&mut self, alloc: Global, world: &World<'_>) -> Result<(), NoMemory>
         requires open { IsMidPass world.now.plan self.old }
         ensures loaded { OnOk result ((loads : PassLoads) (h : Seq Step) → IsAt world.now h → IsPassOf world.now.plan loads self.old → IsPassOf world.now.plan (loads ++ h ∷ []) self.new) }

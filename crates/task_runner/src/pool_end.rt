@@ -62,7 +62,7 @@ fn are_whole(alloc: Global, plan: &Plan, tasks: &[Task<'_>]) -> Result<bool, NoM
     Ok(have_forked_marked(plan, tasks, marks.as_slice()))
 }
 
-// Marks the own_number of each of these tasks.
+// Marks the number of each of these tasks.
 fn mark(tasks: &[Task<'_>], marks: &mut Vec<bool>)
     requires { All (λ task. own_number task < length marks.old.items) tasks.now }
     ensures { (t : ℕ) → slice_get marks.new.items t ≡ Some true → ContainsTask tasks.now t ⊎ (slice_get marks.old.items t ≡ Some true) }
@@ -72,7 +72,7 @@ fn mark(tasks: &[Task<'_>], marks: &mut Vec<bool>)
     }
 }
 
-// Whether a own_number is marked.
+// Whether a number is marked.
 fn is_marked(marks: &[bool], t: u32) -> bool
     ensures { result ≡ true → slice_get marks.now t ≡ Some true }
 {

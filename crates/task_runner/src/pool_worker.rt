@@ -141,7 +141,7 @@ impl<'p, N: BoardName> PoolWorker<'p, N> {
         are_many(self.cells.loads_for_awaits().saturating_mul(self.workers))
     }
 
-    // Visits each task, in order of own_number.
+    // Visits each task, in order of number.
     fn sweep<R, C: Calls>(
         &mut self,
         setting: &TurnSetting<'_, R, C>,

@@ -49,7 +49,7 @@ impl<'p, N: BoardName> Model for PooledTask<'p, N> {
 impl<'p, N: BoardName> Named for PooledTask<'p, N> {
     ghost use Rattle.board.specs.calls.Views.{task_of};
 
-    ghost own_number = { λ task. task_of task.seat.view };
+    ghost number = { λ task. task_of task.seat.view };
 
     fn id(&self) -> TaskId {
         self.task.id()

@@ -10,7 +10,7 @@ abbrev pub TakesAll : List Known → Known → Known → Type 0
 TakesAll [] before now = now ≡ before
 TakesAll (seat ∷ seats) before now = (between : Known) × TakesIn seat before between × TakesAll seats between now
 
--- the place of each of these tasks is noted under its own_number, and nothing else is another
+-- the place of each of these tasks is noted under its number, and nothing else is another
 pub record NotesPlaces (tasks : List Working) (before now : List KeptPlace) : Type 0 where
   pub count : length now ≡ length before
   pub each :

@@ -39,7 +39,7 @@ pub record AreTaskSeats (board : Frame) (Seats : Known → Type 0) : Type 0 wher
 abbrev pub IsSeatIn : List Working → Known → Type 0
 IsSeatIn tasks seat = (task : Working) × Contains tasks task × seat ≡ task.seat
 
--- the own_number of a task
+-- the number of a task
 abbrev pub own_number : Working → ℕ
 own_number task = task_of task.seat.view
 
@@ -47,7 +47,7 @@ own_number task = task_of task.seat.view
 abbrev pub done_of : Working → ℕ
 done_of task = (own_place task.seat.view).done
 
--- how many of these tasks have own_number t
+-- how many of these tasks have number t
 abbrev pub how_many : ℕ → List Working → ℕ
 how_many t tasks = sum_by (λ task. if own_number task == t then 1 else 0) tasks
 

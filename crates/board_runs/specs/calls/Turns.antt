@@ -131,7 +131,7 @@ pub data EndsTurn (before now : Known) : Type 0 where
 abbrev pub StandsAtAwait : Known → Type 0
 StandsAtAwait seat = IsSome (event_of seat) ⊎ (avoids seat.view.mode ≡ true × IsBeforeAwait seat)
 
--- a count of 64 bits: so many, or the greatest own_number of 64 bits, at which it stands still
+-- a count of 64 bits: so many, or the greatest number of 64 bits, at which it stands still
 abbrev pub in_64_bits : ℕ → ℕ
 in_64_bits n = min n (2 ^ 64 - 1)
 
@@ -192,7 +192,7 @@ pub data EachEndsTurn (bound : ℕ) : List Working → List Working → Type 0 w
       {front behind front_now behind_now : List Working} → EachEndsTurn bound front front_now → EachEndsTurn bound behind behind_now →
       EachEndsTurn bound (front ++ behind) (front_now ++ behind_now)
 
--- a count of 32 bits: so many, or the greatest own_number of 32 bits, at which it stands still
+-- a count of 32 bits: so many, or the greatest number of 32 bits, at which it stands still
 abbrev pub in_32_bits : ℕ → ℕ
 in_32_bits n = min n (2 ^ 32 - 1)
 

@@ -29,7 +29,7 @@ pub record MayDecide (board : Frame) (aim : Aim) (seat : Known) : Type 0 where
   pub next : next_action seat.view ≡ Some (Blocks aim)
   pub phaser : aim.phaser < length board.plan.makers
 
--- the drops of those of the first phasers of which a task with these phases is a member, in order of own_number
+-- the drops of those of the first phasers of which a task with these phases is a member, in order of number
 abbrev pub drops_below : Phases → ℕ → List Action
 drops_below phases zero = []
 drops_below phases (suc p) = drops_below phases p ++ (if is_some (phases p) then Drops p ∷ [] else [])

@@ -44,7 +44,7 @@ pub record AreAllWorkers (pool : PoolValue) (workers : List WorkerValue) : Type 
   pub each : (k : ℕ) → k < pool.workers → IsNumberOf workers k
   pub idle : All (λ w. w.view.has ≡ []) workers
 
--- one of these tasks has own_number t
+-- one of these tasks has number t
 abbrev pub ContainsTask : List Working → ℕ → Type 0
 ContainsTask tasks t = (task : Working) × Contains tasks task × own_number task ≡ t
 
