@@ -22,6 +22,6 @@ returns c =
       stand = subst (λ xs. AreStandings (IsDeadBy blocked) c.args.end.now.ends xs) (sym c.from_vec.ensures.items)
           (standings_same (IsIn dead) (IsDeadBy blocked) (dead_in blocked dead h) c.args.end.now.ends all listed);
       counts =
-          c.from_vec-2.ensures.items ∙ c.in_ok-put_counts.ensures ∙ ap (λ o. o ++ counts_line c.counts_of.result) c.new.ensures.items
+          c.from_vec-2.ensures.items ∙ c.in_ok-put_counts.ensures ∙ ap (λ o. o ++ counts_line c.counts_of.result) c.new-counts.ensures.items
           ∙ ap (λ k. counts_line k) (c.counts_of.ensures ∙ ap counts_of (c.deref.ensures.value ∙ sym c.from_vec.ensures.items));
     }
