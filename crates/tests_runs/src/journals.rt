@@ -102,8 +102,8 @@ fn is_of_nine<R: Threads + Wait + Sync>(
     Ok(journal.as_slice().len() == 9 && begins_with(journal.as_slice(), ROOT))
 }
 
-/// Whether the first five steps are by this task.
-pub(crate) fn begins_with(journal: &[TaskId], t: TaskId) -> bool {
+// Whether the first five steps are by this task.
+fn begins_with(journal: &[TaskId], t: TaskId) -> bool {
     journal.len() >= 5 && journal[..5] == [t, t, t, t, t]
 }
 

@@ -1,5 +1,5 @@
 // A gate at which two tasks meet.
-use armus_base::{Gate, Point, TaskId};
+use armus_base::{Gate, Point};
 use std::sync::atomic::{AtomicBool, Ordering};
 use std::thread::yield_now;
 
@@ -18,13 +18,6 @@ pub(crate) struct Meeting {
 }
 
 impl Meeting {
-    /// Tasks 1 and 2 meet before their first op.
-    pub(crate) fn new() -> Meeting {
-        let first = Point::Op { t: TaskId(1), k: 0 };
-        let second = Point::Op { t: TaskId(2), k: 0 };
-        Meeting::between(first, second, MAX_LOOKS)
-    }
-
     /// A gate that holds at these two points, each for so many looks at most.
     pub(crate) fn between(first: Point, second: Point, looks: u32) -> Meeting {
         Meeting {
