@@ -12,7 +12,7 @@ ghost use Rattle.explain_clock.specs.ClockWords.{activity_words, made_clock_word
 ghost use Rattle.explain_steps.specs.ClockStepWords.{awaited_event_words, clock_change_words, clock_wait_words, left_finish_words, left_words, making_words, registered_words, said_of_thing, signalled_words};
 
 use crate::changes::{put_phase_change, put_with_phase, ready_op};
-use crate::facts::ClockOpFacts;
+use crate::clock_facts::ClockOpFacts;
 use armus_base::{Event, NoMemory, Op, Phase, TaskId};
 use clock_source_map::ClockThing;
 use explain_facts::{put_number, put_words};

@@ -7,7 +7,7 @@ ghost use Rattle.clock_source_map.specs.ClockOps.{all_op_origins};
 ghost use Rattle.explain_steps.specs.OpFacts.{clock_op_origin, written_parts};
 ghost use Rattle.explain_steps.specs.calls.Known.{clock_part_of, kept_parts, known_ops};
 
-use crate::statements::{statement_at, statements_of};
+use crate::clock_statements::{statement_at, statements_of};
 use armus_base::{List, NoMemory, Plan, TaskId};
 use clock_source_map::clock_op_origins;
 use clock_syntax::{ClockProgram, ClockStmt};

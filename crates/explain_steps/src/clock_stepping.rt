@@ -12,7 +12,7 @@ ghost use Rattle.explain_steps.specs.calls.Known.{known_ops};
 ghost use Rattle.explain_steps.specs.calls.SteppedClocks.{IsSteppedClockRun};
 
 use crate::changes::op_at;
-use crate::facts::ClockOpFacts;
+use crate::clock_facts::ClockOpFacts;
 use crate::stepping::{SteppedRun, step_to_end};
 use crate::telling::TellsSteps;
 use armus_base::{NoMemory, Plan, TaskId};

@@ -4,7 +4,7 @@ ghost use Rattle.std.specs.List.{flat_map};
 ghost use Rattle.explain_steps.specs.ClockStepWords.{behind_comma, clock_statement_words, clock_whence_words, finish_op_words, listed_names};
 ghost use Rattle.explain_steps.specs.calls.Known.{clock_part_of, known_ops};
 
-use crate::facts::ClockOpFacts;
+use crate::clock_facts::ClockOpFacts;
 use armus_base::{NoMemory, Op};
 use clock_syntax::{ClockName, ClockStmt};
 use explain_facts::put_words;
