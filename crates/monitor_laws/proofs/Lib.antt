@@ -1,0 +1,5 @@
+pub mod Filters
+pub mod Changes
+pub mod Lawful
+pub mod Rows
+pub mod StuckStays

@@ -1,0 +1,18 @@
+-- The laws of the monitor.
+use Rattle.std.specs.Prelude.{◌≡◌, ℕ, eqb, false, List, [], ◌∷◌, ◌++◌}
+use Rattle.std.specs.List.{starts_with}
+use Rattle.monitor_laws.specs.Lines.{TraceLine, AreGone}
+use Rattle.monitor_laws.specs.States.{Participant, after_lines}
+use Rattle.monitor_laws.specs.Stuck.{IsStuck}
+use Rattle.monitor_laws.specs.Traces.{IsHonest, IsLegalTrace}
+
+-- no line says that the name is gone
+abbrev pub IsNeverGone : List ℕ → List TraceLine → Type 0
+IsNeverGone t [] = Unit {0}
+IsNeverGone t (l ∷ h) = IsNeverGone t h × ((beginning : List ℕ) → l ≡ AreGone beginning → starts_with eqb t beginning ≡ false)
+
+-- in every honest continuation of an honest trace whoever is stuck and is not gone stays so, at the same wait
+abbrev pub StuckStays : Type 0
+StuckStays =
+    (h more : List TraceLine) (t : Participant) → IsLegalTrace (more ++ h) → IsHonest (more ++ h) → IsNeverGone t.name more →
+    IsStuck (after_lines h) t → IsStuck (after_lines (more ++ h)) t

@@ -1,0 +1,11 @@
+//! The monitor of running programs: what the lines of a trace are, what state they lead to, who is stuck in it, and the laws of these, each the contract of a
+//! function with an empty body. It stands on armus_base for events and deadlock alone.
+//! The tests of the monitor stand in the gallery.
+#![tactic(auto)]
+
+ghost use Rattle.monitor_laws.specs.Laws.{StuckStays};
+
+/// Whoever is stuck after the first lines of an honest trace, and is not gone, is stuck after all of them.
+pub fn stuck_stays()
+    ensures { StuckStays }
+{}
