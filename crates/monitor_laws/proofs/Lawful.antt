@@ -6,7 +6,7 @@ use Rattle.std.proofs.lemmas.Bool.{cases_Bool, and_parts, and_from, cond-true, c
 use Rattle.std.proofs.lemmas.Slice.Eq.{bytes_eq-Decides}
 use Rattle.armus_base.proofs.Elements.{from_map, nothing_in_nil}
 use Rattle.monitor_laws.specs.Lines.{Announcement, Joins, Arrives, Leaves, Waits, Goes, Ends, Stands, TraceLine, SaysNothing, AsksReport, AsksList, AreGone, Announces, PlaysAny, PlaysOneOf}
-use Rattle.monitor_laws.specs.States.{Condition, Running, Waiting, Ended, AnyTask, OneOf, Participant, TraceState, after_line, after_lines, announced_by, changed_at, changed_by, gone_by, is_live_task, is_live_wildcard, is_there_as, new_participant, numbers_of, placed_at, stays_listed, with_named}
+use Rattle.monitor_laws.specs.States.{Condition, Running, Waiting, Ended, AnyTask, OneOf, Participant, TraceState, after_line, after_lines, announced_by, changed_at, changed_by, gone_by, is_live_task, is_live_wildcard, is_there_as, new_participant, task_numbers, placed_at, stays_listed, with_named}
 use Rattle.monitor_laws.proofs.Filters.{any_from, from_filter, none_passes}
 use Rattle.monitor_laws.proofs.Changes.{changed_there, from_change, from_named, in_named, named_grows, other_is, there_is}
 
@@ -23,7 +23,7 @@ pub record KeepsSelf (s : TraceState) (u v : Participant) : Type 0 where
   pub number : v.number ≡ u.number
   pub name : v.name ≡ u.name
   pub live : (t : List ℕ) → is_there_as t v ≡ true → is_there_as t u ≡ true
-  pub tasks : (names : List (List ℕ)) (tasks : List ℕ) → v.condition ≡ OneOf names tasks → (u.condition ≡ OneOf names tasks) ⊎ (tasks ≡ numbers_of s names)
+  pub tasks : (names : List (List ℕ)) (tasks : List ℕ) → v.condition ≡ OneOf names tasks → (u.condition ≡ OneOf names tasks) ⊎ (tasks ≡ task_numbers s names)
 
 keeps_itself : (s : TraceState) (u : Participant) → KeepsSelf s u u
 keeps_itself s u = record { number = refl; name = refl; live = λ t e. e; tasks = λ names tasks e. inl e }
@@ -73,7 +73,7 @@ placed_phases None u = refl
 placed_phases (Some place) u = refl
 
 -- who is changed under the name was there with it
-keeps_there : (s : TraceState) (t : List ℕ) (change : Participant → Participant) (u : Participant) → (change u).number ≡ u.number → (change u).name ≡ u.name → ((names : List (List ℕ)) (tasks : List ℕ) → (change u).condition ≡ OneOf names tasks → (u.condition ≡ OneOf names tasks) ⊎ (tasks ≡ numbers_of s names)) → KeepsSelf s u (changed_there t change u)
+keeps_there : (s : TraceState) (t : List ℕ) (change : Participant → Participant) (u : Participant) → (change u).number ≡ u.number → (change u).name ≡ u.name → ((names : List (List ℕ)) (tasks : List ℕ) → (change u).condition ≡ OneOf names tasks → (u.condition ≡ OneOf names tasks) ⊎ (tasks ≡ task_numbers s names)) → KeepsSelf s u (changed_there t change u)
 keeps_there s t change u number name tasks =
     elim (cases_Bool (is_there_as t u)) [
       | inl there ↦ subst (KeepsSelf s u) (sym (there_is t change u there)) (record {
@@ -98,7 +98,7 @@ keeps_gone s beginning u = by_test (cases_Bool (starts_with eqb u.name beginning
     by_test (inr other) = subst (KeepsSelf s u) (sym (cond-false (starts_with eqb u.name beginning) (record u { condition = Ended }) u other)) (keeps_itself s u)
 
 -- the numbers of tasks are below the count
-numbers_below : (s : TraceState) → IsLawfulState s → (names : List (List ℕ)) (k : ℕ) → Contains (numbers_of s names) k → k < s.named
+numbers_below : (s : TraceState) → IsLawfulState s → (names : List (List ℕ)) (k : ℕ) → Contains (task_numbers s names) k → k < s.named
 numbers_below s lawful names k within =
     let m = from_map (λ (u : Participant). u.number) (filter (λ (u : Participant). is_live_task u.condition && list_any (λ t. bytes_eq t u.name) names) s.list) k within in
     let f = from_filter (λ (u : Participant). is_live_task u.condition && list_any (λ t. bytes_eq t u.name) names) s.list m.0 m.1 in
@@ -163,7 +163,7 @@ lawful_named s t lawful = by_test (named_grows s t)
 -- after a change that keeps who each one is
 lawful_changed :
     (s base : TraceState) (change : Participant → Participant) → IsLawfulState base → ((u : Participant) → Contains base.list u → KeepsSelf s u (change u)) →
-    ((names : List (List ℕ)) (k : ℕ) → Contains (numbers_of s names) k → k < base.named) → IsLawfulState (changed_by change base)
+    ((names : List (List ℕ)) (k : ℕ) → Contains (task_numbers s names) k → k < base.named) → IsLawfulState (changed_by change base)
 lawful_changed s base change lawful keeps below =
     record {
       numbers = λ v within.
@@ -194,7 +194,7 @@ lawful_changed s base change lawful keeps below =
 lawful_at :
     (s : TraceState) (t : List ℕ) (change : Participant → Participant) → IsLawfulState s → ((u : Participant) → (change u).number ≡ u.number) →
     ((u : Participant) → (change u).name ≡ u.name) →
-    ((u : Participant) (names : List (List ℕ)) (tasks : List ℕ) → (change u).condition ≡ OneOf names tasks → (u.condition ≡ OneOf names tasks) ⊎ (tasks ≡ numbers_of s names)) →
+    ((u : Participant) (names : List (List ℕ)) (tasks : List ℕ) → (change u).condition ≡ OneOf names tasks → (u.condition ≡ OneOf names tasks) ⊎ (tasks ≡ task_numbers s names)) →
     IsLawfulState (changed_at t change s)
 lawful_at s t change lawful number name tasks =
     lawful_changed s (with_named s t) (changed_there t change) (lawful_named s t lawful) (λ u within. keeps_there s t change u (number u) (name u) (tasks u))
@@ -212,8 +212,8 @@ lawful_after s (Announces t what place) lawful =
     (λ u names tasks is. inl (announced_tasks what u names tasks (sym (placed_condition place (announced_by what u)) ∙ is)))
 lawful_after s (PlaysAny w) lawful = lawful_at s w (λ u. record u { condition = AnyTask }) lawful (λ u. refl) (λ u. refl) (λ u names tasks is. absurd (cc))
 lawful_after s (PlaysOneOf w names) lawful =
-    lawful_at s w (λ u. record u { condition = OneOf names (numbers_of s names) }) lawful (λ u. refl) (λ u. refl)
-    (λ u others tasks is. inr (let e : names ≡ others = ap names_in is in ap tasks_in (sym is) ∙ ap (numbers_of s) e))
+    lawful_at s w (λ u. record u { condition = OneOf names (task_numbers s names) }) lawful (λ u. refl) (λ u. refl)
+    (λ u others tasks is. inr (let e : names ≡ others = ap names_in is in ap tasks_in (sym is) ∙ ap (task_numbers s) e))
   where
     names_in : Condition → List (List ℕ)
     names_in (OneOf names tasks) = names

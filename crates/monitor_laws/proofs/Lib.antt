@@ -3,3 +3,4 @@ pub mod Changes
 pub mod Lawful
 pub mod Rows
 pub mod StuckStays
+pub mod Guarding

@@ -8,8 +8,8 @@ use Rattle.std.proofs.lemmas.Slice.Eq.{bytes_eq-Decides}
 use Rattle.armus_base.proofs.Elements.{Contains-cons_cases, Contains-head, Contains-tail, nothing_in_nil}
 use Rattle.monitor_laws.specs.Lines.{Announcement, Joins, Arrives, Leaves, Waits, Goes, Ends, Stands, Announces, PlaysOneOf}
 use Rattle.monitor_laws.specs.States.{Condition, Running, Waiting, Ended, AnyTask, OneOf, Participant, TraceState, after_line, is_live_task, is_live_wildcard, is_there_as, new_participant, stays_listed}
-use Rattle.monitor_laws.specs.Faults.{LineFault, NamesTask, NamesWildcard, StillWaits, TooManyListed, TooManyMemberships, fault_where, faults_of, has_no_room, is_go, is_join, is_of_tasks, is_task_in, is_wildcard_in, memberships_in, most_memberships, named_in, said_faults, waits_now}
-use Rattle.monitor_laws.specs.Stuck.{has_phase_below, is_lower}
+use Rattle.monitor_laws.specs.Faults.{LineFault, NamesTask, NamesWildcard, StillWaits, TooManyListed, TooManyMemberships, fault_where, faults_of, has_no_room, is_go, is_join, is_of_tasks, is_task_in, is_wildcard_in, memberships_in, most_memberships, participant_in, said_faults, waits_now}
+use Rattle.monitor_laws.specs.Stuck.{has_phase_below, is_phase_below}
 use Rattle.monitor_laws.proofs.Filters.{any_from}
 use Rattle.monitor_laws.proofs.Lawful.{IsLawfulState}
 
@@ -36,7 +36,7 @@ find_is {A} p (y ∷ xs) u within on = by_test (λ there. find_is p xs u there o
         (r.0, cond-false (p y) (Some y) (find p xs) other ∙ r.1, Contains-tail y xs r.0 r.2, r.3)
 
 -- who is there with a name is the one
-pub named_is : (s : TraceState) → IsLawfulState s → (t : List ℕ) (u : Participant) → Contains s.list u → is_there_as t u ≡ true → named_in s t ≡ u
+pub named_is : (s : TraceState) → IsLawfulState s → (t : List ℕ) (u : Participant) → Contains s.list u → is_there_as t u ≡ true → participant_in s t ≡ u
 named_is s lawful t u within there =
     let f = find_is (is_there_as t) s.list u within there in
     ap (λ o. unwrap_or o (new_participant s.named t)) f.1 ∙ lawful.one_name t f.0 u f.2 within f.3 there
@@ -61,7 +61,7 @@ task_or_wildcard t u there =
     or_cases (is_live_task u.condition) (is_live_wildcard u.condition) (and_parts (is_live_task u.condition || is_live_wildcard u.condition) (bytes_eq t u.name) there).0
 
 -- a member of some phaser stays listed
-pub some_phase : (l : List (List ℕ × ℕ)) (p : List ℕ) (n : ℕ) → is_lower (lookup (bytes_eq p) l) n ≡ true → (length l == 0) ≡ false
+pub some_phase : (l : List (List ℕ × ℕ)) (p : List ℕ) (n : ℕ) → is_phase_below (lookup (bytes_eq p) l) n ≡ true → (length l == 0) ≡ false
 some_phase [] p n lower = absurd (cc)
 some_phase (m ∷ l) p n lower = ne_eqb (length (m ∷ l)) 0 (λ e. omega arith)
 
@@ -71,31 +71,31 @@ member_stays u p n below =
     (not_from_false (length u.phases == 0) (some_phase u.phases p n below))
 
 -- a first membership is found before one that is added behind
-pub found_before : (l : List (List ℕ × ℕ)) (m : List ℕ × ℕ) (p : List ℕ) (n : ℕ) → is_lower (lookup (bytes_eq p) l) n ≡ true → is_lower (lookup (bytes_eq p) (l ++ m ∷ [])) n ≡ true
+pub found_before : (l : List (List ℕ × ℕ)) (m : List ℕ × ℕ) (p : List ℕ) (n : ℕ) → is_phase_below (lookup (bytes_eq p) l) n ≡ true → is_phase_below (lookup (bytes_eq p) (l ++ m ∷ [])) n ≡ true
 found_before [] m p n lower = absurd (cc)
 found_before (k ∷ l) m p n lower = by_test (found_before l m p n) (cases_Bool (bytes_eq p k.0))
   where
     by_test :
-        (is_lower (lookup (bytes_eq p) l) n ≡ true → is_lower (lookup (bytes_eq p) (l ++ m ∷ [])) n ≡ true) → ((bytes_eq p k.0 ≡ true) ⊎ (bytes_eq p k.0 ≡ false)) →
-        is_lower (lookup (bytes_eq p) ((k ∷ l) ++ m ∷ [])) n ≡ true
+        (is_phase_below (lookup (bytes_eq p) l) n ≡ true → is_phase_below (lookup (bytes_eq p) (l ++ m ∷ [])) n ≡ true) → ((bytes_eq p k.0 ≡ true) ⊎ (bytes_eq p k.0 ≡ false)) →
+        is_phase_below (lookup (bytes_eq p) ((k ∷ l) ++ m ∷ [])) n ≡ true
     by_test rest (inl here) =
-        ap (λ o. is_lower o n) (cond-true (bytes_eq p k.0) (Some k.1) (lookup (bytes_eq p) (l ++ m ∷ [])) here)
-        ∙ sym (ap (λ o. is_lower o n) (cond-true (bytes_eq p k.0) (Some k.1) (lookup (bytes_eq p) l) here)) ∙ lower
+        ap (λ o. is_phase_below o n) (cond-true (bytes_eq p k.0) (Some k.1) (lookup (bytes_eq p) (l ++ m ∷ [])) here)
+        ∙ sym (ap (λ o. is_phase_below o n) (cond-true (bytes_eq p k.0) (Some k.1) (lookup (bytes_eq p) l) here)) ∙ lower
     by_test rest (inr other) =
-        ap (λ o. is_lower o n) (cond-false (bytes_eq p k.0) (Some k.1) (lookup (bytes_eq p) (l ++ m ∷ [])) other)
-        ∙ rest (sym (ap (λ o. is_lower o n) (cond-false (bytes_eq p k.0) (Some k.1) (lookup (bytes_eq p) l) other)) ∙ lower)
+        ap (λ o. is_phase_below o n) (cond-false (bytes_eq p k.0) (Some k.1) (lookup (bytes_eq p) (l ++ m ∷ [])) other)
+        ∙ rest (sym (ap (λ o. is_phase_below o n) (cond-false (bytes_eq p k.0) (Some k.1) (lookup (bytes_eq p) l) other)) ∙ lower)
 
 -- of a line of a task or wildcard that is legal
 pub record HasNoFault (s : TraceState) (t : List ℕ) (what : Announcement) (place : Option (List ℕ)) : Type 0 where
   pub no_wildcard : (is_wildcard_in s t && (is_of_tasks what || is_some place)) ≡ false
-  pub no_wait : (waits_now (named_in s t).condition && not (is_go what)) ≡ false
-  pub said : said_faults t (named_in s t) what ≡ []
+  pub no_wait : (waits_now (participant_in s t).condition && not (is_go what)) ≡ false
+  pub said : said_faults t (participant_in s t) what ≡ []
 
 pub has_no_fault : (s : TraceState) (t : List ℕ) (what : Announcement) (place : Option (List ℕ)) → faults_of s (Announces t what place) ≡ [] → HasNoFault s t what place
 has_no_fault s t what place legal =
     let one = fault_where (is_wildcard_in s t && (is_of_tasks what || is_some place)) (NamesWildcard t) in
-    let two = fault_where (waits_now (named_in s t).condition && not (is_go what)) (StillWaits t) in
-    let three = said_faults t (named_in s t) what in
+    let two = fault_where (waits_now (participant_in s t).condition && not (is_go what)) (StillWaits t) in
+    let three = said_faults t (participant_in s t) what in
     let four = fault_where (has_no_room s t) TooManyListed in
     let five = fault_where (is_join what && nat_le most_memberships (memberships_in s)) TooManyMemberships in
     let to_four = both_tables (one ++ two ++ three ++ four) five legal in
@@ -104,7 +104,7 @@ has_no_fault s t what place legal =
     let first = both_tables one two to_two.0 in
     record {
       no_wildcard = no_row (is_wildcard_in s t && (is_of_tasks what || is_some place)) (NamesWildcard t) first.0;
-      no_wait = no_row (waits_now (named_in s t).condition && not (is_go what)) (StillWaits t) first.1;
+      no_wait = no_row (waits_now (participant_in s t).condition && not (is_go what)) (StillWaits t) first.1;
       said = to_two.1;
     }
 

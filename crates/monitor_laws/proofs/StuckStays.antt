@@ -6,10 +6,10 @@ use Rattle.std.specs.Map.{lookup}
 use Rattle.std.proofs.lemmas.Bool.{cases_Bool, and_parts, and_from, or_left, not_from_false, lt-ltb, ltb-true, cond-true, cond-false}
 use Rattle.std.proofs.lemmas.Slice.Eq.{bytes_eq-Decides}
 use Rattle.monitor_laws.specs.Lines.{Announcement, Joins, Arrives, Leaves, Waits, Goes, Ends, Stands, TraceLine, SaysNothing, AsksReport, AsksList, AreGone, Announces, PlaysAny, PlaysOneOf}
-use Rattle.monitor_laws.specs.States.{Condition, Running, Waiting, Ended, AnyTask, OneOf, Participant, TraceState, after_line, after_lines, announced_by, changed_at, changed_by, gone_by, is_live_task, is_live_wildcard, is_there_as, new_participant, numbers_of, placed_at, stays_listed, with_named}
-use Rattle.monitor_laws.specs.Faults.{NamesTask, TooManyListed, fault_where, has_no_room, faults_of, is_go, is_of_tasks, is_task_in, is_wildcard_in, named_in, waits_now}
-use Rattle.monitor_laws.specs.Stuck.{IsClosedSet, IsKeptIn, IsStuck, has_phase_below, is_lower}
-use Rattle.monitor_laws.specs.Traces.{IsHonest, IsDone, IsHonestLine, IsLegalTrace, MayPlay, NobodyWaits, SomebodyRuns}
+use Rattle.monitor_laws.specs.States.{Condition, Running, Waiting, Ended, AnyTask, OneOf, Participant, TraceState, after_line, after_lines, announced_by, changed_at, changed_by, gone_by, is_live_task, is_live_wildcard, is_there_as, new_participant, task_numbers, placed_at, stays_listed, with_named}
+use Rattle.monitor_laws.specs.Faults.{NamesTask, TooManyListed, fault_where, has_no_room, faults_of, is_go, is_of_tasks, is_task_in, is_wildcard_in, participant_in, waits_now}
+use Rattle.monitor_laws.specs.Stuck.{IsClosedSet, IsKeptIn, IsStuck, has_phase_below, is_phase_below}
+use Rattle.monitor_laws.specs.Traces.{IsHonest, IsActOf, IsHonestLine, IsLegalTrace, MayPlay, NobodyWaits, SomebodyRuns}
 use Rattle.monitor_laws.specs.Laws.{IsNeverGone, StuckStays}
 use Rattle.monitor_laws.proofs.Changes.{changed_there, from_change, from_named, in_change, in_named, other_is, there_is}
 use Rattle.monitor_laws.proofs.Lawful.{IsLawfulState, lawful_lines, placed_condition, placed_number, placed_phases, announced_number}
@@ -188,8 +188,8 @@ module _ (s : TraceState) (lawful : IsLawfulState s) (set : ℕ → Bool) (close
         let kept : IsKeptIn s set (Waiting p n) = subst (λ c. IsKeptIn s set c) waits (closed u within inside) in
         let goes : what ≡ Goes = is_goes what (elim (cases_Bool (is_go what)) [
           | inl go ↦ go
-          | inr other ↦ absurd (let w : waits_now (named_in s t).condition ≡ true = ap (λ (x : Participant). waits_now x.condition) (named_is s lawful t u within there) ∙ ap waits_now waits in
-              let both = and_from (waits_now (named_in s t).condition) (not (is_go what)) w (not_from_false (is_go what) other) in
+          | inr other ↦ absurd (let w : waits_now (participant_in s t).condition ≡ true = ap (λ (x : Participant). waits_now x.condition) (named_is s lawful t u within there) ∙ ap waits_now waits in
+              let both = and_from (waits_now (participant_in s t).condition) (not (is_go what)) w (not_from_false (is_go what) other) in
               let none = free.no_wait in cc)
         ]) in
         let below = honest.goes p n (u, place, ap (λ x. Announces x what place) (name_is t u there) ∙ ap (λ x. Announces u.name x place) goes, within, waits) kept.0 kept.1 in
@@ -221,13 +221,13 @@ module _ (s : TraceState) (lawful : IsLawfulState s) (set : ℕ → Bool) (close
               wild = wild;
               condition = placed_condition place (announced_by what u) ∙ ap (λ y. (announced_by y u).condition) is;
               phases = λ q m below.
-                  subst (λ l. is_lower (lookup (bytes_eq q) l) m ≡ true)
+                  subst (λ l. is_phase_below (lookup (bytes_eq q) l) m ≡ true)
                   (sym (placed_phases place (announced_by what u) ∙ ap (λ y. (announced_by y u).phases) is))
                   (found_before u.phases (p, n) q m below);
             }
-        by_said (Arrives p) is wild of = absurd (nobody_plays u within inside (honest.plays u within wild (subst (λ x. IsDone u.name (Announces t x place)) (sym is) (name_is t u there))))
-        by_said (Leaves p) is wild of = absurd (nobody_plays u within inside (honest.plays u within wild (subst (λ x. IsDone u.name (Announces t x place)) (sym is) (name_is t u there))))
-        by_said Ends is wild of = absurd (nobody_plays u within inside (honest.plays u within wild (subst (λ x. IsDone u.name (Announces t x place)) (sym is) (name_is t u there))))
+        by_said (Arrives p) is wild of = absurd (nobody_plays u within inside (honest.plays u within wild (subst (λ x. IsActOf u.name (Announces t x place)) (sym is) (name_is t u there))))
+        by_said (Leaves p) is wild of = absurd (nobody_plays u within inside (honest.plays u within wild (subst (λ x. IsActOf u.name (Announces t x place)) (sym is) (name_is t u there))))
+        by_said Ends is wild of = absurd (nobody_plays u within inside (honest.plays u within wild (subst (λ x. IsActOf u.name (Announces t x place)) (sym is) (name_is t u there))))
         by_said (Waits p n) is wild of = absurd (cc)
         by_said Goes is wild of = absurd (cc)
         by_said Stands is wild of = absurd (cc)
@@ -315,7 +315,7 @@ module _ (s : TraceState) (lawful : IsLawfulState s) (set : ℕ → Bool) (close
       record {
         keeps = λ u p n within inside below.
             let same = gone_phases beginning u in
-            let stays : has_phase_below (gone_by beginning u) p n ≡ true = ap (λ l. is_lower (lookup (bytes_eq p) l) n) same.0 ∙ below in
+            let stays : has_phase_below (gone_by beginning u) p n ≡ true = ap (λ l. is_phase_below (lookup (bytes_eq p) l) n) same.0 ∙ below in
             (gone_by beginning u, in_change (gone_by beginning) s u within (member_stays (gone_by beginning u) p n stays), same.1, stays);
         comes = λ v within inside below.
             let m = from_change (gone_by beginning) s v within in (
@@ -370,8 +370,8 @@ stays_stuck s lawful (PlaysAny w) legal honest u stays stuck =
     (λ v within wild is. honest.plays v within wild is))
     u stuck.listed stuck.waits.0 stuck.waits.1 stuck.waits.2 stuck.inside
 stays_stuck s lawful (PlaysOneOf w names) legal honest u stays stuck =
-    still_stuck s lawful stuck.set stuck.closed w (λ x. record x { condition = OneOf names (numbers_of s names) })
-    (fits_played s lawful stuck.set stuck.closed w (OneOf names (numbers_of s names)) refl (no_row (is_task_in s w) (NamesTask w) (no_task_row s w names legal))
+    still_stuck s lawful stuck.set stuck.closed w (λ x. record x { condition = OneOf names (task_numbers s names) })
+    (fits_played s lawful stuck.set stuck.closed w (OneOf names (task_numbers s names)) refl (no_row (is_task_in s w) (NamesTask w) (no_task_row s w names legal))
     (λ v within wild is. honest.plays v within wild is))
     u stuck.listed stuck.waits.0 stuck.waits.1 stuck.waits.2 stuck.inside
 

@@ -32,8 +32,8 @@ pub data LineFault : Type 0 where
 abbrev pub fault_where : Bool → LineFault → List LineFault
 fault_where holds fault = if holds then fault ∷ [] else []
 
-abbrev pub phase_at : Participant → List ℕ → Option ℕ
-phase_at u p = lookup (bytes_eq p) u.phases
+abbrev pub phase_on : Participant → List ℕ → Option ℕ
+phase_on u p = lookup (bytes_eq p) u.phases
 
 abbrev pub waits_now : Condition → Bool
 waits_now Running = false
@@ -43,8 +43,8 @@ waits_now AnyTask = false
 waits_now (OneOf names tasks) = false
 
 -- who is there with the name, or would come by a line of it
-abbrev pub named_in : TraceState → List ℕ → Participant
-named_in s t = unwrap_or (find (is_there_as t) s.list) (new_participant s.named t)
+abbrev pub participant_in : TraceState → List ℕ → Participant
+participant_in s t = unwrap_or (find (is_there_as t) s.list) (new_participant s.named t)
 
 abbrev pub is_task_in : TraceState → List ℕ → Bool
 is_task_in s t = list_any (λ u. is_live_task u.condition && bytes_eq t u.name) s.list
@@ -75,11 +75,11 @@ memberships_in s = sum_by (λ u. length u.phases + length (tasks_had u.condition
 
 -- the rows on what is said of one of the list, or of one who comes
 abbrev pub said_faults : List ℕ → Participant → Announcement → List LineFault
-said_faults t u (Joins p n) = fault_where (is_some (phase_at u p)) (IsMemberAlready t p)
+said_faults t u (Joins p n) = fault_where (is_some (phase_on u p)) (IsMemberAlready t p)
 said_faults t u (Arrives p) =
-    fault_where (not (is_some (phase_at u p))) (IsNoMember t p)
-    ++ fault_where (nat_le last_phase (unwrap_or (phase_at u p) 0)) (IsAtLastPhase t p)
-said_faults t u (Leaves p) = fault_where (not (is_some (phase_at u p))) (IsNoMember t p)
+    fault_where (not (is_some (phase_on u p))) (IsNoMember t p)
+    ++ fault_where (nat_le last_phase (unwrap_or (phase_on u p) 0)) (IsAtLastPhase t p)
+said_faults t u (Leaves p) = fault_where (not (is_some (phase_on u p))) (IsNoMember t p)
 said_faults t u Goes = fault_where (not (waits_now u.condition)) (DoesNotWait t)
 said_faults t u (Waits p n) = []
 said_faults t u Ends = []
@@ -115,8 +115,8 @@ faults_of s AsksList = []
 faults_of s (AreGone beginning) = []
 faults_of s (Announces t what place) =
     fault_where (is_wildcard_in s t && (is_of_tasks what || is_some place)) (NamesWildcard t)
-    ++ fault_where (waits_now (named_in s t).condition && not (is_go what)) (StillWaits t)
-    ++ said_faults t (named_in s t) what
+    ++ fault_where (waits_now (participant_in s t).condition && not (is_go what)) (StillWaits t)
+    ++ said_faults t (participant_in s t) what
     ++ fault_where (has_no_room s t) TooManyListed
     ++ fault_where (is_join what && nat_le most_memberships (memberships_in s)) TooManyMemberships
 faults_of s (PlaysAny w) =

@@ -6,7 +6,7 @@ use Rattle.monitor_laws.specs.Stuck.{IsStuck}
 use Rattle.monitor_laws.specs.Faults.{faults_of}
 
 -- the line is a wait, by which its task would be stuck
-pub record IsRefused (s : TraceState) (l : TraceLine) : Type 0 where
+pub record IsRefusedWait (s : TraceState) (l : TraceLine) : Type 0 where
   pub task : Participant
   pub p : List ℕ
   pub n : ℕ
@@ -15,14 +15,14 @@ pub record IsRefused (s : TraceState) (l : TraceLine) : Type 0 where
   pub stuck : IsStuck (after_line s l) task
 
 -- of the line stands d: of a refused wait that its task is there at its place, and each other line as it is
-abbrev pub StandsAs : TraceState → TraceLine → TraceLine → Type 0
-StandsAs s l d =
-    ((refused : IsRefused s l) × (d ≡ Announces refused.task.name Stands refused.place))
-    ⊎ ((IsRefused s l → ⊥) × (d ≡ l))
+abbrev pub IsTakenAs : TraceState → TraceLine → TraceLine → Type 0
+IsTakenAs s l d =
+    ((refused : IsRefusedWait s l) × (d ≡ Announces refused.task.name Stands refused.place))
+    ⊎ ((IsRefusedWait s l → ⊥) × (d ≡ l))
 
 -- of the lines of a guarded trace, each legal when it comes, stands h
 abbrev pub IsGuarded : List TraceLine → List TraceLine → Type 0
 IsGuarded [] [] = Unit {0}
 IsGuarded [] (d ∷ h) = ⊥
 IsGuarded (l ∷ all) [] = ⊥
-IsGuarded (l ∷ all) (d ∷ h) = IsGuarded all h × (faults_of (after_lines h) l ≡ []) × StandsAs (after_lines h) l d
+IsGuarded (l ∷ all) (d ∷ h) = IsGuarded all h × (faults_of (after_lines h) l ≡ []) × IsTakenAs (after_lines h) l d

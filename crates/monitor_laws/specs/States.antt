@@ -87,8 +87,8 @@ abbrev pub changed_at : List ℕ → (Participant → Participant) → TraceStat
 changed_at t change s = changed_by (λ u. if is_there_as t u then change u else u) (with_named s t)
 
 -- the numbers of the tasks that are there with these names
-abbrev pub numbers_of : TraceState → List (List ℕ) → List ℕ
-numbers_of s names = map (λ u. u.number) (filter (λ u. is_live_task u.condition && list_any (λ t. bytes_eq t u.name) names) s.list)
+abbrev pub task_numbers : TraceState → List (List ℕ) → List ℕ
+task_numbers s names = map (λ u. u.number) (filter (λ u. is_live_task u.condition && list_any (λ t. bytes_eq t u.name) names) s.list)
 
 -- whose name begins so has ended. A wildcard stays, as an ended task would
 abbrev pub gone_by : List ℕ → Participant → Participant
@@ -102,7 +102,7 @@ after_line s AsksList = s
 after_line s (AreGone beginning) = changed_by (gone_by beginning) s
 after_line s (Announces t what place) = changed_at t (λ u. placed_at place (announced_by what u)) s
 after_line s (PlaysAny w) = changed_at w (λ u. record u { condition = AnyTask }) s
-after_line s (PlaysOneOf w names) = changed_at w (λ u. record u { condition = OneOf names (numbers_of s names) }) s
+after_line s (PlaysOneOf w names) = changed_at w (λ u. record u { condition = OneOf names (task_numbers s names) }) s
 
 -- the state after these lines, the last one first
 abbrev pub after_lines : List TraceLine → TraceState

@@ -3,8 +3,8 @@ use Rattle.std.specs.Prelude.{◌≡◌, ℕ, ◌≤◌, Bool, true, false, not,
 use Rattle.std.specs.List.{list_any}
 use Rattle.monitor_laws.specs.Lines.{Announcement, Joins, Arrives, Leaves, Waits, Goes, Ends, Stands, TraceLine, SaysNothing, AsksReport, AsksList, AreGone, Announces, PlaysAny, PlaysOneOf}
 use Rattle.monitor_laws.specs.States.{Condition, Running, Waiting, Ended, AnyTask, OneOf, Participant, TraceState, after_line, after_lines, is_live_task, is_live_wildcard, is_there_as}
-use Rattle.monitor_laws.specs.Faults.{faults_of, phase_at}
-use Rattle.monitor_laws.specs.Stuck.{IsKeptWaiting, WaitsFor, has_phase_below}
+use Rattle.monitor_laws.specs.Faults.{faults_of, phase_on}
+use Rattle.monitor_laws.specs.Stuck.{IsKeptWaiting, WaitsForPhase, has_phase_below}
 
 -- no line is at fault
 abbrev pub IsLegalTrace : List TraceLine → Type 0
@@ -18,7 +18,7 @@ NobodyIsBelow s p n = (u : Participant) → Contains s.list u → has_phase_belo
 -- the line is a go that ends a wait for p@n
 abbrev pub EndsWait : TraceState → TraceLine → List ℕ → ℕ → Type 0
 EndsWait s l p n =
-    (t : Participant) × (place : Option (List ℕ)) × (l ≡ Announces t.name Goes place) × Contains s.list t × WaitsFor t p n
+    (t : Participant) × (place : Option (List ℕ)) × (l ≡ Announces t.name Goes place) × Contains s.list t × WaitsForPhase t p n
 
 -- some go has ended a wait for p@n
 abbrev pub WasPassed : List TraceLine → List ℕ → ℕ → Type 0
@@ -35,7 +35,7 @@ abbrev pub SomebodyRuns : TraceState → Type 0
 SomebodyRuns s = (u : Participant) × Contains s.list u × (u.condition ≡ Running)
 
 abbrev pub NobodyWaits : TraceState → Type 0
-NobodyWaits s = (u : Participant) → Contains s.list u → (p : List ℕ) (n : ℕ) → WaitsFor u p n → ⊥
+NobodyWaits s = (u : Participant) → Contains s.list u → (p : List ℕ) (n : ℕ) → WaitsForPhase u p n → ⊥
 
 -- the task may play a wildcard in this condition
 abbrev pub MayPlay : Participant → Condition → Type 0
@@ -46,20 +46,20 @@ MayPlay u AnyTask = Unit {0}
 MayPlay u (OneOf names tasks) = Contains tasks u.number
 
 -- the line is an arrive, leave or end of this name, or says who may play it
-abbrev pub IsDone : List ℕ → TraceLine → Type 0
-IsDone w SaysNothing = ⊥
-IsDone w AsksReport = ⊥
-IsDone w AsksList = ⊥
-IsDone w (AreGone beginning) = ⊥
-IsDone w (Announces t (Arrives p) place) = t ≡ w
-IsDone w (Announces t (Leaves p) place) = t ≡ w
-IsDone w (Announces t Ends place) = t ≡ w
-IsDone w (Announces t (Joins p n) place) = ⊥
-IsDone w (Announces t (Waits p n) place) = ⊥
-IsDone w (Announces t Goes place) = ⊥
-IsDone w (Announces t Stands place) = ⊥
-IsDone w (PlaysAny t) = t ≡ w
-IsDone w (PlaysOneOf t names) = t ≡ w
+abbrev pub IsActOf : List ℕ → TraceLine → Type 0
+IsActOf w SaysNothing = ⊥
+IsActOf w AsksReport = ⊥
+IsActOf w AsksList = ⊥
+IsActOf w (AreGone beginning) = ⊥
+IsActOf w (Announces t (Arrives p) place) = t ≡ w
+IsActOf w (Announces t (Leaves p) place) = t ≡ w
+IsActOf w (Announces t Ends place) = t ≡ w
+IsActOf w (Announces t (Joins p n) place) = ⊥
+IsActOf w (Announces t (Waits p n) place) = ⊥
+IsActOf w (Announces t Goes place) = ⊥
+IsActOf w (Announces t Stands place) = ⊥
+IsActOf w (PlaysAny t) = t ≡ w
+IsActOf w (PlaysOneOf t names) = t ≡ w
 
 -- a new task comes by this line
 abbrev pub BringsTask : TraceState → TraceLine → Type 0
@@ -71,7 +71,7 @@ BringsTask s l =
 pub record IsHonestLine (s : TraceState) (l : TraceLine) : Type 0 where
   pub goes : (p : List ℕ) (n : ℕ) → EndsWait s l p n → NobodyIsBelow s p n
   pub plays :
-      (w : Participant) → Contains s.list w → is_live_wildcard w.condition ≡ true → IsDone w.name l →
+      (w : Participant) → Contains s.list w → is_live_wildcard w.condition ≡ true → IsActOf w.name l →
       (u : Participant) × Contains s.list u × (u.condition ≡ Running) × MayPlay u w.condition
   pub comes : BringsTask s l → SomebodyRuns s ⊎ NobodyWaits s
 
@@ -109,8 +109,8 @@ abbrev pub IsMixedFrom : List TraceLine → List TraceLine → Type 0
 IsMixedFrom c h = (t : List ℕ) → (later : List TraceLine) × (filter (is_line_of t) h ≡ later ++ filter (is_line_of t) c)
 
 -- both have the same lines of each name
-abbrev pub HaveSameLines : List TraceLine → List TraceLine → Type 0
-HaveSameLines c h = (t : List ℕ) → filter (is_line_of t) c ≡ filter (is_line_of t) h
+abbrev pub HaveSameLinesOfNames : List TraceLine → List TraceLine → Type 0
+HaveSameLinesOfNames c h = (t : List ℕ) → filter (is_line_of t) c ≡ filter (is_line_of t) h
 
 -- the line has the phaser
 abbrev pub IsOfPhaser : List ℕ → TraceLine → Type 0
@@ -144,4 +144,4 @@ HasOrderedJoins (l ∷ h) =
     HasOrderedJoins h
     × ((p : List ℕ) (n : ℕ) → JoinsAt l p n →
     ((d : TraceLine) → Contains h d → IsOfPhaser p d → ⊥)
-    ⊎ ((u : Participant) × (m : ℕ) × Contains (after_lines h).list u × (phase_at u p ≡ Some m) × (m ≤ n)))
+    ⊎ ((u : Participant) × (m : ℕ) × Contains (after_lines h).list u × (phase_on u p ≡ Some m) × (m ≤ n)))

@@ -3,9 +3,6 @@
 //! The tests of the monitor stand in the gallery.
 #![tactic(auto)]
 
-ghost use Rattle.monitor_laws.specs.Laws.{StuckStays};
+mod laws;
 
-/// Whoever is stuck after the first lines of an honest trace, and is not gone, is stuck after all of them.
-pub fn stuck_stays()
-    ensures { StuckStays }
-{}
+pub use laws::{no_wait_makes_stuck, stuck_stays};

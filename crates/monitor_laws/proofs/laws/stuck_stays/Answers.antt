@@ -1,4 +1,4 @@
-use Rattle.monitor_laws.proofs.stuck_stays.Goals as goal
+use Rattle.monitor_laws.proofs.laws.stuck_stays.Goals as goal
 use Rattle.monitor_laws.proofs.StuckStays.{stuck_stays}
 
 pub returns : goal.returns

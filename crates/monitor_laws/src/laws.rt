@@ -1,0 +1,13 @@
+// The laws of the monitor.
+ghost use Rattle.monitor_laws.specs.Laws.{GuardedIsLegal, NoWaitMakesStuck, StuckStays};
+
+/// In every honest continuation of an honest trace whoever is stuck and is not gone stays so.
+pub fn stuck_stays()
+    ensures { StuckStays }
+{}
+
+/// With the guard what stands is a legal trace, and no wait of it makes anybody stuck.
+pub fn no_wait_makes_stuck()
+    ensures legal { GuardedIsLegal }
+    ensures nobody { NoWaitMakesStuck }
+{}
