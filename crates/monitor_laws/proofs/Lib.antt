@@ -4,3 +4,5 @@ pub mod Lawful
 pub mod Rows
 pub mod StuckStays
 pub mod Guarding
+pub mod Phases
+pub mod Lasting

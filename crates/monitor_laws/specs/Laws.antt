@@ -4,7 +4,7 @@ use Rattle.std.specs.List.{starts_with}
 use Rattle.monitor_laws.specs.Lines.{TraceLine, AreGone, Announces, Waits}
 use Rattle.monitor_laws.specs.States.{Participant, after_lines}
 use Rattle.monitor_laws.specs.Stuck.{IsStuck}
-use Rattle.monitor_laws.specs.Traces.{IsHonest, IsLegalTrace}
+use Rattle.monitor_laws.specs.Traces.{HasOrderedJoins, HasTrueGoes, IsHonest, IsLasting, IsLegalTrace}
 use Rattle.monitor_laws.specs.Guards.{IsGuarded}
 
 -- no line says that the name is gone
@@ -27,3 +27,8 @@ abbrev pub NoWaitMakesStuck : Type 0
 NoWaitMakesStuck =
     (all h : List TraceLine) (t : List ℕ) (p : List ℕ) (n : ℕ) (place : Option (List ℕ)) (u : Participant) →
     IsGuarded all (Announces t (Waits p n) place ∷ h) → IsStuck (after_lines (Announces t (Waits p n) place ∷ h)) u → IsStuck (after_lines h) u
+
+-- a trace is lasting where each go comes only where nobody keeps its task waiting, and each join of p is the first line with p or comes while some member of p has
+-- its phase at most
+abbrev pub TrueAndOrderedLasts : Type 0
+TrueAndOrderedLasts = (h : List TraceLine) → HasTrueGoes h → HasOrderedJoins h → IsLasting h

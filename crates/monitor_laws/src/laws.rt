@@ -1,5 +1,5 @@
 // The laws of the monitor.
-ghost use Rattle.monitor_laws.specs.Laws.{GuardedIsLegal, NoWaitMakesStuck, StuckStays};
+ghost use Rattle.monitor_laws.specs.Laws.{GuardedIsLegal, NoWaitMakesStuck, StuckStays, TrueAndOrderedLasts};
 
 /// In every honest continuation of an honest trace whoever is stuck and is not gone stays so.
 pub fn stuck_stays()
@@ -10,4 +10,9 @@ pub fn stuck_stays()
 pub fn no_wait_makes_stuck()
     ensures legal { GuardedIsLegal }
     ensures nobody { NoWaitMakesStuck }
+{}
+
+/// True goes and ordered joins make a trace lasting.
+pub fn true_and_ordered_lasts()
+    ensures { TrueAndOrderedLasts }
 {}

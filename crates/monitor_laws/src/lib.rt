@@ -5,4 +5,4 @@
 
 mod laws;
 
-pub use laws::{no_wait_makes_stuck, stuck_stays};
+pub use laws::{no_wait_makes_stuck, stuck_stays, true_and_ordered_lasts};
