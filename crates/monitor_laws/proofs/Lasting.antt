@@ -163,7 +163,7 @@ passed_said [] p n passed = absurd passed
 passed_said (l ∷ h) p n (inl before) = said_in l h p (passed_said h p n before)
 passed_said (l ∷ h) p n (inr now) = said_in l h p (wait_said h now.0 p n now.3 now.4)
 
-lasting_now : (h : List TraceLine) → IsLasting h → (p : List ℕ) (n : ℕ) → WasPassed h p n → NobodyIsBelow (after_lines h) p n
+pub lasting_now : (h : List TraceLine) → IsLasting h → (p : List ℕ) (n : ℕ) → WasPassed h p n → NobodyIsBelow (after_lines h) p n
 lasting_now [] lasting p n passed = absurd passed
 lasting_now (l ∷ h) lasting p n passed = lasting.1 p n passed
 

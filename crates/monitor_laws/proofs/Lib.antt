@@ -6,3 +6,5 @@ pub mod StuckStays
 pub mod Guarding
 pub mod Phases
 pub mod Lasting
+pub mod OwnLines
+pub mod Mixed

@@ -1,10 +1,10 @@
 -- The laws of the monitor.
-use Rattle.std.specs.Prelude.{◌≡◌, ℕ, eqb, false, Option, List, [], ◌∷◌, ◌++◌}
+use Rattle.std.specs.Prelude.{◌≡◌, ℕ, eqb, false, Option, List, [], ◌∷◌, ◌++◌, map, filter, bytes_eq}
 use Rattle.std.specs.List.{starts_with}
 use Rattle.monitor_laws.specs.Lines.{TraceLine, AreGone, Announces, Waits}
-use Rattle.monitor_laws.specs.States.{Participant, after_lines}
+use Rattle.monitor_laws.specs.States.{Participant, TraceState, after_lines}
 use Rattle.monitor_laws.specs.Stuck.{IsStuck}
-use Rattle.monitor_laws.specs.Traces.{HasOrderedJoins, HasTrueGoes, IsHonest, IsLasting, IsLegalTrace}
+use Rattle.monitor_laws.specs.Traces.{HasNoWildcard, HasOrderedJoins, HasTrueGoes, HaveSameLinesOfNames, IsHonest, IsLasting, IsLegalTrace, IsMixedFrom, is_line_of}
 use Rattle.monitor_laws.specs.Guards.{IsGuarded}
 
 -- no line says that the name is gone
@@ -32,3 +32,33 @@ NoWaitMakesStuck =
 -- its phase at most
 abbrev pub TrueAndOrderedLasts : Type 0
 TrueAndOrderedLasts = (h : List TraceLine) → HasTrueGoes h → HasOrderedJoins h → IsLasting h
+
+-- all that are listed with a name, apart from their numbers
+abbrev pub unnumbered : Participant → Participant
+unnumbered u = record u { number = 0 }
+
+abbrev pub own_list : TraceState → List ℕ → List Participant
+own_list s t = map unnumbered (filter (λ u. bytes_eq t u.name) s.list)
+
+-- two traces without wildcards that have the same lines of each name have the same states of all names
+abbrev pub SameLinesSameStates : Type 0
+SameLinesSameStates =
+    (h g : List TraceLine) → HasNoWildcard h → HasNoWildcard g → HaveSameLinesOfNames h g → (t : List ℕ) → own_list (after_lines h) t ≡ own_list (after_lines g) t
+
+-- whoever is stuck in a mix of first lines of a lasting trace without wildcards is stuck in that trace, at the same wait, and has no more lines in it
+abbrev pub WhoIsToldIsStuck : Type 0
+WhoIsToldIsStuck =
+    (h c : List TraceLine) (t : Participant) → IsLegalTrace h → HasNoWildcard h → HasNoWildcard c → IsLasting h → IsMixedFrom c h → IsStuck (after_lines c) t →
+    ((u : Participant) × IsStuck (after_lines h) u × (unnumbered u ≡ unnumbered t)) × (filter (is_line_of t.name) h ≡ filter (is_line_of t.name) c)
+
+-- whoever is stuck at some moment of such a mix is so from then on
+abbrev pub NothingIsTakenBack : Type 0
+NothingIsTakenBack =
+    (h g more : List TraceLine) (t : Participant) → IsLegalTrace h → HasNoWildcard h → HasNoWildcard (more ++ g) → IsLasting h → IsMixedFrom (more ++ g) h →
+    IsStuck (after_lines g) t → (u : Participant) × IsStuck (after_lines (more ++ g)) u × (unnumbered u ≡ unnumbered t)
+
+-- once all lines have come, in whatever order, all that are stuck are so in the mix
+abbrev pub AllAreTold : Type 0
+AllAreTold =
+    (h c : List TraceLine) (t : Participant) → HasNoWildcard h → HasNoWildcard c → HaveSameLinesOfNames h c → IsStuck (after_lines h) t →
+    (u : Participant) × IsStuck (after_lines c) u × (unnumbered u ≡ unnumbered t)

@@ -1,5 +1,5 @@
 // The laws of the monitor.
-ghost use Rattle.monitor_laws.specs.Laws.{GuardedIsLegal, NoWaitMakesStuck, StuckStays, TrueAndOrderedLasts};
+ghost use Rattle.monitor_laws.specs.Laws.{GuardedIsLegal, NoWaitMakesStuck, SameLinesSameStates, StuckStays, TrueAndOrderedLasts};
 
 /// In every honest continuation of an honest trace whoever is stuck and is not gone stays so.
 pub fn stuck_stays()
@@ -15,4 +15,9 @@ pub fn no_wait_makes_stuck()
 /// True goes and ordered joins make a trace lasting.
 pub fn true_and_ordered_lasts()
     ensures { TrueAndOrderedLasts }
+{}
+
+/// Two traces without wildcards that have the same lines of each name lead to the same states of all names.
+pub fn same_lines_same_states()
+    ensures { SameLinesSameStates }
 {}

@@ -5,4 +5,4 @@
 
 mod laws;
 
-pub use laws::{no_wait_makes_stuck, stuck_stays, true_and_ordered_lasts};
+pub use laws::{no_wait_makes_stuck, same_lines_same_states, stuck_stays, true_and_ordered_lasts};
