@@ -8,3 +8,4 @@ pub mod Phases
 pub mod Lasting
 pub mod OwnLines
 pub mod Mixed
+pub mod Told

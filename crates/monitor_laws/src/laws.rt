@@ -1,5 +1,5 @@
 // The laws of the monitor.
-ghost use Rattle.monitor_laws.specs.Laws.{GuardedIsLegal, NoWaitMakesStuck, SameLinesSameStates, StuckStays, TrueAndOrderedLasts};
+ghost use Rattle.monitor_laws.specs.Laws.{AllAreTold, GuardedIsLegal, NothingIsTakenBack, NoWaitMakesStuck, SameLinesSameStates, StuckStays, TrueAndOrderedLasts, WhoIsToldIsStuck};
 
 /// In every honest continuation of an honest trace whoever is stuck and is not gone stays so.
 pub fn stuck_stays()
@@ -20,4 +20,15 @@ pub fn true_and_ordered_lasts()
 /// Two traces without wildcards that have the same lines of each name lead to the same states of all names.
 pub fn same_lines_same_states()
     ensures { SameLinesSameStates }
+{}
+
+/// Whoever is stuck in a mix of first lines of a lasting trace without wildcards is stuck in that trace.
+pub fn who_is_told_is_stuck()
+    ensures { WhoIsToldIsStuck }
+{}
+
+/// All that are stuck in a lasting trace without wildcards are so once all its lines have come, in whatever order, and from the line on that makes them stuck.
+pub fn all_are_told()
+    ensures all { AllAreTold }
+    ensures back { NothingIsTakenBack }
 {}

@@ -5,4 +5,7 @@
 
 mod laws;
 
-pub use laws::{no_wait_makes_stuck, same_lines_same_states, stuck_stays, true_and_ordered_lasts};
+pub use laws::{
+    all_are_told, no_wait_makes_stuck, same_lines_same_states, stuck_stays, true_and_ordered_lasts,
+    who_is_told_is_stuck,
+};
