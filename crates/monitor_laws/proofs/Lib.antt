@@ -9,3 +9,4 @@ pub mod Lasting
 pub mod OwnLines
 pub mod Mixed
 pub mod Told
+pub mod Deadlocked

@@ -5,3 +5,4 @@ pub mod Stuck
 pub mod Traces
 pub mod Guards
 pub mod Laws
+pub mod DeadlockLaws

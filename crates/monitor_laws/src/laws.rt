@@ -1,4 +1,5 @@
 // The laws of the monitor.
+ghost use Rattle.monitor_laws.specs.DeadlockLaws.{StuckIsDeadlocked, UnionsAreClosed};
 ghost use Rattle.monitor_laws.specs.Laws.{AllAreTold, GuardedIsLegal, NothingIsTakenBack, NoWaitMakesStuck, SameLinesSameStates, StuckStays, TrueAndOrderedLasts, WhoIsToldIsStuck};
 
 /// In every honest continuation of an honest trace whoever is stuck and is not gone stays so.
@@ -31,4 +32,10 @@ pub fn who_is_told_is_stuck()
 pub fn all_are_told()
     ensures all { AllAreTold }
     ensures back { NothingIsTakenBack }
+{}
+
+/// Where nobody has ended and there is no wildcard, stuck is deadlocked as in PL; and the union of closed sets is closed.
+pub fn stuck_is_deadlocked()
+    ensures same { StuckIsDeadlocked }
+    ensures unions { UnionsAreClosed }
 {}

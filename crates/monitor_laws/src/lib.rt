@@ -6,6 +6,6 @@
 mod laws;
 
 pub use laws::{
-    all_are_told, no_wait_makes_stuck, same_lines_same_states, stuck_stays, true_and_ordered_lasts,
+    all_are_told, no_wait_makes_stuck, same_lines_same_states, stuck_is_deadlocked, stuck_stays, true_and_ordered_lasts,
     who_is_told_is_stuck,
 };
