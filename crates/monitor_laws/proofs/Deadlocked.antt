@@ -64,9 +64,12 @@ stuck_is_deadlocked h number t one live within = (dead, stuck)
         let w = held.waits in
         let same : w.0 ≡ u = (lawful_lines h).one_number w.0 u w.1 in_u w.2 in
         let i = held.impedes in
-        let p : i.3 ≡ w.3 = one i.3 w.3 (i.4 ∙ sym w.6) in
-        (w.3, w.4, ap (λ (x : Participant). x.condition) (sym same) ∙ w.5,
-        (i.0, i.1, below_from (phase_on i.0 w.3) held.phase w.4 (ap (phase_on i.0) (sym p) ∙ i.5) (let b = held.below in let e = w.7 in omega arith), ap set i.2 ∙ held.inside))
+        let p : i.3 ≡ w.3 = one i.3 w.3 (i.4 ∙ sym w.6) in (
+          w.3,
+          w.4,
+          ap (λ (x : Participant). x.condition) (sym same) ∙ w.5,
+          (i.0, i.1, below_from (phase_on i.0 w.3) held.phase w.4 (ap (phase_on i.0) (sym p) ∙ i.5) (let b = held.below in let e = w.7 in omega arith), ap set i.2 ∙ held.inside),
+        )
 
     stuck : IsDead (AwaitsByNumber s number) (HasPhaseByNumber s number) t.number → IsStuck s t
     stuck is =

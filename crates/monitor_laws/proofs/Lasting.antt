@@ -50,9 +50,9 @@ comes_at s t change l comes v p k within at =
     let now : phase_on (changed_there t change m.0) p ≡ Some k = ap (λ x. phase_on x p) m.2 ∙ at in
     elim (there_or_not m.0 now) [
       | inl had ↦ elim (from_named s t m.0 m.1) [
-          | inl old ↦ inl (m.0, had.0, old, had.1, had.2)
-          | inr new ↦ absurd (let e = ap (λ x. phase_on x p) (sym new.1) ∙ had.1 in cc)
-        ]
+        | inl old ↦ inl (m.0, had.0, old, had.1, had.2)
+        | inr new ↦ absurd (let e = ap (λ x. phase_on x p) (sym new.1) ∙ had.1 in cc)
+      ]
       | inr joins ↦ inr joins
     ]
   where
@@ -121,9 +121,9 @@ waited_at s t change l p n own v within waits =
     let m = from_change (changed_there t change) (with_named s t) v within in
     elim (there_or_not m.0 (ap (λ (x : Participant). x.condition) m.2 ∙ waits)) [
       | inl did ↦ elim (from_named s t m.0 m.1) [
-          | inl old ↦ inl (m.0, old, did)
-          | inr new ↦ absurd (let e = ap (λ (x : Participant). x.condition) (sym new.1) ∙ did in cc)
-        ]
+        | inl old ↦ inl (m.0, old, did)
+        | inr new ↦ absurd (let e = ap (λ (x : Participant). x.condition) (sym new.1) ∙ did in cc)
+      ]
       | inr of ↦ inr of
     ]
   where

@@ -10,3 +10,4 @@ pub mod OwnLines
 pub mod Mixed
 pub mod Told
 pub mod Deadlocked
+pub mod Worked

@@ -418,14 +418,20 @@ module _
     keeps_there : (x : List ℕ) (held : IsHeldBy x) → IsKeptIn (after_lines g) there_set (Waiting held.p held.n)
     keeps_there x held = elim held.kind [
       | inl over ↦
-          (let w = ended held.by held.by_within over in
-          (w.0, w.1, same_below w.0 held.by held.p held.n w.2 held.below,
-          in_there w.0 w.1 (or_left (has_ended w.0.condition) (has_waiting w.0.name && waits_now w.0.condition) (ap has_ended (same_condition w.0 held.by w.2 ∙ over)))))
+          (let w = ended held.by held.by_within over in (
+            w.0,
+            w.1,
+            same_below w.0 held.by held.p held.n w.2 held.below,
+            in_there w.0 w.1 (or_left (has_ended w.0.condition) (has_waiting w.0.name && waits_now w.0.condition) (ap has_ended (same_condition w.0 held.by w.2 ∙ over))),
+          ))
       | inr waits ↦
-          (let w = in_both (after_lines c) (after_lines g) held.by.name (same held.by.name waits.0) held.by held.by_within ((bytes_eq-Decides held.by.name held.by.name).1 refl) in
-          (w.0, w.1, same_below w.0 held.by held.p held.n w.2 held.below,
-          in_there w.0 w.1 (or_right (has_ended w.0.condition) (has_waiting w.0.name && waits_now w.0.condition)
-          (and_from (has_waiting w.0.name) (waits_now w.0.condition) (ap has_waiting (same_name w.0 held.by w.2) ∙ waits.0) (ap waits_now (same_condition w.0 held.by w.2) ∙ waits.2)))))
+          (let w = in_both (after_lines c) (after_lines g) held.by.name (same held.by.name waits.0) held.by held.by_within ((bytes_eq-Decides held.by.name held.by.name).1 refl) in (
+            w.0,
+            w.1,
+            same_below w.0 held.by held.p held.n w.2 held.below,
+            in_there w.0 w.1 (or_right (has_ended w.0.condition) (has_waiting w.0.name && waits_now w.0.condition)
+                (and_from (has_waiting w.0.name) (waits_now w.0.condition) (ap has_waiting (same_name w.0 held.by w.2) ∙ waits.0) (ap waits_now (same_condition w.0 held.by w.2) ∙ waits.2))),
+          ))
     ]
 
     closed_there : IsClosedSet (after_lines g) there_set
@@ -441,7 +447,7 @@ module _
               let held = each w.0.name both.0 in
               let task : held.task ≡ u.0 = the_one w.0.name both.0 u.0 u.1 ((bytes_eq-Decides w.0.name u.0.name).1 (sym (same_name u.0 w.0 u.2))) (ap waits_now (same_condition u.0 w.0 u.2) ∙ both.1) in
               let condition : v.condition ≡ Waiting held.p held.n =
-                  ap (λ (x : Participant). x.condition) (sym one) ∙ sym (same_condition u.0 w.0 u.2) ∙ ap (λ (x : Participant). x.condition) (sym task) ∙ held.waits in
+              ap (λ (x : Participant). x.condition) (sym one) ∙ sym (same_condition u.0 w.0 u.2) ∙ ap (λ (x : Participant). x.condition) (sym task) ∙ held.waits in
               subst (λ k. IsKeptIn (after_lines g) there_set k) (sym condition) (keeps_there w.0.name held))
         ]
 
@@ -449,12 +455,15 @@ module _
     stuck_there t within p n waits inside =
         let has = has_waiting_from t within p n waits inside in
         let u = in_both (after_lines c) (after_lines g) t.name (same t.name has.0) t within ((bytes_eq-Decides t.name t.name).1 refl) in
-        let condition : u.0.condition ≡ Waiting p n = same_condition u.0 t u.2 ∙ waits in
-        (u.0, record {
-          listed = u.1;
-          waits = (p, n, condition);
-          set = there_set;
-          closed = closed_there;
-          inside = in_there u.0 u.1 (or_right (has_ended u.0.condition) (has_waiting u.0.name && waits_now u.0.condition)
-              (and_from (has_waiting u.0.name) (waits_now u.0.condition) (ap has_waiting (same_name u.0 t u.2) ∙ has.0) (ap waits_now condition)));
-        }, u.2)
+        let condition : u.0.condition ≡ Waiting p n = same_condition u.0 t u.2 ∙ waits in (
+          u.0,
+          record {
+            listed = u.1;
+            waits = (p, n, condition);
+            set = there_set;
+            closed = closed_there;
+            inside = in_there u.0 u.1 (or_right (has_ended u.0.condition) (has_waiting u.0.name && waits_now u.0.condition)
+                (and_from (has_waiting u.0.name) (waits_now u.0.condition) (ap has_waiting (same_name u.0 t u.2) ∙ has.0) (ap waits_now condition)));
+          },
+          u.2,
+        )

@@ -128,8 +128,8 @@ own_at s t change name apart =
     ∙ ap (filter stays_listed) (filter_after_map (changed_there t change) (is_of t) (is_of t) of_same (with_named s t).list))
     ∙ sym (filter_after_map unnumbered stays_listed stays_listed (λ x. refl) (map (changed_there t change) (filter (is_of t) (with_named s t).list)))
     ∙ ap (filter stays_listed)
-        (maps_commute (changed_there t change) unnumbered unnumbered (changed_there t change) change_apart (filter (is_of t) (with_named s t).list)
-        ∙ ap (map (changed_there t change)) (own_with_named s t))
+    (maps_commute (changed_there t change) unnumbered unnumbered (changed_there t change) change_apart (filter (is_of t) (with_named s t).list)
+    ∙ ap (map (changed_there t change)) (own_with_named s t))
   where
     of_same : (u : Participant) → is_of t (changed_there t change u) ≡ is_of t u
     of_same u = elim (cases_Bool (is_there_as t u)) [
@@ -151,9 +151,9 @@ other_at s lawful t x change name other =
     ap (map unnumbered)
     (filters_commute (is_of x) stays_listed (map (changed_there t change) (with_named s t).list)
     ∙ ap (filter stays_listed)
-        (filter_after_map (changed_there t change) (is_of x) (is_of x) of_same (with_named s t).list
-        ∙ map_leaves (changed_there t change) (is_of x) leaves (with_named s t).list
-        ∙ named_other)
+    (filter_after_map (changed_there t change) (is_of x) (is_of x) of_same (with_named s t).list
+    ∙ map_leaves (changed_there t change) (is_of x) leaves (with_named s t).list
+    ∙ named_other)
     ∙ all_pass stays_listed (filter (is_of x) s.list) (λ u within. lawful.stays u (from_filter (is_of x) s.list u within).0))
   where
     not_there : (u : Participant) → is_of x u ≡ true → is_there_as t u ≡ false

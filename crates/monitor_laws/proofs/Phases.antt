@@ -63,10 +63,12 @@ after_arrive (m ∷ l) p q k e = by_test (after_arrive l p q k) (cases_Bool (byt
     by_test :
         (lookup (bytes_eq p) (map (risen q) l) ≡ Some k → (j : ℕ) × (lookup (bytes_eq p) l ≡ Some j) × (j ≤ k)) →
         ((bytes_eq p m.0 ≡ true) ⊎ (bytes_eq p m.0 ≡ false)) → (j : ℕ) × (lookup (bytes_eq p) (m ∷ l) ≡ Some j) × (j ≤ k)
-    by_test rest (inl here) =
-        (m.1, found_here p m l here,
-        let f : Some (risen q m).1 ≡ Some k = sym (found_here p (risen q m) (map (risen q) l) (ap (bytes_eq p) name ∙ here)) ∙ e in
-        let g : (risen q m).1 ≡ k = cc in let r = (risen_is q m).1 in omega arith)
+    by_test rest (inl here) = (
+      m.1,
+      found_here p m l here,
+      let f : Some (risen q m).1 ≡ Some k = sym (found_here p (risen q m) (map (risen q) l) (ap (bytes_eq p) name ∙ here)) ∙ e in
+          let g : (risen q m).1 ≡ k = cc in let r = (risen_is q m).1 in omega arith,
+    )
     by_test rest (inr other) =
         let r = rest (sym (found_later p (risen q m) (map (risen q) l) (ap (bytes_eq p) name ∙ other)) ∙ e) in
         (r.0, found_later p m l other ∙ r.1, r.2)

@@ -14,11 +14,12 @@ use Rattle.monitor_laws.proofs.Mixed.{ended_in_whole, has_waiting, has_waiting_f
 pub who_is_told_is_stuck : WhoIsToldIsStuck
 who_is_told_is_stuck h c t legal h_none c_none lasting mixed stuck =
     let (p, n, waits) = stuck.waits in
-    let no_more = says_no_more c c_none stuck.set stuck.closed h h_none lasting mixed legal in
-    (stuck_there c c_none stuck.set stuck.closed h
-    (λ x inside. own_lines c c_none x ∙ ap (own_after x) (sym (no_more x inside)) ∙ sym (own_lines h h_none x))
-    (λ v within ended. ended_in_whole h c h_none c_none mixed v within ended) t stuck.listed p n waits stuck.inside,
-    no_more t.name (has_waiting_from c c_none stuck.set stuck.closed t stuck.listed p n waits stuck.inside).0)
+    let no_more = says_no_more c c_none stuck.set stuck.closed h h_none lasting mixed legal in (
+      stuck_there c c_none stuck.set stuck.closed h
+          (λ x inside. own_lines c c_none x ∙ ap (own_after x) (sym (no_more x inside)) ∙ sym (own_lines h h_none x))
+          (λ v within ended. ended_in_whole h c h_none c_none mixed v within ended) t stuck.listed p n waits stuck.inside,
+      no_more t.name (has_waiting_from c c_none stuck.set stuck.closed t stuck.listed p n waits stuck.inside).0,
+    )
 
 -- without wildcards before more lines
 none_before : (more g : List TraceLine) → HasNoWildcard (more ++ g) → HasNoWildcard g

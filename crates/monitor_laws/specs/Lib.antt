@@ -6,3 +6,4 @@ pub mod Traces
 pub mod Guards
 pub mod Laws
 pub mod DeadlockLaws
+pub mod Worked

@@ -1,6 +1,7 @@
 // The laws of the monitor.
 ghost use Rattle.monitor_laws.specs.DeadlockLaws.{StuckIsDeadlocked, UnionsAreClosed};
 ghost use Rattle.monitor_laws.specs.Laws.{AllAreTold, GuardedIsLegal, NothingIsTakenBack, NoWaitMakesStuck, SameLinesSameStates, StuckStays, TrueAndOrderedLasts, WhoIsToldIsStuck};
+ghost use Rattle.monitor_laws.specs.Worked.{HonestIsNeeded, LastingIsNeeded, OrderedJoinsAreNeeded, TrueGoesAreNeeded, WorkedEnds, WorkedFaults, WorkedGone, WorkedMembers, WorkedWildcards};
 
 /// In every honest continuation of an honest trace whoever is stuck and is not gone stays so.
 pub fn stuck_stays()
@@ -38,4 +39,25 @@ pub fn all_are_told()
 pub fn stuck_is_deadlocked()
     ensures same { StuckIsDeadlocked }
     ensures unions { UnionsAreClosed }
+{}
+
+/// What lines make of the list, by worked traces.
+pub fn worked_lists()
+    ensures members { WorkedMembers }
+    ensures ends { WorkedEnds }
+    ensures wildcards { WorkedWildcards }
+    ensures gone { WorkedGone }
+{}
+
+/// The first fault of a line, row by row.
+pub fn worked_line_faults()
+    ensures { WorkedFaults }
+{}
+
+/// Without each part of honest, of lasting, and of what makes a trace lasting, its law is false.
+pub fn premises_are_needed()
+    ensures honest { HonestIsNeeded }
+    ensures lasting { LastingIsNeeded }
+    ensures goes { TrueGoesAreNeeded }
+    ensures joins { OrderedJoinsAreNeeded }
 {}
