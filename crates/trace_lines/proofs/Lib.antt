@@ -1,2 +1,4 @@
 pub mod Numbers
 pub mod WordByWord
+pub mod Cuts
+pub mod Exact

@@ -11,7 +11,7 @@ use Rattle.std.proofs.lemmas.Bool.{and_from, and_parts, and_left, and_right, cas
 use Rattle.std.proofs.lemmas.Str.Parse.{IsNumeralModel, numerals_by_value, tells_digits, parse_digits, digits_value_short}
 use Rattle.trace_lines.specs.inside.Reading.{are_digits, is_number, may_be_number, number_at}
 
-own : IsNumeralModel (AllDigits 10) (digits_value 10)
+pub own : IsNumeralModel (AllDigits 10) (digits_value 10)
 own = numerals_by_value (AllDigits 10) tells_digits
 
 pub number_is : (w : List ℕ) → may_be_number w ≡ true → digits_value 10 w < 2 ^ 32 → number_at w ≡ Some (digits_value 10 w)
@@ -23,7 +23,7 @@ number_is_none w may = cond-false (is_number w) (Some (digits_value 10 w)) None 
 pub number_is_large : (w : List ℕ) → 2 ^ 32 ≤ digits_value 10 w → number_at w ≡ None
 number_is_large w large = cond-false (is_number w) (Some (digits_value 10 w)) None (and_right (may_be_number w) (nat_lt (digits_value 10 w) (2 ^ 32)) (le-ltb (digits_value 10 w) (2 ^ 32) large))
 
-all_digits : (w : List ℕ) → are_digits w ≡ true → AllDigits 10 w
+pub all_digits : (w : List ℕ) → are_digits w ≡ true → AllDigits 10 w
 all_digits [] are = tt
 all_digits (b ∷ w) are =
     let parts = and_parts (nat_le 48 b && nat_le b 57) (are_digits w) are in
@@ -33,10 +33,10 @@ all_digits (b ∷ w) are =
     digit : (b : ℕ) → 48 ≤ b → b ≤ 57 → digit_value b < 10
     digit b low high = grind (arith, nat_tests)
 
-digits_of : (w : List ℕ) → may_be_number w ≡ true → are_digits w ≡ true
+pub digits_of : (w : List ℕ) → may_be_number w ≡ true → are_digits w ≡ true
 digits_of w may = (and_parts (nat_le 1 (length w) && nat_le (length w) 10 && (length w == 1 || not (slice_index w 0 == 48))) (are_digits w) may).1
 
-some_of : (w : List ℕ) → may_be_number w ≡ true → 0 < length w
+pub some_of : (w : List ℕ) → may_be_number w ≡ true → 0 < length w
 some_of w may =
     let three = (and_parts (nat_le 1 (length w) && nat_le (length w) 10 && (length w == 1 || not (slice_index w 0 == 48))) (are_digits w) may).0 in
     let two = (and_parts (nat_le 1 (length w) && nat_le (length w) 10) (length w == 1 || not (slice_index w 0 == 48)) three).0 in

@@ -1,6 +1,6 @@
 -- How the lines of a trace are spelled.
-use Rattle.std.specs.Prelude.{◌≡◌, ◌≢◌, ℕ, ◌<◌, ◌≤◌, ◌==◌, Bool, true, not, ◌&&◌, if◌then◌else◌, Option, Some, None, List, [], ◌∷◌, ◌++◌, ◌⊎◌, length, map, flat_map, slice_index, codes, decimal, nat_le, bytes_eq, All, AllPairs}
-use Rattle.std.specs.List.{list_all}
+use Rattle.std.specs.Prelude.{◌≡◌, ◌≢◌, ℕ, ◌<◌, ◌≤◌, ◌==◌, Bool, true, false, not, ◌&&◌, if◌then◌else◌, Option, Some, None, List, [], ◌∷◌, ◌++◌, ◌⊎◌, length, map, flat_map, slice_index, codes, decimal, nat_le, bytes_eq}
+use Rattle.std.specs.List.{list_all, list_any}
 use Rattle.monitor_laws.specs.Lines.{Announcement, Joins, Arrives, Leaves, Waits, Goes, Ends, Stands, TraceLine, SaysNothing, AsksReport, AsksList, AreGone, Announces, PlaysAny, PlaysOneOf}
 use Rattle.monitor_laws.specs.Faults.{last_phase}
 
@@ -49,6 +49,11 @@ IsOneWord Goes = Unit {0}
 IsOneWord Ends = Unit {0}
 IsOneWord Stands = Unit {0}
 
+-- no two are the same
+abbrev pub HasNoTwice : List (List ℕ) → Type 0
+HasNoTwice [] = Unit {0}
+HasNoTwice (t ∷ names) = (list_any (bytes_eq t) names ≡ false) × HasNoTwice names
+
 -- a line in so many bytes. `gone` and one more word says that tasks are gone, and nothing else; `T at` has a place
 abbrev pub SpellsLine : List ℕ → TraceLine → Type 0
 SpellsLine bytes SaysNothing = (bytes ≡ []) ⊎ ((rest : List ℕ) × (bytes ≡ 35 ∷ rest))
@@ -60,7 +65,7 @@ SpellsLine bytes (Announces t what place) =
     × (t ≡ codes "gone" → IsOneWord what → ⊥) × (what ≡ Stands → place ≢ None)
 SpellsLine bytes (PlaysAny w) = (is_participant_name w ≡ true) × (w ≢ codes "gone") × (bytes ≡ w ++ codes " any")
 SpellsLine bytes (PlaysOneOf w names) =
-    (is_participant_name w ≡ true) × (names ≢ []) × All (λ t. is_participant_name t ≡ true) names × AllPairs (λ t u. t ≢ u) names
+    (is_participant_name w ≡ true) × (names ≢ []) × (list_all is_participant_name names ≡ true) × HasNoTwice names
     × (bytes ≡ w ++ codes " of" ++ flat_map (λ t. 32 ∷ t) names)
 
 -- a line that is not too long
