@@ -36,7 +36,7 @@ cut bytes = elim (cases_lt (position_or_len is_space bytes) (length bytes)) [
 abbrev pub has_no_space : List ℕ → Bool
 has_no_space w = list_all (λ b. not (b == 32)) w
 
-no_space_at : (w : List ℕ) → has_no_space w ≡ true → (k : ℕ) → k < length w → is_space (get_or w k 0) ≡ false
+pub no_space_at : (w : List ℕ) → has_no_space w ≡ true → (k : ℕ) → k < length w → is_space (get_or w k 0) ≡ false
 no_space_at [] none k within = absurd (omega arith)
 no_space_at (b ∷ w) none zero within = not-true (b == 32) (and_parts (not (b == 32)) (has_no_space w) none).0
 no_space_at (b ∷ w) none (suc k) within = no_space_at w (and_parts (not (b == 32)) (has_no_space w) none).1 k (omega arith)

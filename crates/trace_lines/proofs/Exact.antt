@@ -147,13 +147,13 @@ from_said what None part e = absurd (cc)
 from_said what (Some a) part e = (a, refl, same_Some (what a.0, a.1) part e)
 
 -- a text that spells what is said, and what stands behind it
-abbrev IsSaid : List ℕ → Option (List ℕ) → Announcement × Option (List ℕ) → Type 0
+abbrev pub IsSaid : List ℕ → Option (List ℕ) → Announcement × Option (List ℕ) → Type 0
 IsSaid verb rest part = (said : List ℕ) × SpellsSaid said part.0 × (verb ++ tail rest ≡ said ++ tail part.1)
 
 is_verb : (verb word : List ℕ) → bytes_eq verb word ≡ true → verb ≡ word
 is_verb verb word e = (bytes_eq-Decides verb word).0 e
 
-said_read : (verb : List ℕ) (rest : Option (List ℕ)) (part : Announcement × Option (List ℕ)) → said_part verb rest ≡ Some part → IsSaid verb rest part
+pub said_read : (verb : List ℕ) (rest : Option (List ℕ)) (part : Announcement × Option (List ℕ)) → said_part verb rest ≡ Some part → IsSaid verb rest part
 said_read verb rest part e =
     elim (chosen (bytes_eq verb (codes "join")) _ _ (Some part) e) [
       | inl on ↦ with_phase (codes "join") Joins (is_verb verb (codes "join") on.0) (λ p n is most. (is, most, refl)) on.1
@@ -199,7 +199,7 @@ said_read verb rest part e =
     alone : (word : List ℕ) (what : Announcement) → verb ≡ word → SpellsSaid word what → Some (what, rest) ≡ Some part → IsSaid verb rest part
     alone word what is spells f = subst (IsSaid verb rest) (same_Some (what, rest) part f) (word, spells, ap (λ v. v ++ tail rest) is)
 
-said_again : (what : Announcement) (said : List ℕ) (end : Option (List ℕ)) → SpellsSaid said what → said_part (first_word (said ++ tail end)) (behind_word (said ++ tail end)) ≡ Some (what, end)
+pub said_again : (what : Announcement) (said : List ℕ) (end : Option (List ℕ)) → SpellsSaid said what → said_part (first_word (said ++ tail end)) (behind_word (said ++ tail end)) ≡ Some (what, end)
 said_again (Joins p n) said end spells = with_phase (codes "join") Joins refl spells.2 (λ rest. refl) (phase_again p n end spells.0 spells.1)
   where
     with_phase : (word : List ℕ) (make : List ℕ → ℕ → Announcement) → has_no_space word ≡ true → said ≡ word ++ 32 ∷ p ++ 32 ∷ decimal n → ((rest : Option (List ℕ)) → said_part word rest ≡ said_of (λ m. make m.0 m.1) (phase_part rest)) → phase_part (Some (p ++ 32 ∷ (decimal n ++ tail end))) ≡ Some ((p, n), end) → said_part (first_word (said ++ tail end)) (behind_word (said ++ tail end)) ≡ Some (make p n, end)
@@ -241,7 +241,7 @@ said_again Stands said end spells =
     ∙ ap (λ w. said_part w (behind_word (codes "at" ++ tail end))) (word_first (codes "at") end refl) ∙ ap (said_part (codes "at")) (word_behind (codes "at") end refl)
 
 -- a place
-place_read : (rest : Option (List ℕ)) (raw : Option (List ℕ)) → place_part rest ≡ Some raw → SpellsPlace (tail rest) (option_map kept_place raw)
+pub place_read : (rest : Option (List ℕ)) (raw : Option (List ℕ)) → place_part rest ≡ Some raw → SpellsPlace (tail rest) (option_map kept_place raw)
 place_read None None e = refl
 place_read None (Some raw) e = absurd (let f = same_Some None (Some raw) e in cc)
 place_read (Some bytes) raw e =
@@ -259,7 +259,7 @@ place_read (Some bytes) raw e =
         let high = leb-true (length (b ∷ l)) 257 sizes.1 in
         (l, omega arith, omega arith, refl, ap (λ x. 32 ∷ x ∷ l) (eqb-true b 64 parts.1))
 
-place_again : (at : List ℕ) (place : Option (List ℕ)) → SpellsPlace at place → (end : Option (List ℕ)) × (raw : Option (List ℕ)) × (at ≡ tail end) × (place_part end ≡ Some raw) × (option_map kept_place raw ≡ place)
+pub place_again : (at : List ℕ) (place : Option (List ℕ)) → SpellsPlace at place → (end : Option (List ℕ)) × (raw : Option (List ℕ)) × (at ≡ tail end) × (place_part end ≡ Some raw) × (option_map kept_place raw ≡ place)
 place_again at None is = (None, None, is, refl, refl)
 place_again at (Some place) (raw, low, high, kept, is) =
     (Some (64 ∷ raw), Some raw, is,

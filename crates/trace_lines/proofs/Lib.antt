@@ -2,3 +2,4 @@ pub mod Numbers
 pub mod WordByWord
 pub mod Cuts
 pub mod Exact
+pub mod WholeLines
