@@ -48,7 +48,7 @@ first_space (b ∷ w) rest none =
     let parts = and_parts (not (b == 32)) (has_no_space w) none in
     let e : position_or_len is_space (w ++ 32 ∷ rest) ≡ length w = first_space w rest parts.1 in
     let f : position_or_len is_space ((b ∷ w) ++ 32 ∷ rest) ≡ 1 + position_or_len is_space (w ++ 32 ∷ rest) =
-        cond-true (not (b == 32)) (1 + position_or_len is_space (w ++ 32 ∷ rest)) 0 parts.0 in
+    cond-true (not (b == 32)) (1 + position_or_len is_space (w ++ 32 ∷ rest)) 0 parts.0 in
     omega arith
 
 no_space : (w : List ℕ) → has_no_space w ≡ true → position_or_len is_space w ≡ length w
@@ -63,10 +63,10 @@ pub word_behind : (w : List ℕ) (end : Option (List ℕ)) → has_no_space w �
 word_behind w None none =
     ap behind_word (append-nil w)
     ∙ cond-false (nat_lt (position_or_len is_space w) (length w)) (Some (after_first is_space w)) None
-        (le-ltb (position_or_len is_space w) (length w) (let n = no_space w none in omega arith))
+    (le-ltb (position_or_len is_space w) (length w) (let n = no_space w none in omega arith))
 word_behind w (Some rest) none =
     cond-true (nat_lt (position_or_len is_space (w ++ 32 ∷ rest)) (length (w ++ 32 ∷ rest))) (Some (after_first is_space (w ++ 32 ∷ rest))) None
-        (lt-ltb (position_or_len is_space (w ++ 32 ∷ rest)) (length (w ++ 32 ∷ rest)) (let n = first_space w rest none in let l = length-append w (32 ∷ rest) in omega arith))
+    (lt-ltb (position_or_len is_space (w ++ 32 ∷ rest)) (length (w ++ 32 ∷ rest)) (let n = first_space w rest none in let l = length-append w (32 ∷ rest) in omega arith))
     ∙ ap Some (ap (λ n. drop (n + 1) (w ++ 32 ∷ rest)) (first_space w rest none) ∙ drop_behind w rest)
   where
     drop_behind : (l : List ℕ) (more : List ℕ) → drop (length l + 1) (l ++ 32 ∷ more) ≡ more

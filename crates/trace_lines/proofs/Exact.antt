@@ -20,9 +20,10 @@ phaser_read : (rest : Option (List ℕ)) (part : List ℕ × Option (List ℕ)) 
 phaser_read None part e = absurd (cc)
 phaser_read (Some bytes) part e =
     elim (chosen (is_phaser_name (first_word bytes)) (Some (first_word bytes, behind_word bytes)) None (Some part) e) [
-      | inl on ↦ (let f : (first_word bytes, behind_word bytes) ≡ part = same_Some (first_word bytes, behind_word bytes) part on.1 in
-          (ap (λ (x : List ℕ × Option (List ℕ)). is_phaser_name x.0) (sym f) ∙ on.0,
-          ap (λ l. 32 ∷ l) (cut bytes ∙ ap (λ (x : List ℕ × Option (List ℕ)). x.0 ++ tail x.1) f)))
+      | inl on ↦ (let f : (first_word bytes, behind_word bytes) ≡ part = same_Some (first_word bytes, behind_word bytes) part on.1 in (
+        ap (λ (x : List ℕ × Option (List ℕ)). is_phaser_name x.0) (sym f) ∙ on.0,
+        ap (λ l. 32 ∷ l) (cut bytes ∙ ap (λ (x : List ℕ × Option (List ℕ)). x.0 ++ tail x.1) f),
+      ))
       | inr off ↦ absurd (let f = off.1 in cc)
     ]
 
@@ -74,7 +75,7 @@ decimal_may_be n small =
     let few = length-decimal-le 10 n (omega arith) (omega arith) fits in
     and_from (nat_le 1 (length (decimal n)) && nat_le (length (decimal n)) 10 && (length (decimal n) == 1 || not (slice_index (decimal n) 0 == 48))) (are_digits (decimal n))
     (and_from (nat_le 1 (length (decimal n)) && nat_le (length (decimal n)) 10) (length (decimal n) == 1 || not (slice_index (decimal n) 0 == 48))
-        (and_from (nat_le 1 (length (decimal n))) (nat_le (length (decimal n)) 10) (le-leb 1 (length (decimal n)) some) (le-leb (length (decimal n)) 10 few)) (no_leading n fits))
+    (and_from (nat_le 1 (length (decimal n))) (nat_le (length (decimal n)) 10) (le-leb 1 (length (decimal n)) some) (le-leb (length (decimal n)) 10 few)) (no_leading n fits))
     (digits_are (decimal n) (digits_decimal own n fits))
 
 number_again : (n : ℕ) → n ≤ last_phase → number_at (decimal n) ≡ Some n
@@ -101,9 +102,10 @@ number_part_read (Some bytes) part e = by_number (number_at (first_word bytes)) 
     by_number None is f = absurd (cc)
     by_number (Some n) is f =
         let r = number_read (first_word bytes) n is in
-        let g : (n, behind_word bytes) ≡ part = same_Some (n, behind_word bytes) part f in
-        (subst (λ (x : ℕ × Option (List ℕ)). x.0 ≤ last_phase) g r.0,
-        ap (λ l. 32 ∷ l) (cut bytes ∙ ap (λ l. l ++ tail (behind_word bytes)) r.1 ∙ ap (λ (x : ℕ × Option (List ℕ)). decimal x.0 ++ tail x.1) g))
+        let g : (n, behind_word bytes) ≡ part = same_Some (n, behind_word bytes) part f in (
+          subst (λ (x : ℕ × Option (List ℕ)). x.0 ≤ last_phase) g r.0,
+          ap (λ l. 32 ∷ l) (cut bytes ∙ ap (λ l. l ++ tail (behind_word bytes)) r.1 ∙ ap (λ (x : ℕ × Option (List ℕ)). decimal x.0 ++ tail x.1) g),
+        )
 
 number_part_again : (n : ℕ) (end : Option (List ℕ)) → n ≤ last_phase → number_part (Some (decimal n ++ tail end)) ≡ Some (n, end)
 number_part_again n end most =
@@ -124,9 +126,11 @@ phase_read rest part e = by_phaser (phaser_part rest) refl e
     by_number p is (Some n) number f =
         let one = phaser_read rest p is in
         let two = number_part_read p.1 n number in
-        let g : ((p.0, n.0), n.1) ≡ part = same_Some ((p.0, n.0), n.1) part f in
-        (subst (λ (x : (List ℕ × ℕ) × Option (List ℕ)). is_phaser_name x.0.0 ≡ true) g one.0, subst (λ (x : (List ℕ × ℕ) × Option (List ℕ)). x.0.1 ≤ last_phase) g two.0,
-        one.1 ∙ ap (λ l. 32 ∷ p.0 ++ l) two.1 ∙ grouped p.0 (decimal n.0) (tail n.1) ∙ ap (λ (x : (List ℕ × ℕ) × Option (List ℕ)). 32 ∷ x.0.0 ++ 32 ∷ decimal x.0.1 ++ tail x.1) g)
+        let g : ((p.0, n.0), n.1) ≡ part = same_Some ((p.0, n.0), n.1) part f in (
+          subst (λ (x : (List ℕ × ℕ) × Option (List ℕ)). is_phaser_name x.0.0 ≡ true) g one.0,
+          subst (λ (x : (List ℕ × ℕ) × Option (List ℕ)). x.0.1 ≤ last_phase) g two.0,
+          one.1 ∙ ap (λ l. 32 ∷ p.0 ++ l) two.1 ∙ grouped p.0 (decimal n.0) (tail n.1) ∙ ap (λ (x : (List ℕ × ℕ) × Option (List ℕ)). 32 ∷ x.0.0 ++ 32 ∷ decimal x.0.1 ++ tail x.1) g,
+        )
       where
         grouped : (a b c : List ℕ) → 32 ∷ a ++ (32 ∷ b ++ c) ≡ 32 ∷ a ++ 32 ∷ b ++ c
         grouped a b c = sym (append_assoc (32 ∷ a) (32 ∷ b) c)
@@ -158,36 +162,38 @@ said_read verb rest part e =
     elim (chosen (bytes_eq verb (codes "join")) _ _ (Some part) e) [
       | inl on ↦ with_phase (codes "join") Joins (is_verb verb (codes "join") on.0) (λ p n is most. (is, most, refl)) on.1
       | inr no_join ↦ elim (chosen (bytes_eq verb (codes "wait")) _ _ (Some part) no_join.1) [
-          | inl on ↦ with_phase (codes "wait") Waits (is_verb verb (codes "wait") on.0) (λ p n is most. (is, most, refl)) on.1
-          | inr no_wait ↦ elim (chosen (bytes_eq verb (codes "arrive")) _ _ (Some part) no_wait.1) [
-              | inl on ↦ with_phaser (codes "arrive") Arrives (is_verb verb (codes "arrive") on.0) (λ p is. (is, refl)) on.1
-              | inr no_arrive ↦ elim (chosen (bytes_eq verb (codes "leave")) _ _ (Some part) no_arrive.1) [
-                  | inl on ↦ with_phaser (codes "leave") Leaves (is_verb verb (codes "leave") on.0) (λ p is. (is, refl)) on.1
-                  | inr no_leave ↦ elim (chosen (bytes_eq verb (codes "go")) _ _ (Some part) no_leave.1) [
-                      | inl on ↦ alone (codes "go") Goes (is_verb verb (codes "go") on.0) refl on.1
-                      | inr no_go ↦ elim (chosen (bytes_eq verb (codes "end")) _ _ (Some part) no_go.1) [
-                          | inl on ↦ alone (codes "end") Ends (is_verb verb (codes "end") on.0) refl on.1
-                          | inr no_end ↦ elim (chosen (bytes_eq verb (codes "at")) _ _ (Some part) no_end.1) [
-                              | inl on ↦ alone (codes "at") Stands (is_verb verb (codes "at") on.0) refl on.1
-                              | inr off ↦ absurd (let f = off.1 in cc)
-                            ]
-                        ]
-                    ]
+        | inl on ↦ with_phase (codes "wait") Waits (is_verb verb (codes "wait") on.0) (λ p n is most. (is, most, refl)) on.1
+        | inr no_wait ↦ elim (chosen (bytes_eq verb (codes "arrive")) _ _ (Some part) no_wait.1) [
+          | inl on ↦ with_phaser (codes "arrive") Arrives (is_verb verb (codes "arrive") on.0) (λ p is. (is, refl)) on.1
+          | inr no_arrive ↦ elim (chosen (bytes_eq verb (codes "leave")) _ _ (Some part) no_arrive.1) [
+            | inl on ↦ with_phaser (codes "leave") Leaves (is_verb verb (codes "leave") on.0) (λ p is. (is, refl)) on.1
+            | inr no_leave ↦ elim (chosen (bytes_eq verb (codes "go")) _ _ (Some part) no_leave.1) [
+              | inl on ↦ alone (codes "go") Goes (is_verb verb (codes "go") on.0) refl on.1
+              | inr no_go ↦ elim (chosen (bytes_eq verb (codes "end")) _ _ (Some part) no_go.1) [
+                | inl on ↦ alone (codes "end") Ends (is_verb verb (codes "end") on.0) refl on.1
+                | inr no_end ↦ elim (chosen (bytes_eq verb (codes "at")) _ _ (Some part) no_end.1) [
+                  | inl on ↦ alone (codes "at") Stands (is_verb verb (codes "at") on.0) refl on.1
+                  | inr off ↦ absurd (let f = off.1 in cc)
                 ]
+              ]
             ]
+          ]
         ]
+      ]
     ]
   where
     with_phase : (word : List ℕ) (what : List ℕ → ℕ → Announcement) → verb ≡ word → ((p : List ℕ) (n : ℕ) → is_phaser_name p ≡ true → n ≤ last_phase → SpellsSaid (word ++ 32 ∷ p ++ 32 ∷ decimal n) (what p n)) → said_of (λ m. what m.0 m.1) (phase_part rest) ≡ Some part → IsSaid verb rest part
     with_phase word what is spells f =
         let a = from_said (λ (m : List ℕ × ℕ). what m.0 m.1) (phase_part rest) part f in
         let r = phase_read rest a.0 a.1 in
-        subst (IsSaid verb rest) a.2
-        (word ++ 32 ∷ a.0.0.0 ++ 32 ∷ decimal a.0.0.1, spells a.0.0.0 a.0.0.1 r.0 r.1,
-        ap (λ v. v ++ tail rest) is ∙ ap (λ l. word ++ l) r.2
-        ∙ ap (λ l. word ++ l) (append_assoc (32 ∷ a.0.0.0) (32 ∷ decimal a.0.0.1) (tail a.0.1))
-        ∙ sym (append_assoc word (32 ∷ a.0.0.0) (32 ∷ decimal a.0.0.1 ++ tail a.0.1))
-        ∙ sym (append_assoc (word ++ 32 ∷ a.0.0.0) (32 ∷ decimal a.0.0.1) (tail a.0.1)))
+        subst (IsSaid verb rest) a.2 (
+          word ++ 32 ∷ a.0.0.0 ++ 32 ∷ decimal a.0.0.1,
+          spells a.0.0.0 a.0.0.1 r.0 r.1,
+          ap (λ v. v ++ tail rest) is ∙ ap (λ l. word ++ l) r.2
+              ∙ ap (λ l. word ++ l) (append_assoc (32 ∷ a.0.0.0) (32 ∷ decimal a.0.0.1) (tail a.0.1))
+              ∙ sym (append_assoc word (32 ∷ a.0.0.0) (32 ∷ decimal a.0.0.1 ++ tail a.0.1))
+              ∙ sym (append_assoc (word ++ 32 ∷ a.0.0.0) (32 ∷ decimal a.0.0.1) (tail a.0.1)),
+        )
 
     with_phaser : (word : List ℕ) (what : List ℕ → Announcement) → verb ≡ word → ((p : List ℕ) → is_phaser_name p ≡ true → SpellsSaid (word ++ 32 ∷ p) (what p)) → said_of what (phaser_part rest) ≡ Some part → IsSaid verb rest part
     with_phaser word what is spells f =
@@ -205,7 +211,7 @@ said_again (Joins p n) said end spells = with_phase (codes "join") Joins refl sp
     with_phase : (word : List ℕ) (make : List ℕ → ℕ → Announcement) → has_no_space word ≡ true → said ≡ word ++ 32 ∷ p ++ 32 ∷ decimal n → ((rest : Option (List ℕ)) → said_part word rest ≡ said_of (λ m. make m.0 m.1) (phase_part rest)) → phase_part (Some (p ++ 32 ∷ (decimal n ++ tail end))) ≡ Some ((p, n), end) → said_part (first_word (said ++ tail end)) (behind_word (said ++ tail end)) ≡ Some (make p n, end)
     with_phase word make whole is verb again =
         let text : said ++ tail end ≡ word ++ tail (Some (p ++ 32 ∷ (decimal n ++ tail end))) =
-            ap (λ l. l ++ tail end) is ∙ append_assoc (word ++ 32 ∷ p) (32 ∷ decimal n) (tail end) ∙ append_assoc word (32 ∷ p) (32 ∷ decimal n ++ tail end) in
+        ap (λ l. l ++ tail end) is ∙ append_assoc (word ++ 32 ∷ p) (32 ∷ decimal n) (tail end) ∙ append_assoc word (32 ∷ p) (32 ∷ decimal n ++ tail end) in
         ap (λ l. said_part (first_word l) (behind_word l)) text
         ∙ ap (λ w. said_part w (behind_word (word ++ tail (Some (p ++ 32 ∷ (decimal n ++ tail end)))))) (word_first word (Some (p ++ 32 ∷ (decimal n ++ tail end))) whole)
         ∙ ap (said_part word) (word_behind word (Some (p ++ 32 ∷ (decimal n ++ tail end))) whole)
@@ -213,7 +219,7 @@ said_again (Joins p n) said end spells = with_phase (codes "join") Joins refl sp
         ∙ ap (said_of (λ (m : List ℕ × ℕ). make m.0 m.1)) again
 said_again (Waits p n) said end spells =
     let text : said ++ tail end ≡ codes "wait" ++ tail (Some (p ++ 32 ∷ (decimal n ++ tail end))) =
-        ap (λ l. l ++ tail end) spells.2 ∙ append_assoc (codes "wait" ++ 32 ∷ p) (32 ∷ decimal n) (tail end) ∙ append_assoc (codes "wait") (32 ∷ p) (32 ∷ decimal n ++ tail end) in
+    ap (λ l. l ++ tail end) spells.2 ∙ append_assoc (codes "wait" ++ 32 ∷ p) (32 ∷ decimal n) (tail end) ∙ append_assoc (codes "wait") (32 ∷ p) (32 ∷ decimal n ++ tail end) in
     ap (λ l. said_part (first_word l) (behind_word l)) text
     ∙ ap (λ w. said_part w (behind_word (codes "wait" ++ tail (Some (p ++ 32 ∷ (decimal n ++ tail end)))))) (word_first (codes "wait") (Some (p ++ 32 ∷ (decimal n ++ tail end))) refl)
     ∙ ap (said_part (codes "wait")) (word_behind (codes "wait") (Some (p ++ 32 ∷ (decimal n ++ tail end))) refl)
@@ -261,8 +267,11 @@ place_read (Some bytes) raw e =
 
 pub place_again : (at : List ℕ) (place : Option (List ℕ)) → SpellsPlace at place → (end : Option (List ℕ)) × (raw : Option (List ℕ)) × (at ≡ tail end) × (place_part end ≡ Some raw) × (option_map kept_place raw ≡ place)
 place_again at None is = (None, None, is, refl, refl)
-place_again at (Some place) (raw, low, high, kept, is) =
-    (Some (64 ∷ raw), Some raw, is,
-    cond-true (is_place (64 ∷ raw)) (Some (Some raw)) None
-        (and_from (nat_le 2 (length (64 ∷ raw)) && nat_le (length (64 ∷ raw)) 257) true (and_from (nat_le 2 (length (64 ∷ raw))) (nat_le (length (64 ∷ raw)) 257) (le-leb 2 (length (64 ∷ raw)) (omega arith)) (le-leb (length (64 ∷ raw)) 257 (omega arith))) refl),
-    ap Some (sym kept))
+place_again at (Some place) (raw, low, high, kept, is) = (
+  Some (64 ∷ raw),
+  Some raw,
+  is,
+  cond-true (is_place (64 ∷ raw)) (Some (Some raw)) None
+      (and_from (nat_le 2 (length (64 ∷ raw)) && nat_le (length (64 ∷ raw)) 257) true (and_from (nat_le 2 (length (64 ∷ raw))) (nat_le (length (64 ∷ raw)) 257) (le-leb 2 (length (64 ∷ raw)) (omega arith)) (le-leb (length (64 ∷ raw)) 257 (omega arith))) refl),
+  ap Some (sym kept),
+)

@@ -3,3 +3,4 @@ pub mod WordByWord
 pub mod Cuts
 pub mod Exact
 pub mod WholeLines
+pub mod Again

@@ -14,7 +14,7 @@ use Rattle.trace_lines.proofs.Cuts.{chosen, cut, has_no_space, name_is_whole, no
 use Rattle.trace_lines.proofs.Exact.{place_again, place_read, said_again, said_read}
 
 -- the names behind `of`, each behind a space
-abbrev spaced : List (List ℕ) → List ℕ
+abbrev pub spaced : List (List ℕ) → List ℕ
 spaced names = flat_map (λ t. 32 ∷ t) names
 
 onto_spaced : (x : ℕ) (xs : List ℕ) (parts : List (List ℕ)) → spaced parts ≡ 32 ∷ xs → spaced (onto_first x parts) ≡ 32 ∷ x ∷ xs
@@ -32,7 +32,7 @@ words_read (x ∷ xs) = by_test (words_read xs) (cases_Bool (is_space x))
 no_space_all : (w : List ℕ) → has_no_space w ≡ true → All (λ b. is_space b ≡ false) w
 no_space_all w none = All-from_get_or (λ b. is_space b ≡ false) w 0 (no_space_at w none)
 
-words_again : (t : List ℕ) (names : List (List ℕ)) → list_all is_participant_name (t ∷ names) ≡ true → words_of (t ++ spaced names) ≡ t ∷ names
+pub words_again : (t : List ℕ) (names : List (List ℕ)) → list_all is_participant_name (t ∷ names) ≡ true → words_of (t ++ spaced names) ≡ t ∷ names
 words_again t [] all =
     let whole = name_is_whole t (and_parts (is_participant_name t) (list_all is_participant_name []) all).0 in
     ap words_of (append-nil t) ∙ slice_split_none is_space t (no_space_all t whole)
@@ -48,7 +48,7 @@ names_are (t ∷ names) are =
     let rest = names_are names parts.1 in
     (and_from (is_participant_name t) (list_all is_participant_name names) own.0 rest.0, (not-true (list_any (bytes_eq t) names) own.1, rest.1))
 
-names_from : (names : List (List ℕ)) → list_all is_participant_name names ≡ true → HasNoTwice names → are_names names ≡ true
+pub names_from : (names : List (List ℕ)) → list_all is_participant_name names ≡ true → HasNoTwice names → are_names names ≡ true
 names_from [] all once = refl
 names_from (t ∷ names) all once =
     let parts = and_parts (is_participant_name t) (list_all is_participant_name names) all in
@@ -123,7 +123,7 @@ placed_again t what None place is stands =
     ∙ ap (λ p. Some (Announces t what p)) is
 placed_again t what (Some raw) place is stands = ap (λ p. Some (Announces t what p)) is
 
-announced_again : (t said at : List ℕ) (what : Announcement) (place : Option (List ℕ)) → SpellsSaid said what → SpellsPlace at place → (what ≡ Stands → place ≢ None) → announced t (said_part (first_word (said ++ at)) (behind_word (said ++ at))) ≡ Some (Announces t what place)
+pub announced_again : (t said at : List ℕ) (what : Announcement) (place : Option (List ℕ)) → SpellsSaid said what → SpellsPlace at place → (what ≡ Stands → place ≢ None) → announced t (said_part (first_word (said ++ at)) (behind_word (said ++ at))) ≡ Some (Announces t what place)
 announced_again t said at what place spells places stands =
     let p = place_again at place places in
     ap (λ k. announced t (said_part (first_word (said ++ k)) (behind_word (said ++ k)))) p.2
@@ -145,9 +145,9 @@ verb_read t verb rest l name may e =
     elim (chosen (bytes_eq verb (codes "any")) (any_line t rest) _ (Some l) e) [
       | inl on ↦ any rest refl (is_name verb (codes "any") on.0) on.1
       | inr no_any ↦ elim (chosen (bytes_eq verb (codes "of")) (played_by t rest) (announced t (said_part verb rest)) (Some l) no_any.1) [
-          | inl on ↦ played rest (is_name verb (codes "of") on.0) on.1
-          | inr no_of ↦ said (announced_read t verb rest l no_of.1)
-        ]
+        | inl on ↦ played rest (is_name verb (codes "of") on.0) on.1
+        | inr no_of ↦ said (announced_read t verb rest l no_of.1)
+      ]
     ]
   where
     any : (o : Option (List ℕ)) → rest ≡ o → verb ≡ codes "any" → any_line t o ≡ Some l → SpellsLine (t ++ 32 ∷ (verb ++ tail o)) l
@@ -160,17 +160,28 @@ verb_read t verb rest l name may e =
         elim (chosen (are_names (words_of names)) (Some (PlaysOneOf t (words_of names))) None (Some l) f) [
           | inl on ↦
               (let are = names_are (words_of names) on.0 in
-              subst (SpellsLine (t ++ 32 ∷ (verb ++ 32 ∷ names))) (same_Some (PlaysOneOf t (words_of names)) l on.1)
-              (name, (λ none. absurd (let w = words_read names in let v = ap spaced none in cc)), are.0, are.1,
-              ap (λ v. t ++ 32 ∷ (v ++ 32 ∷ names)) is ∙ sym (append_assoc t (codes " of") (32 ∷ names)) ∙ ap (λ k. t ++ codes " of" ++ k) (sym (words_read names))))
+              subst (SpellsLine (t ++ 32 ∷ (verb ++ 32 ∷ names))) (same_Some (PlaysOneOf t (words_of names)) l on.1) (
+                name,
+                (λ none. absurd (let w = words_read names in let v = ap spaced none in cc)),
+                are.0,
+                are.1,
+                ap (λ v. t ++ 32 ∷ (v ++ 32 ∷ names)) is ∙ sym (append_assoc t (codes " of") (32 ∷ names)) ∙ ap (λ k. t ++ codes " of" ++ k) (sym (words_read names)),
+              ))
           | inr off ↦ absurd (let g = off.1 in cc)
         ]
 
     said : IsAnnounced t (verb ++ tail rest) l → SpellsLine (t ++ 32 ∷ (verb ++ tail rest)) l
     said a =
-        subst (SpellsLine (t ++ 32 ∷ (verb ++ tail rest))) (sym a.is)
-        (name, a.said, a.at, a.spells, a.places, ap (λ k. t ++ 32 ∷ k) a.text_is ∙ sym (append_assoc t (32 ∷ a.said) a.at),
-        (λ gone one. may.one a.what a.said a.at a.place a.spells a.places a.text_is gone one), a.stands)
+        subst (SpellsLine (t ++ 32 ∷ (verb ++ tail rest))) (sym a.is) (
+          name,
+          a.said,
+          a.at,
+          a.spells,
+          a.places,
+          ap (λ k. t ++ 32 ∷ k) a.text_is ∙ sym (append_assoc t (32 ∷ a.said) a.at),
+          (λ gone one. may.one a.what a.said a.at a.place a.spells a.places a.text_is gone one),
+          a.stands,
+        )
 
 one_word_is : (what : Announcement) (said : List ℕ) → SpellsSaid said what → IsOneWord what → (is_one_word_verb said ≡ true) × (has_no_space said ≡ true)
 one_word_is (Joins p n) said spells one = absurd one
@@ -231,9 +242,9 @@ worded_read bytes None l is e =
     elim (chosen (bytes_eq bytes (codes "report")) (Some AsksReport) _ (Some l) e) [
       | inl report ↦ subst (SpellsLine bytes) (same_Some AsksReport l report.1) (is_name bytes (codes "report") report.0)
       | inr other ↦ elim (chosen (bytes_eq bytes (codes "list")) (Some AsksList) None (Some l) other.1) [
-          | inl list ↦ subst (SpellsLine bytes) (same_Some AsksList l list.1) (is_name bytes (codes "list") list.0)
-          | inr none ↦ absurd (let f = none.1 in cc)
-        ]
+        | inl list ↦ subst (SpellsLine bytes) (same_Some AsksList l list.1) (is_name bytes (codes "list") list.0)
+        | inr none ↦ absurd (let f = none.1 in cc)
+      ]
     ]
 worded_read bytes (Some rest) l is e = subst (λ k. SpellsLine k l) (sym (cut bytes ∙ ap (λ o. first_word bytes ++ tail o) is)) (named_read (first_word bytes) rest l e)
 
@@ -241,12 +252,13 @@ pub line_read : (bytes : List ℕ) (l : TraceLine) → line_at bytes ≡ Some l 
 line_read bytes l e =
     elim (chosen (nat_lt most_line_bytes (length bytes)) None _ (Some l) e) [
       | inl long ↦ absurd (let f = long.1 in cc)
-      | inr short ↦
-          (ltb-false most_line_bytes (length bytes) short.0,
-          elim (chosen (length bytes == 0 || slice_index bytes 0 == 35) (Some SaysNothing) (worded_line bytes (behind_word bytes)) (Some l) short.1) [
-            | inl nothing ↦ subst (SpellsLine bytes) (same_Some SaysNothing l nothing.1) (silent bytes nothing.0)
-            | inr something ↦ worded_read bytes (behind_word bytes) l refl something.1
-          ])
+      | inr short ↦ (
+        ltb-false most_line_bytes (length bytes) short.0,
+        elim (chosen (length bytes == 0 || slice_index bytes 0 == 35) (Some SaysNothing) (worded_line bytes (behind_word bytes)) (Some l) short.1) [
+          | inl nothing ↦ subst (SpellsLine bytes) (same_Some SaysNothing l nothing.1) (silent bytes nothing.0)
+          | inr something ↦ worded_read bytes (behind_word bytes) l refl something.1
+        ],
+      )
     ]
   where
     silent : (k : List ℕ) → (length k == 0 || slice_index k 0 == 35) ≡ true → SpellsLine k SaysNothing

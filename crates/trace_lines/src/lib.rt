@@ -10,3 +10,4 @@ mod reading;
 mod words;
 
 pub use line::{Announcement, TraceLine};
+pub use reading::{one_line, read_line};

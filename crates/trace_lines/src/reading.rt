@@ -1,5 +1,5 @@
 // From the bytes of a line to what it says.
-ghost use Rattle.std.specs.Prelude.{◌≡◌, ◌++◌, codes, IfSome, IfNone};
+ghost use Rattle.std.specs.Prelude.{◌≡◌, ◌++◌, ℕ, List, codes, IfSome, IfNone};
 ghost use Rattle.std.specs.Option.{option_copied, option_map};
 ghost use Rattle.monitor_laws.specs.Lines.{TraceLine as Line};
 ghost use Rattle.trace_lines.specs.Grammar.{IsLine};
@@ -133,3 +133,16 @@ fn line_at(bytes: &[u8]) -> Option<TraceLine<'_>>
     }
     worded_line(bytes)
 }
+
+/// What a line says, its LF left out; nothing where the bytes are no line.
+pub fn read_line(bytes: &[u8]) -> Option<TraceLine<'_>>
+    ensures read { IfSome result (λ l. IsLine bytes.now (line_value l)) }
+    ensures none { IfNone result ((l : Line) → IsLine bytes.now l → ⊥) }
+{
+    line_at(bytes)
+}
+
+/// The bytes of a line spell one line at most.
+pub fn one_line()
+    ensures { (bytes : List ℕ) (l m : Line) → IsLine bytes l → IsLine bytes m → l ≡ m }
+{}
