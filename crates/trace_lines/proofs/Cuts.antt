@@ -7,7 +7,7 @@ use Rattle.std.proofs.lemmas.Bool.{and_from, and_parts, cases_Bool, cases_lt, co
 use Rattle.std.proofs.lemmas.List.{take_all, take_at, drop_at}
 use Rattle.std.proofs.lemmas.List.Sums.{passes_at_first, position_or_len_is, split_at_first}
 use Rattle.trace_lines.specs.Grammar.{is_word, is_phaser_name, is_participant_name}
-use Rattle.trace_lines.specs.inside.Reading.{are_digits, behind_word, first_word, is_number, is_space, may_be_number, number_at}
+use Rattle.trace_lines.specs.inside.Reading.{are_digits, behind_word, word_before_space, is_phase_number, is_space, may_be_number, phase_number_at}
 
 -- what stands behind a word, with its space
 abbrev pub tail : Option (List ℕ) → List ℕ
@@ -20,16 +20,16 @@ chosen true x y z e = inl (refl, e)
 chosen false x y z e = inr (refl, e)
 
 -- bytes are their first word and what stands behind it
-pub cut : (bytes : List ℕ) → bytes ≡ first_word bytes ++ tail (behind_word bytes)
+pub cut : (bytes : List ℕ) → bytes ≡ word_before_space bytes ++ tail (behind_word bytes)
 cut bytes = elim (cases_lt (position_or_len is_space bytes) (length bytes)) [
   | inl within ↦
       split_at_first is_space bytes 0 within
-      ∙ ap (λ b. first_word bytes ++ b ∷ after_first is_space bytes) (eqb-true (get_or bytes (position_or_len is_space bytes) 0) 32 (passes_at_first is_space bytes 0 within))
-      ∙ ap (λ o. first_word bytes ++ tail o) (sym (cond-true (nat_lt (position_or_len is_space bytes) (length bytes)) (Some (after_first is_space bytes)) None (lt-ltb (position_or_len is_space bytes) (length bytes) within)))
+      ∙ ap (λ b. word_before_space bytes ++ b ∷ after_first is_space bytes) (eqb-true (get_or bytes (position_or_len is_space bytes) 0) 32 (passes_at_first is_space bytes 0 within))
+      ∙ ap (λ o. word_before_space bytes ++ tail o) (sym (cond-true (nat_lt (position_or_len is_space bytes) (length bytes)) (Some (after_first is_space bytes)) None (lt-ltb (position_or_len is_space bytes) (length bytes) within)))
   | inr past ↦
       sym (take_all (position_or_len is_space bytes) bytes past)
-      ∙ sym (append-nil (first_word bytes))
-      ∙ ap (λ o. first_word bytes ++ tail o) (sym (cond-false (nat_lt (position_or_len is_space bytes) (length bytes)) (Some (after_first is_space bytes)) None (le-ltb (position_or_len is_space bytes) (length bytes) past)))
+      ∙ sym (append-nil (word_before_space bytes))
+      ∙ ap (λ o. word_before_space bytes ++ tail o) (sym (cond-false (nat_lt (position_or_len is_space bytes) (length bytes)) (Some (after_first is_space bytes)) None (le-ltb (position_or_len is_space bytes) (length bytes) past)))
 ]
 
 -- no space
@@ -55,8 +55,8 @@ no_space : (w : List ℕ) → has_no_space w ≡ true → position_or_len is_spa
 no_space w none = position_or_len_is is_space w (length w) 0 (omega arith) (no_space_at w none) (λ within. absurd (omega arith))
 
 -- a word and what stands behind it are cut there
-pub word_first : (w : List ℕ) (end : Option (List ℕ)) → has_no_space w ≡ true → first_word (w ++ tail end) ≡ w
-word_first w None none = ap first_word (append-nil w) ∙ ap (λ n. take n w) (no_space w none) ∙ take_all (length w) w (omega arith)
+pub word_first : (w : List ℕ) (end : Option (List ℕ)) → has_no_space w ≡ true → word_before_space (w ++ tail end) ≡ w
+word_first w None none = ap word_before_space (append-nil w) ∙ ap (λ n. take n w) (no_space w none) ∙ take_all (length w) w (omega arith)
 word_first w (Some rest) none = ap (λ n. take n (w ++ 32 ∷ rest)) (first_space w rest none) ∙ take_at w (32 ∷ rest) (length w) refl
 
 pub word_behind : (w : List ℕ) (end : Option (List ℕ)) → has_no_space w ≡ true → behind_word (w ++ tail end) ≡ end

@@ -11,7 +11,7 @@ use Rattle.std.proofs.lemmas.Fmt.{decimal-digits_value, digits_decimal, digits_v
 use Rattle.monitor_laws.specs.Lines.{Announcement, Joins, Arrives, Leaves, Waits, Goes, Ends, Stands, TraceLine, SaysNothing, AsksReport, AsksList, AreGone, Announces, PlaysAny, PlaysOneOf}
 use Rattle.monitor_laws.specs.Faults.{last_phase}
 use Rattle.trace_lines.specs.Grammar.{HasNoTwice, IsLine, IsOneWord, SpellsLine, SpellsPlace, SpellsSaid, is_participant_name, is_phaser_name, kept_byte, most_line_bytes}
-use Rattle.trace_lines.specs.inside.Reading.{Part, are_digits, behind_word, first_word, is_number, is_place, kept_place, may_be_number, number_at, number_before, number_part, numbered, phase_behind, phase_part, phaser_part, place_part, said_of, said_part}
+use Rattle.trace_lines.specs.inside.Reading.{Part, are_digits, behind_word, word_before_space, is_phase_number, is_place, kept_place, may_be_number, phase_number_at, number_before, number_part, joined_number, phase_behind, phase_part, phaser_part, place_part, said_with, said_part}
 use Rattle.trace_lines.proofs.Cuts.{chosen, cut, has_no_space, phaser_is_whole, tail, word_behind, word_first}
 use Rattle.trace_lines.proofs.Numbers.{all_digits, digits_of, number_is, own, some_of}
 
@@ -19,8 +19,8 @@ use Rattle.trace_lines.proofs.Numbers.{all_digits, digits_of, number_is, own, so
 phaser_read : (rest : Option (List ℕ)) (part : List ℕ × Option (List ℕ)) → phaser_part rest ≡ Some part → (is_phaser_name part.0 ≡ true) × (tail rest ≡ 32 ∷ part.0 ++ tail part.1)
 phaser_read None part e = absurd (cc)
 phaser_read (Some bytes) part e =
-    elim (chosen (is_phaser_name (first_word bytes)) (Some (first_word bytes, behind_word bytes)) None (Some part) e) [
-      | inl on ↦ (let f : (first_word bytes, behind_word bytes) ≡ part = same_Some (first_word bytes, behind_word bytes) part on.1 in (
+    elim (chosen (is_phaser_name (word_before_space bytes)) (Some (word_before_space bytes, behind_word bytes)) None (Some part) e) [
+      | inl on ↦ (let f : (word_before_space bytes, behind_word bytes) ≡ part = same_Some (word_before_space bytes, behind_word bytes) part on.1 in (
         ap (λ (x : List ℕ × Option (List ℕ)). is_phaser_name x.0) (sym f) ∙ on.0,
         ap (λ l. 32 ∷ l) (cut bytes ∙ ap (λ (x : List ℕ × Option (List ℕ)). x.0 ++ tail x.1) f),
       ))
@@ -44,9 +44,9 @@ no_zero_first w may zero_first =
       | inr other ↦ absurd (let z = eq-eqb (get_or w 0 0) 48 zero_first in let n = not-true (slice_index w 0 == 48) other in cc)
     ]
 
-number_read : (w : List ℕ) (n : ℕ) → number_at w ≡ Some n → (n ≤ last_phase) × (w ≡ decimal n)
+number_read : (w : List ℕ) (n : ℕ) → phase_number_at w ≡ Some n → (n ≤ last_phase) × (w ≡ decimal n)
 number_read w n e =
-    elim (chosen (is_number w) (Some (digits_value 10 w)) None (Some n) e) [
+    elim (chosen (is_phase_number w) (Some (digits_value 10 w)) None (Some n) e) [
       | inl on ↦
           (let parts = and_parts (may_be_number w) (nat_lt (digits_value 10 w) (2 ^ 32)) on.0 in
           let small = ltb-true (digits_value 10 w) (2 ^ 32) parts.1 in
@@ -78,7 +78,7 @@ decimal_may_be n small =
     (and_from (nat_le 1 (length (decimal n))) (nat_le (length (decimal n)) 10) (le-leb 1 (length (decimal n)) some) (le-leb (length (decimal n)) 10 few)) (no_leading n fits))
     (digits_are (decimal n) (digits_decimal own n fits))
 
-number_again : (n : ℕ) → n ≤ last_phase → number_at (decimal n) ≡ Some n
+number_again : (n : ℕ) → n ≤ last_phase → phase_number_at (decimal n) ≡ Some n
 number_again n most =
     let fits : n < 2 ^ 64 = omega arith in
     let value = digits_value-decimal own n fits in
@@ -96,12 +96,12 @@ decimal_whole n most = digits_whole (decimal n) (digits_of (decimal n) (decimal_
 
 number_part_read : (rest : Option (List ℕ)) (part : ℕ × Option (List ℕ)) → number_part rest ≡ Some part → (part.0 ≤ last_phase) × (tail rest ≡ 32 ∷ decimal part.0 ++ tail part.1)
 number_part_read None part e = absurd (cc)
-number_part_read (Some bytes) part e = by_number (number_at (first_word bytes)) refl e
+number_part_read (Some bytes) part e = by_number (phase_number_at (word_before_space bytes)) refl e
   where
-    by_number : (o : Option ℕ) → number_at (first_word bytes) ≡ o → number_before (behind_word bytes) o ≡ Some part → (part.0 ≤ last_phase) × (32 ∷ bytes ≡ 32 ∷ decimal part.0 ++ tail part.1)
+    by_number : (o : Option ℕ) → phase_number_at (word_before_space bytes) ≡ o → number_before (behind_word bytes) o ≡ Some part → (part.0 ≤ last_phase) × (32 ∷ bytes ≡ 32 ∷ decimal part.0 ++ tail part.1)
     by_number None is f = absurd (cc)
     by_number (Some n) is f =
-        let r = number_read (first_word bytes) n is in
+        let r = number_read (word_before_space bytes) n is in
         let g : (n, behind_word bytes) ≡ part = same_Some (n, behind_word bytes) part f in (
           subst (λ (x : ℕ × Option (List ℕ)). x.0 ≤ last_phase) g r.0,
           ap (λ l. 32 ∷ l) (cut bytes ∙ ap (λ l. l ++ tail (behind_word bytes)) r.1 ∙ ap (λ (x : ℕ × Option (List ℕ)). decimal x.0 ++ tail x.1) g),
@@ -109,8 +109,8 @@ number_part_read (Some bytes) part e = by_number (number_at (first_word bytes)) 
 
 number_part_again : (n : ℕ) (end : Option (List ℕ)) → n ≤ last_phase → number_part (Some (decimal n ++ tail end)) ≡ Some (n, end)
 number_part_again n end most =
-    ap (λ w. number_before (behind_word (decimal n ++ tail end)) (number_at w)) (word_first (decimal n) end (decimal_whole n most))
-    ∙ ap (λ o. number_before o (number_at (decimal n))) (word_behind (decimal n) end (decimal_whole n most))
+    ap (λ w. number_before (behind_word (decimal n ++ tail end)) (phase_number_at w)) (word_first (decimal n) end (decimal_whole n most))
+    ∙ ap (λ o. number_before o (phase_number_at (decimal n))) (word_behind (decimal n) end (decimal_whole n most))
     ∙ ap (number_before end) (number_again n most)
 
 -- a phaser and a phase
@@ -120,7 +120,7 @@ phase_read :
 phase_read rest part e = by_phaser (phaser_part rest) refl e
   where
     by_number :
-        (p : List ℕ × Option (List ℕ)) → phaser_part rest ≡ Some p → (o : Part ℕ) → number_part p.1 ≡ o → numbered p.0 o ≡ Some part →
+        (p : List ℕ × Option (List ℕ)) → phaser_part rest ≡ Some p → (o : Part ℕ) → number_part p.1 ≡ o → joined_number p.0 o ≡ Some part →
         (is_phaser_name part.0.0 ≡ true) × (part.0.1 ≤ last_phase) × (tail rest ≡ 32 ∷ part.0.0 ++ 32 ∷ decimal part.0.1 ++ tail part.1)
     by_number p is None number f = absurd (cc)
     by_number p is (Some n) number f =
@@ -143,10 +143,10 @@ phase_read rest part e = by_phaser (phaser_part rest) refl e
 
 phase_again : (p : List ℕ) (n : ℕ) (end : Option (List ℕ)) → is_phaser_name p ≡ true → n ≤ last_phase → phase_part (Some (p ++ 32 ∷ (decimal n ++ tail end))) ≡ Some ((p, n), end)
 phase_again p n end is most =
-    ap phase_behind (phaser_again p (Some (decimal n ++ tail end)) is) ∙ ap (numbered p) (number_part_again n end most)
+    ap phase_behind (phaser_again p (Some (decimal n ++ tail end)) is) ∙ ap (joined_number p) (number_part_again n end most)
 
 -- what is said
-from_said : {A : Type 0} (what : A → Announcement) (o : Part A) (part : Announcement × Option (List ℕ)) → said_of what o ≡ Some part → (a : A × Option (List ℕ)) × (o ≡ Some a) × ((what a.0, a.1) ≡ part)
+from_said : {A : Type 0} (what : A → Announcement) (o : Part A) (part : Announcement × Option (List ℕ)) → said_with what o ≡ Some part → (a : A × Option (List ℕ)) × (o ≡ Some a) × ((what a.0, a.1) ≡ part)
 from_said what None part e = absurd (cc)
 from_said what (Some a) part e = (a, refl, same_Some (what a.0, a.1) part e)
 
@@ -182,7 +182,7 @@ said_read verb rest part e =
       ]
     ]
   where
-    with_phase : (word : List ℕ) (what : List ℕ → ℕ → Announcement) → verb ≡ word → ((p : List ℕ) (n : ℕ) → is_phaser_name p ≡ true → n ≤ last_phase → SpellsSaid (word ++ 32 ∷ p ++ 32 ∷ decimal n) (what p n)) → said_of (λ m. what m.0 m.1) (phase_part rest) ≡ Some part → IsSaid verb rest part
+    with_phase : (word : List ℕ) (what : List ℕ → ℕ → Announcement) → verb ≡ word → ((p : List ℕ) (n : ℕ) → is_phaser_name p ≡ true → n ≤ last_phase → SpellsSaid (word ++ 32 ∷ p ++ 32 ∷ decimal n) (what p n)) → said_with (λ m. what m.0 m.1) (phase_part rest) ≡ Some part → IsSaid verb rest part
     with_phase word what is spells f =
         let a = from_said (λ (m : List ℕ × ℕ). what m.0 m.1) (phase_part rest) part f in
         let r = phase_read rest a.0 a.1 in
@@ -195,7 +195,7 @@ said_read verb rest part e =
               ∙ sym (append_assoc (word ++ 32 ∷ a.0.0.0) (32 ∷ decimal a.0.0.1) (tail a.0.1)),
         )
 
-    with_phaser : (word : List ℕ) (what : List ℕ → Announcement) → verb ≡ word → ((p : List ℕ) → is_phaser_name p ≡ true → SpellsSaid (word ++ 32 ∷ p) (what p)) → said_of what (phaser_part rest) ≡ Some part → IsSaid verb rest part
+    with_phaser : (word : List ℕ) (what : List ℕ → Announcement) → verb ≡ word → ((p : List ℕ) → is_phaser_name p ≡ true → SpellsSaid (word ++ 32 ∷ p) (what p)) → said_with what (phaser_part rest) ≡ Some part → IsSaid verb rest part
     with_phaser word what is spells f =
         let a = from_said what (phaser_part rest) part f in
         let r = phaser_read rest a.0 a.1 in
@@ -205,45 +205,45 @@ said_read verb rest part e =
     alone : (word : List ℕ) (what : Announcement) → verb ≡ word → SpellsSaid word what → Some (what, rest) ≡ Some part → IsSaid verb rest part
     alone word what is spells f = subst (IsSaid verb rest) (same_Some (what, rest) part f) (word, spells, ap (λ v. v ++ tail rest) is)
 
-pub said_again : (what : Announcement) (said : List ℕ) (end : Option (List ℕ)) → SpellsSaid said what → said_part (first_word (said ++ tail end)) (behind_word (said ++ tail end)) ≡ Some (what, end)
+pub said_again : (what : Announcement) (said : List ℕ) (end : Option (List ℕ)) → SpellsSaid said what → said_part (word_before_space (said ++ tail end)) (behind_word (said ++ tail end)) ≡ Some (what, end)
 said_again (Joins p n) said end spells = with_phase (codes "join") Joins refl spells.2 (λ rest. refl) (phase_again p n end spells.0 spells.1)
   where
-    with_phase : (word : List ℕ) (make : List ℕ → ℕ → Announcement) → has_no_space word ≡ true → said ≡ word ++ 32 ∷ p ++ 32 ∷ decimal n → ((rest : Option (List ℕ)) → said_part word rest ≡ said_of (λ m. make m.0 m.1) (phase_part rest)) → phase_part (Some (p ++ 32 ∷ (decimal n ++ tail end))) ≡ Some ((p, n), end) → said_part (first_word (said ++ tail end)) (behind_word (said ++ tail end)) ≡ Some (make p n, end)
+    with_phase : (word : List ℕ) (make : List ℕ → ℕ → Announcement) → has_no_space word ≡ true → said ≡ word ++ 32 ∷ p ++ 32 ∷ decimal n → ((rest : Option (List ℕ)) → said_part word rest ≡ said_with (λ m. make m.0 m.1) (phase_part rest)) → phase_part (Some (p ++ 32 ∷ (decimal n ++ tail end))) ≡ Some ((p, n), end) → said_part (word_before_space (said ++ tail end)) (behind_word (said ++ tail end)) ≡ Some (make p n, end)
     with_phase word make whole is verb again =
         let text : said ++ tail end ≡ word ++ tail (Some (p ++ 32 ∷ (decimal n ++ tail end))) =
         ap (λ l. l ++ tail end) is ∙ append_assoc (word ++ 32 ∷ p) (32 ∷ decimal n) (tail end) ∙ append_assoc word (32 ∷ p) (32 ∷ decimal n ++ tail end) in
-        ap (λ l. said_part (first_word l) (behind_word l)) text
+        ap (λ l. said_part (word_before_space l) (behind_word l)) text
         ∙ ap (λ w. said_part w (behind_word (word ++ tail (Some (p ++ 32 ∷ (decimal n ++ tail end)))))) (word_first word (Some (p ++ 32 ∷ (decimal n ++ tail end))) whole)
         ∙ ap (said_part word) (word_behind word (Some (p ++ 32 ∷ (decimal n ++ tail end))) whole)
         ∙ verb (Some (p ++ 32 ∷ (decimal n ++ tail end)))
-        ∙ ap (said_of (λ (m : List ℕ × ℕ). make m.0 m.1)) again
+        ∙ ap (said_with (λ (m : List ℕ × ℕ). make m.0 m.1)) again
 said_again (Waits p n) said end spells =
     let text : said ++ tail end ≡ codes "wait" ++ tail (Some (p ++ 32 ∷ (decimal n ++ tail end))) =
     ap (λ l. l ++ tail end) spells.2 ∙ append_assoc (codes "wait" ++ 32 ∷ p) (32 ∷ decimal n) (tail end) ∙ append_assoc (codes "wait") (32 ∷ p) (32 ∷ decimal n ++ tail end) in
-    ap (λ l. said_part (first_word l) (behind_word l)) text
+    ap (λ l. said_part (word_before_space l) (behind_word l)) text
     ∙ ap (λ w. said_part w (behind_word (codes "wait" ++ tail (Some (p ++ 32 ∷ (decimal n ++ tail end)))))) (word_first (codes "wait") (Some (p ++ 32 ∷ (decimal n ++ tail end))) refl)
     ∙ ap (said_part (codes "wait")) (word_behind (codes "wait") (Some (p ++ 32 ∷ (decimal n ++ tail end))) refl)
-    ∙ ap (said_of (λ (m : List ℕ × ℕ). Waits m.0 m.1)) (phase_again p n end spells.0 spells.1)
+    ∙ ap (said_with (λ (m : List ℕ × ℕ). Waits m.0 m.1)) (phase_again p n end spells.0 spells.1)
 said_again (Arrives p) said end spells =
     let text : said ++ tail end ≡ codes "arrive" ++ tail (Some (p ++ tail end)) = ap (λ l. l ++ tail end) spells.1 ∙ append_assoc (codes "arrive") (32 ∷ p) (tail end) in
-    ap (λ l. said_part (first_word l) (behind_word l)) text
+    ap (λ l. said_part (word_before_space l) (behind_word l)) text
     ∙ ap (λ w. said_part w (behind_word (codes "arrive" ++ tail (Some (p ++ tail end))))) (word_first (codes "arrive") (Some (p ++ tail end)) refl)
     ∙ ap (said_part (codes "arrive")) (word_behind (codes "arrive") (Some (p ++ tail end)) refl)
-    ∙ ap (said_of Arrives) (phaser_again p end spells.0)
+    ∙ ap (said_with Arrives) (phaser_again p end spells.0)
 said_again (Leaves p) said end spells =
     let text : said ++ tail end ≡ codes "leave" ++ tail (Some (p ++ tail end)) = ap (λ l. l ++ tail end) spells.1 ∙ append_assoc (codes "leave") (32 ∷ p) (tail end) in
-    ap (λ l. said_part (first_word l) (behind_word l)) text
+    ap (λ l. said_part (word_before_space l) (behind_word l)) text
     ∙ ap (λ w. said_part w (behind_word (codes "leave" ++ tail (Some (p ++ tail end))))) (word_first (codes "leave") (Some (p ++ tail end)) refl)
     ∙ ap (said_part (codes "leave")) (word_behind (codes "leave") (Some (p ++ tail end)) refl)
-    ∙ ap (said_of Leaves) (phaser_again p end spells.0)
+    ∙ ap (said_with Leaves) (phaser_again p end spells.0)
 said_again Goes said end spells =
-    ap (λ l. said_part (first_word (l ++ tail end)) (behind_word (l ++ tail end))) spells
+    ap (λ l. said_part (word_before_space (l ++ tail end)) (behind_word (l ++ tail end))) spells
     ∙ ap (λ w. said_part w (behind_word (codes "go" ++ tail end))) (word_first (codes "go") end refl) ∙ ap (said_part (codes "go")) (word_behind (codes "go") end refl)
 said_again Ends said end spells =
-    ap (λ l. said_part (first_word (l ++ tail end)) (behind_word (l ++ tail end))) spells
+    ap (λ l. said_part (word_before_space (l ++ tail end)) (behind_word (l ++ tail end))) spells
     ∙ ap (λ w. said_part w (behind_word (codes "end" ++ tail end))) (word_first (codes "end") end refl) ∙ ap (said_part (codes "end")) (word_behind (codes "end") end refl)
 said_again Stands said end spells =
-    ap (λ l. said_part (first_word (l ++ tail end)) (behind_word (l ++ tail end))) spells
+    ap (λ l. said_part (word_before_space (l ++ tail end)) (behind_word (l ++ tail end))) spells
     ∙ ap (λ w. said_part w (behind_word (codes "at" ++ tail end))) (word_first (codes "at") end refl) ∙ ap (said_part (codes "at")) (word_behind (codes "at") end refl)
 
 -- a place

@@ -9,19 +9,19 @@ use Rattle.std.proofs.lemmas.Bool.Decides.{nat_tests}
 use Rattle.std.proofs.lemmas.Str.{IsUtf8-from_ascii}
 use Rattle.std.proofs.lemmas.Bool.{and_from, and_parts, and_left, and_right, cases_Bool, cond-true, cond-false, lt-ltb, ltb-true, le-ltb, leb-true, le-leb, cases_lt}
 use Rattle.std.proofs.lemmas.Str.Parse.{IsNumeralModel, numerals_by_value, tells_digits, parse_digits, digits_value_short}
-use Rattle.trace_lines.specs.inside.Reading.{are_digits, is_number, may_be_number, number_at}
+use Rattle.trace_lines.specs.inside.Reading.{are_digits, is_phase_number, may_be_number, phase_number_at}
 
 pub own : IsNumeralModel (AllDigits 10) (digits_value 10)
 own = numerals_by_value (AllDigits 10) tells_digits
 
-pub number_is : (w : List ℕ) → may_be_number w ≡ true → digits_value 10 w < 2 ^ 32 → number_at w ≡ Some (digits_value 10 w)
-number_is w may small = cond-true (is_number w) (Some (digits_value 10 w)) None (and_from (may_be_number w) (nat_lt (digits_value 10 w) (2 ^ 32)) may (lt-ltb (digits_value 10 w) (2 ^ 32) small))
+pub number_is : (w : List ℕ) → may_be_number w ≡ true → digits_value 10 w < 2 ^ 32 → phase_number_at w ≡ Some (digits_value 10 w)
+number_is w may small = cond-true (is_phase_number w) (Some (digits_value 10 w)) None (and_from (may_be_number w) (nat_lt (digits_value 10 w) (2 ^ 32)) may (lt-ltb (digits_value 10 w) (2 ^ 32) small))
 
-pub number_is_none : (w : List ℕ) → may_be_number w ≡ false → number_at w ≡ None
-number_is_none w may = cond-false (is_number w) (Some (digits_value 10 w)) None (and_left (may_be_number w) (nat_lt (digits_value 10 w) (2 ^ 32)) may)
+pub number_is_none : (w : List ℕ) → may_be_number w ≡ false → phase_number_at w ≡ None
+number_is_none w may = cond-false (is_phase_number w) (Some (digits_value 10 w)) None (and_left (may_be_number w) (nat_lt (digits_value 10 w) (2 ^ 32)) may)
 
-pub number_is_large : (w : List ℕ) → 2 ^ 32 ≤ digits_value 10 w → number_at w ≡ None
-number_is_large w large = cond-false (is_number w) (Some (digits_value 10 w)) None (and_right (may_be_number w) (nat_lt (digits_value 10 w) (2 ^ 32)) (le-ltb (digits_value 10 w) (2 ^ 32) large))
+pub number_is_large : (w : List ℕ) → 2 ^ 32 ≤ digits_value 10 w → phase_number_at w ≡ None
+number_is_large w large = cond-false (is_phase_number w) (Some (digits_value 10 w)) None (and_right (may_be_number w) (nat_lt (digits_value 10 w) (2 ^ 32)) (le-ltb (digits_value 10 w) (2 ^ 32) large))
 
 pub all_digits : (w : List ℕ) → are_digits w ≡ true → AllDigits 10 w
 all_digits [] are = tt
@@ -42,7 +42,7 @@ some_of w may =
     let two = (and_parts (nat_le 1 (length w) && nat_le (length w) 10) (length w == 1 || not (slice_index w 0 == 48)) three).0 in
     leb-true 1 (length w) (and_parts (nat_le 1 (length w)) (nat_le (length w) 10) two).0
 
-pub not_parsed : (w : List ℕ) (e : ℕ) → may_be_number w ≡ true → ParsesUnsigned {E = ℕ} 32 10 w (Err e) → None ≡ number_at w
+pub not_parsed : (w : List ℕ) (e : ℕ) → may_be_number w ≡ true → ParsesUnsigned {E = ℕ} 32 10 w (Err e) → None ≡ phase_number_at w
 not_parsed w e may read =
     let refused = parse_digits own {E = ℕ} 32 w (Err e) read (all_digits w (digits_of w may)) in
     elim (cases_lt (digits_value 10 w) (2 ^ 32)) [
@@ -57,5 +57,5 @@ digits_ascii (b ∷ l) are zero =
     let high = leb-true b 57 (and_parts (nat_le 48 b) (nat_le b 57) parts.0).1 in omega arith
 digits_ascii (b ∷ l) are (suc i) = digits_ascii l (and_parts (nat_le 48 b && nat_le b 57) (are_digits l) are).1 i
 
-pub not_text : (w : List ℕ) → may_be_number w ≡ true → (IsUtf8 w → ⊥) → None ≡ number_at w
+pub not_text : (w : List ℕ) → may_be_number w ≡ true → (IsUtf8 w → ⊥) → None ≡ phase_number_at w
 not_text w may refused = absurd (refused (IsUtf8-from_ascii w (digits_ascii w (digits_of w may))))

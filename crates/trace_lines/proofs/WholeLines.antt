@@ -9,7 +9,7 @@ use Rattle.std.proofs.lemmas.Slice.Eq.{bytes_eq-Decides}
 use Rattle.std.proofs.lemmas.Option.{same_Some}
 use Rattle.monitor_laws.specs.Lines.{Announcement, Joins, Arrives, Leaves, Waits, Goes, Ends, Stands, TraceLine, SaysNothing, AsksReport, AsksList, AreGone, Announces, PlaysAny, PlaysOneOf}
 use Rattle.trace_lines.specs.Grammar.{HasNoTwice, IsLine, IsOneWord, SpellsLine, SpellsPlace, SpellsSaid, is_participant_name, most_line_bytes}
-use Rattle.trace_lines.specs.inside.Reading.{Part, announced, any_line, are_names, behind_word, first_word, gone_line, is_one_word_verb, is_space, kept_place, line_at, named_line, place_part, placed, played_by, said_part, says_nothing, short_line, verb_line, worded_line, words_of}
+use Rattle.trace_lines.specs.inside.Reading.{Part, announced, any_line, are_names, behind_word, word_before_space, gone_line, is_one_word_verb, is_space, kept_place, trace_line_at, named_line, place_part, placed_said, played_by, said_part, says_nothing, short_line, verb_line, worded_line, spaced_words}
 use Rattle.trace_lines.proofs.Cuts.{chosen, cut, has_no_space, name_is_whole, no_space_at, tail, word_behind, word_first}
 use Rattle.trace_lines.proofs.Exact.{place_again, place_read, said_again, said_read}
 
@@ -21,21 +21,21 @@ onto_spaced : (x : ℕ) (xs : List ℕ) (parts : List (List ℕ)) → spaced par
 onto_spaced x xs [] e = absurd (cc)
 onto_spaced x xs (part ∷ parts) e = let f : part ++ spaced parts ≡ xs = ap (drop 1) e in ap (λ l. 32 ∷ x ∷ l) f
 
-words_read : (bytes : List ℕ) → spaced (words_of bytes) ≡ 32 ∷ bytes
+words_read : (bytes : List ℕ) → spaced (spaced_words bytes) ≡ 32 ∷ bytes
 words_read [] = refl
 words_read (x ∷ xs) = by_test (words_read xs) (cases_Bool (is_space x))
   where
-    by_test : spaced (words_of xs) ≡ 32 ∷ xs → ((is_space x ≡ true) ⊎ (is_space x ≡ false)) → spaced (words_of (x ∷ xs)) ≡ 32 ∷ x ∷ xs
+    by_test : spaced (spaced_words xs) ≡ 32 ∷ xs → ((is_space x ≡ true) ⊎ (is_space x ≡ false)) → spaced (spaced_words (x ∷ xs)) ≡ 32 ∷ x ∷ xs
     by_test rest (inl yes_space) = ap spaced (slice_split-cons_yes is_space x xs yes_space) ∙ ap (λ l. 32 ∷ l) rest ∙ ap (λ b. 32 ∷ b ∷ xs) (sym (eqb-true x 32 yes_space))
-    by_test rest (inr no_space) = ap spaced (slice_split-cons_no is_space x xs no_space) ∙ onto_spaced x xs (words_of xs) rest
+    by_test rest (inr no_space) = ap spaced (slice_split-cons_no is_space x xs no_space) ∙ onto_spaced x xs (spaced_words xs) rest
 
 no_space_all : (w : List ℕ) → has_no_space w ≡ true → All (λ b. is_space b ≡ false) w
 no_space_all w none = All-from_get_or (λ b. is_space b ≡ false) w 0 (no_space_at w none)
 
-pub words_again : (t : List ℕ) (names : List (List ℕ)) → list_all is_participant_name (t ∷ names) ≡ true → words_of (t ++ spaced names) ≡ t ∷ names
+pub words_again : (t : List ℕ) (names : List (List ℕ)) → list_all is_participant_name (t ∷ names) ≡ true → spaced_words (t ++ spaced names) ≡ t ∷ names
 words_again t [] all =
     let whole = name_is_whole t (and_parts (is_participant_name t) (list_all is_participant_name []) all).0 in
-    ap words_of (append-nil t) ∙ slice_split_none is_space t (no_space_all t whole)
+    ap spaced_words (append-nil t) ∙ slice_split_none is_space t (no_space_all t whole)
 words_again t (u ∷ names) all =
     let parts = and_parts (is_participant_name t) (list_all is_participant_name (u ∷ names)) all in
     slice_split_at is_space t 32 (u ++ spaced names) (no_space_all t (name_is_whole t parts.0)) refl ∙ ap (λ l. t ∷ l) (words_again u names parts.1)
@@ -67,10 +67,10 @@ record IsAnnounced (t text : List ℕ) (l : TraceLine) : Type 0 where
   text_is : text ≡ said ++ at
   stands : what ≡ Stands → place ≢ None
 
-placed_read : (t said : List ℕ) (what : Announcement) (rest : Option (List ℕ)) (text : List ℕ) (l : TraceLine) → SpellsSaid said what → text ≡ said ++ tail rest → placed t what (place_part rest) ≡ Some l → IsAnnounced t text l
+placed_read : (t said : List ℕ) (what : Announcement) (rest : Option (List ℕ)) (text : List ℕ) (l : TraceLine) → SpellsSaid said what → text ≡ said ++ tail rest → placed_said t what (place_part rest) ≡ Some l → IsAnnounced t text l
 placed_read t said what rest text l spells is e = by_place (place_part rest) refl e
   where
-    by_place : (o : Option (Option (List ℕ))) → place_part rest ≡ o → placed t what o ≡ Some l → IsAnnounced t text l
+    by_place : (o : Option (Option (List ℕ))) → place_part rest ≡ o → placed_said t what o ≡ Some l → IsAnnounced t text l
     by_place None place f = absurd (cc)
     by_place (Some None) place f =
         elim (chosen (says_nothing what) None (Some (Announces t what None)) (Some l) f) [
@@ -117,18 +117,18 @@ says_nothing_is (Waits p n) e = absurd (cc)
 says_nothing_is Goes e = absurd (cc)
 says_nothing_is Ends e = absurd (cc)
 
-placed_again : (t : List ℕ) (what : Announcement) (raw place : Option (List ℕ)) → option_map kept_place raw ≡ place → (what ≡ Stands → place ≢ None) → placed t what (Some raw) ≡ Some (Announces t what place)
+placed_again : (t : List ℕ) (what : Announcement) (raw place : Option (List ℕ)) → option_map kept_place raw ≡ place → (what ≡ Stands → place ≢ None) → placed_said t what (Some raw) ≡ Some (Announces t what place)
 placed_again t what None place is stands =
     cond-false (says_nothing what) None (Some (Announces t what None)) (elim (cases_Bool (says_nothing what)) [ inl nothing ↦ absurd (stands (says_nothing_is what nothing) (sym is)) | inr off ↦ off ])
     ∙ ap (λ p. Some (Announces t what p)) is
 placed_again t what (Some raw) place is stands = ap (λ p. Some (Announces t what p)) is
 
-pub announced_again : (t said at : List ℕ) (what : Announcement) (place : Option (List ℕ)) → SpellsSaid said what → SpellsPlace at place → (what ≡ Stands → place ≢ None) → announced t (said_part (first_word (said ++ at)) (behind_word (said ++ at))) ≡ Some (Announces t what place)
+pub announced_again : (t said at : List ℕ) (what : Announcement) (place : Option (List ℕ)) → SpellsSaid said what → SpellsPlace at place → (what ≡ Stands → place ≢ None) → announced t (said_part (word_before_space (said ++ at)) (behind_word (said ++ at))) ≡ Some (Announces t what place)
 announced_again t said at what place spells places stands =
     let p = place_again at place places in
-    ap (λ k. announced t (said_part (first_word (said ++ k)) (behind_word (said ++ k)))) p.2
+    ap (λ k. announced t (said_part (word_before_space (said ++ k)) (behind_word (said ++ k)))) p.2
     ∙ ap (announced t) (said_again what said p.0 spells)
-    ∙ ap (placed t what) p.3
+    ∙ ap (placed_said t what) p.3
     ∙ placed_again t what p.1 place p.4 stands
 
 -- a name, and what stands behind its space
@@ -157,10 +157,10 @@ verb_read t verb rest l name may e =
     played : (o : Option (List ℕ)) → verb ≡ codes "of" → played_by t o ≡ Some l → SpellsLine (t ++ 32 ∷ (verb ++ tail o)) l
     played None is f = absurd (cc)
     played (Some names) is f =
-        elim (chosen (are_names (words_of names)) (Some (PlaysOneOf t (words_of names))) None (Some l) f) [
+        elim (chosen (are_names (spaced_words names)) (Some (PlaysOneOf t (spaced_words names))) None (Some l) f) [
           | inl on ↦
-              (let are = names_are (words_of names) on.0 in
-              subst (SpellsLine (t ++ 32 ∷ (verb ++ 32 ∷ names))) (same_Some (PlaysOneOf t (words_of names)) l on.1) (
+              (let are = names_are (spaced_words names) on.0 in
+              subst (SpellsLine (t ++ 32 ∷ (verb ++ 32 ∷ names))) (same_Some (PlaysOneOf t (spaced_words names)) l on.1) (
                 name,
                 (λ none. absurd (let w = words_read names in let v = ap spaced none in cc)),
                 are.0,
@@ -199,22 +199,22 @@ gone_read bytes None l is name e =
       | inr off ↦ absurd (let f = off.1 in cc)
     ]
 gone_read bytes (Some rest) l is name e =
-    elim (chosen (is_one_word_verb (first_word bytes)) None (verb_line (codes "gone") (first_word bytes) (Some rest)) (Some l) e) [
+    elim (chosen (is_one_word_verb (word_before_space bytes)) None (verb_line (codes "gone") (word_before_space bytes) (Some rest)) (Some l) e) [
       | inl one ↦ absurd (let f = one.1 in cc)
       | inr more ↦
           subst (λ k. SpellsLine (codes "gone" ++ 32 ∷ k) l) (sym whole)
-          (verb_read (codes "gone") (first_word bytes) (Some rest) l name
+          (verb_read (codes "gone") (word_before_space bytes) (Some rest) l name
           (record { any = λ none. absurd (cc); one = λ what said at place spells places text gone one. not_one what said at place spells places text one more.0 }) more.1)
     ]
   where
-    whole : bytes ≡ first_word bytes ++ tail (Some rest)
-    whole = cut bytes ∙ ap (λ o. first_word bytes ++ tail o) is
+    whole : bytes ≡ word_before_space bytes ++ tail (Some rest)
+    whole = cut bytes ∙ ap (λ o. word_before_space bytes ++ tail o) is
 
-    not_one : (what : Announcement) (said at : List ℕ) (place : Option (List ℕ)) → SpellsSaid said what → SpellsPlace at place → first_word bytes ++ tail (Some rest) ≡ said ++ at → IsOneWord what → is_one_word_verb (first_word bytes) ≡ false → ⊥
+    not_one : (what : Announcement) (said at : List ℕ) (place : Option (List ℕ)) → SpellsSaid said what → SpellsPlace at place → word_before_space bytes ++ tail (Some rest) ≡ said ++ at → IsOneWord what → is_one_word_verb (word_before_space bytes) ≡ false → ⊥
     not_one what said at place spells places text one off =
         let w = one_word_is what said spells one in
         let p = place_again at place places in
-        let same : first_word bytes ≡ said = ap first_word (whole ∙ text ∙ ap (λ k. said ++ k) p.2) ∙ word_first said p.0 w.1 in
+        let same : word_before_space bytes ≡ said = ap word_before_space (whole ∙ text ∙ ap (λ k. said ++ k) p.2) ∙ word_first said p.0 w.1 in
         let f = ap is_one_word_verb same in let g = w.0 in cc
 
 named_read : (t bytes : List ℕ) (l : TraceLine) → named_line t bytes ≡ Some l → SpellsLine (t ++ 32 ∷ bytes) l
@@ -223,13 +223,13 @@ named_read t bytes l e =
       | inl none ↦ absurd (let f = none.1 in cc)
       | inr named ↦
           (let name : is_participant_name t ≡ true = not-false (is_participant_name t) named.0 in
-          elim (chosen (bytes_eq t (codes "gone")) (gone_line bytes (behind_word bytes)) (verb_line t (first_word bytes) (behind_word bytes)) (Some l) named.1) [
+          elim (chosen (bytes_eq t (codes "gone")) (gone_line bytes (behind_word bytes)) (verb_line t (word_before_space bytes) (behind_word bytes)) (Some l) named.1) [
             | inl gone ↦
                 (let is = is_name t (codes "gone") gone.0 in
                 subst (λ k. SpellsLine (k ++ 32 ∷ bytes) l) (sym is) (gone_read bytes (behind_word bytes) l refl (ap is_participant_name (sym is) ∙ name) gone.1))
             | inr other ↦
                 subst (λ k. SpellsLine (t ++ 32 ∷ k) l) (sym (cut bytes))
-                (verb_read t (first_word bytes) (behind_word bytes) l name
+                (verb_read t (word_before_space bytes) (behind_word bytes) l name
                 (record { any = λ none is. not_gone is other.0; one = λ what said at place spells places text is one. not_gone is other.0 }) other.1)
           ])
     ]
@@ -246,9 +246,9 @@ worded_read bytes None l is e =
         | inr none ↦ absurd (let f = none.1 in cc)
       ]
     ]
-worded_read bytes (Some rest) l is e = subst (λ k. SpellsLine k l) (sym (cut bytes ∙ ap (λ o. first_word bytes ++ tail o) is)) (named_read (first_word bytes) rest l e)
+worded_read bytes (Some rest) l is e = subst (λ k. SpellsLine k l) (sym (cut bytes ∙ ap (λ o. word_before_space bytes ++ tail o) is)) (named_read (word_before_space bytes) rest l e)
 
-pub line_read : (bytes : List ℕ) (l : TraceLine) → line_at bytes ≡ Some l → IsLine bytes l
+pub line_read : (bytes : List ℕ) (l : TraceLine) → trace_line_at bytes ≡ Some l → IsLine bytes l
 line_read bytes l e =
     elim (chosen (nat_lt most_line_bytes (length bytes)) None _ (Some l) e) [
       | inl long ↦ absurd (let f = long.1 in cc)

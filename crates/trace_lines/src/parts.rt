@@ -6,7 +6,7 @@ ghost use Rattle.trace_lines.specs.Values.{said_value};
 ghost use Rattle.trace_lines.specs.inside.Reading.{is_one_word_verb, is_place, number_part, phase_part, phaser_part, place_part, said_part, says_nothing};
 
 use crate::Announcement;
-use crate::words::{behind_word, first_word, is_phaser_name, number};
+use crate::words::{behind_word, is_phaser_name, number, word_before_space};
 
 // The name of a phaser.
 #[tactic(auto, unfolding(crate::specs::inside::Reading::phaser_part))]
@@ -14,7 +14,7 @@ fn phaser_part(rest: Option<&[u8]>) -> Option<(&[u8], Option<&[u8]>)>
     ensures { option_map (λ x. (x.0.now, option_copied x.1)) result ≡ phaser_part (option_copied rest.entry) }
 {
     let bytes = rest?;
-    let word = first_word(bytes);
+    let word = word_before_space(bytes);
     if is_phaser_name(word) {
         Some((word, behind_word(bytes)))
     } else {
@@ -28,7 +28,7 @@ fn number_part(rest: Option<&[u8]>) -> Option<(u32, Option<&[u8]>)>
     ensures { option_map (λ x. (x.0, option_copied x.1)) result ≡ number_part (option_copied rest.entry) }
 {
     let bytes = rest?;
-    let n = number(first_word(bytes))?;
+    let n = number(word_before_space(bytes))?;
     Some((n, behind_word(bytes)))
 }
 

@@ -4,20 +4,24 @@ ghost use Rattle.std.specs.Option.{option_copied, option_map};
 ghost use Rattle.monitor_laws.specs.Lines.{TraceLine as Line};
 ghost use Rattle.trace_lines.specs.Grammar.{IsLine};
 ghost use Rattle.trace_lines.specs.Values.{line_value, said_value};
-ghost use Rattle.trace_lines.specs.inside.Reading.{announced, gone_line, line_at, named_line, place_part, placed, said_part, short_line, behind_word, verb_line, worded_line};
+ghost use Rattle.trace_lines.specs.inside.Reading.{announced, gone_line, trace_line_at, named_line, place_part, placed_said, said_part, short_line, behind_word, verb_line, worded_line};
 
 use crate::names::are_names;
 use crate::parts::{is_one_word_verb, place_part, said_part, says_nothing};
-use crate::words::{behind_word, first_word, is_participant_name};
+use crate::words::{behind_word, is_participant_name, word_before_space};
 use crate::{Announcement, TraceLine};
 
 // How many bytes a line has at most, its LF not counted.
 const MOST_LINE_BYTES: usize = 511;
 
 // What is said of t, with the place that stands behind it.
-#[tactic(auto, unfolding(crate::specs::inside::Reading::placed))]
-fn placed<'a>(t: &'a [u8], what: Announcement<'a>, rest: Option<&'a [u8]>) -> Option<TraceLine<'a>>
-    ensures { option_map line_value result ≡ placed t.now (said_value what.entry) (place_part (option_copied rest.entry)) }
+#[tactic(auto, unfolding(crate::specs::inside::Reading::placed_said))]
+fn placed_said<'a>(
+    t: &'a [u8],
+    what: Announcement<'a>,
+    rest: Option<&'a [u8]>,
+) -> Option<TraceLine<'a>>
+    ensures { option_map line_value result ≡ placed_said t.now (said_value what.entry) (place_part (option_copied rest.entry)) }
 {
     match place_part(rest)? {
         None => {
@@ -37,7 +41,7 @@ fn announced<'a>(t: &'a [u8], verb: &[u8], rest: Option<&'a [u8]>) -> Option<Tra
     ensures { option_map line_value result ≡ announced t.now (said_part verb.now (option_copied rest.entry)) }
 {
     let (what, rest) = said_part(verb, rest)?;
-    placed(t, what, rest)
+    placed_said(t, what, rest)
 }
 
 // A line with the name t, a verb and what stands behind it.
@@ -74,7 +78,7 @@ fn gone_line<'a>(gone: &'a [u8], bytes: &'a [u8]) -> Option<TraceLine<'a>>
         }
         return None;
     }
-    let verb = first_word(bytes);
+    let verb = word_before_space(bytes);
     if is_one_word_verb(verb) {
         return None;
     }
@@ -92,7 +96,7 @@ fn named_line<'a>(t: &'a [u8], bytes: &'a [u8]) -> Option<TraceLine<'a>>
     if t == b"gone".as_slice() {
         return gone_line(t, bytes);
     }
-    verb_line(t, first_word(bytes), behind_word(bytes))
+    verb_line(t, word_before_space(bytes), behind_word(bytes))
 }
 
 // A line of one word.
@@ -116,14 +120,14 @@ fn worded_line(bytes: &[u8]) -> Option<TraceLine<'_>>
 {
     match behind_word(bytes) {
         None => short_line(bytes),
-        Some(rest) => named_line(first_word(bytes), rest),
+        Some(rest) => named_line(word_before_space(bytes), rest),
     }
 }
 
 // What a line says, if it is one.
-#[tactic(auto, unfolding(crate::specs::inside::Reading::line_at))]
-fn line_at(bytes: &[u8]) -> Option<TraceLine<'_>>
-    ensures { option_map line_value result ≡ line_at bytes.now }
+#[tactic(auto, unfolding(crate::specs::inside::Reading::trace_line_at))]
+fn trace_line_at(bytes: &[u8]) -> Option<TraceLine<'_>>
+    ensures { option_map line_value result ≡ trace_line_at bytes.now }
 {
     if bytes.len() > MOST_LINE_BYTES {
         return None;
@@ -139,7 +143,7 @@ pub fn read_line(bytes: &[u8]) -> Option<TraceLine<'_>>
     ensures read { IfSome result (λ l. IsLine bytes.now (line_value l)) }
     ensures none { IfNone result ((l : Line) → IsLine bytes.now l → ⊥) }
 {
-    line_at(bytes)
+    trace_line_at(bytes)
 }
 
 /// The bytes of a line spell one line at most.

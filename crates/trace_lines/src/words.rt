@@ -3,7 +3,7 @@ ghost use Rattle.std.specs.Prelude.{◌≡◌, ◌<◌, ◌≤◌, ◌^◌, ◌&
 ghost use Rattle.std.specs.List.{list_all, position_or_len};
 ghost use Rattle.std.specs.Option.{option_copied};
 ghost use Rattle.trace_lines.specs.Grammar.{is_participant_name, is_phaser_name, is_word};
-ghost use Rattle.trace_lines.specs.inside.Reading.{are_digits, behind_word, first_word, is_space, may_be_number, number_at};
+ghost use Rattle.trace_lines.specs.inside.Reading.{are_digits, behind_word, word_before_space, is_space, may_be_number, phase_number_at};
 
 use std::str;
 
@@ -21,9 +21,9 @@ fn space_at(bytes: &[u8]) -> usize
 }
 
 /// The first word.
-#[tactic(auto, unfolding(crate::specs::inside::Reading::first_word))]
-pub(crate) fn first_word(bytes: &[u8]) -> &[u8]
-    ensures { result.now ≡ first_word bytes.now }
+#[tactic(auto, unfolding(crate::specs::inside::Reading::word_before_space))]
+pub(crate) fn word_before_space(bytes: &[u8]) -> &[u8]
+    ensures { result.now ≡ word_before_space bytes.now }
 {
     &bytes[..space_at(bytes)]
 }
@@ -101,7 +101,7 @@ fn may_be_number(word: &[u8]) -> bool
 /// The number below 2 ^ 32 whose digits these are, without a leading zero.
 #[tactic(auto, using(crate::proofs::Numbers::number_is, crate::proofs::Numbers::number_is_none))]
 pub(crate) fn number(word: &[u8]) -> Option<u32>
-    ensures { result ≡ number_at word.now }
+    ensures { result ≡ phase_number_at word.now }
 {
     if !may_be_number(word) {
         return None;

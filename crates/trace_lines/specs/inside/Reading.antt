@@ -9,8 +9,8 @@ abbrev pub is_space : ℕ → Bool
 is_space b = b == 32
 
 -- the first word, and what stands behind its space
-abbrev pub first_word : List ℕ → List ℕ
-first_word bytes = before_first is_space bytes
+abbrev pub word_before_space : List ℕ → List ℕ
+word_before_space bytes = before_first is_space bytes
 
 abbrev pub behind_word : List ℕ → Option (List ℕ)
 behind_word bytes = if nat_lt (position_or_len is_space bytes) (length bytes) then Some (after_first is_space bytes) else None
@@ -23,11 +23,11 @@ abbrev pub may_be_number : List ℕ → Bool
 may_be_number bytes = nat_le 1 (length bytes) && nat_le (length bytes) 10 && (length bytes == 1 || not (slice_index bytes 0 == 48)) && are_digits bytes
 
 -- the number below 2 ^ 32 whose digits they are
-abbrev pub is_number : List ℕ → Bool
-is_number bytes = may_be_number bytes && nat_lt (digits_value 10 bytes) (2 ^ 32)
+abbrev pub is_phase_number : List ℕ → Bool
+is_phase_number bytes = may_be_number bytes && nat_lt (digits_value 10 bytes) (2 ^ 32)
 
-abbrev pub number_at : List ℕ → Option ℕ
-number_at bytes = if is_number bytes then Some (digits_value 10 bytes) else None
+abbrev pub phase_number_at : List ℕ → Option ℕ
+phase_number_at bytes = if is_phase_number bytes then Some (digits_value 10 bytes) else None
 
 -- what is read of a line, and what stands behind it
 abbrev pub Part : Type 0 → Type 0
@@ -36,7 +36,7 @@ Part A = Option (A × Option (List ℕ))
 -- the name of a phaser
 abbrev pub phaser_part : Option (List ℕ) → Part (List ℕ)
 phaser_part None = None
-phaser_part (Some bytes) = if is_phaser_name (first_word bytes) then Some (first_word bytes, behind_word bytes) else None
+phaser_part (Some bytes) = if is_phaser_name (word_before_space bytes) then Some (word_before_space bytes, behind_word bytes) else None
 
 -- a number
 abbrev pub number_before : Option (List ℕ) → Option ℕ → Part ℕ
@@ -45,32 +45,32 @@ number_before rest (Some n) = Some (n, rest)
 
 abbrev pub number_part : Option (List ℕ) → Part ℕ
 number_part None = None
-number_part (Some bytes) = number_before (behind_word bytes) (number_at (first_word bytes))
+number_part (Some bytes) = number_before (behind_word bytes) (phase_number_at (word_before_space bytes))
 
 -- the name of a phaser and a number
-abbrev pub numbered : List ℕ → Part ℕ → Part (List ℕ × ℕ)
-numbered p None = None
-numbered p (Some part) = Some ((p, part.0), part.1)
+abbrev pub joined_number : List ℕ → Part ℕ → Part (List ℕ × ℕ)
+joined_number p None = None
+joined_number p (Some part) = Some ((p, part.0), part.1)
 
 abbrev pub phase_behind : Part (List ℕ) → Part (List ℕ × ℕ)
 phase_behind None = None
-phase_behind (Some part) = numbered part.0 (number_part part.1)
+phase_behind (Some part) = joined_number part.0 (number_part part.1)
 
 abbrev pub phase_part : Option (List ℕ) → Part (List ℕ × ℕ)
 phase_part rest = phase_behind (phaser_part rest)
 
 -- what is said, of these parts
-abbrev pub said_of : {A : Type 0} → (A → Announcement) → Part A → Part Announcement
-said_of what None = None
-said_of what (Some part) = Some (what part.0, part.1)
+abbrev pub said_with : {A : Type 0} → (A → Announcement) → Part A → Part Announcement
+said_with what None = None
+said_with what (Some part) = Some (what part.0, part.1)
 
 -- what a verb and the words behind it say
 abbrev pub said_part : List ℕ → Option (List ℕ) → Part Announcement
 said_part verb rest =
-    if bytes_eq verb (codes "join") then said_of (λ m. Joins m.0 m.1) (phase_part rest)
-    else if bytes_eq verb (codes "wait") then said_of (λ m. Waits m.0 m.1) (phase_part rest)
-    else if bytes_eq verb (codes "arrive") then said_of Arrives (phaser_part rest)
-    else if bytes_eq verb (codes "leave") then said_of Leaves (phaser_part rest)
+    if bytes_eq verb (codes "join") then said_with (λ m. Joins m.0 m.1) (phase_part rest)
+    else if bytes_eq verb (codes "wait") then said_with (λ m. Waits m.0 m.1) (phase_part rest)
+    else if bytes_eq verb (codes "arrive") then said_with Arrives (phaser_part rest)
+    else if bytes_eq verb (codes "leave") then said_with Leaves (phaser_part rest)
     else if bytes_eq verb (codes "go") then Some (Goes, rest)
     else if bytes_eq verb (codes "end") then Some (Ends, rest)
     else if bytes_eq verb (codes "at") then Some (Stands, rest)
@@ -97,27 +97,27 @@ says_nothing Goes = false
 says_nothing Ends = false
 says_nothing Stands = true
 
-abbrev pub placed : List ℕ → Announcement → Option (Option (List ℕ)) → Option TraceLine
-placed t what None = None
-placed t what (Some None) = if says_nothing what then None else Some (Announces t what None)
-placed t what (Some (Some raw)) = Some (Announces t what (Some (kept_place raw)))
+abbrev pub placed_said : List ℕ → Announcement → Option (Option (List ℕ)) → Option TraceLine
+placed_said t what None = None
+placed_said t what (Some None) = if says_nothing what then None else Some (Announces t what None)
+placed_said t what (Some (Some raw)) = Some (Announces t what (Some (kept_place raw)))
 
 abbrev pub announced : List ℕ → Part Announcement → Option TraceLine
 announced t None = None
-announced t (Some part) = placed t part.0 (place_part part.1)
+announced t (Some part) = placed_said t part.0 (place_part part.1)
 
 -- the names behind `of`: each is one, and no two are the same
 abbrev pub are_names : List (List ℕ) → Bool
 are_names [] = true
 are_names (t ∷ names) = is_participant_name t && not (list_any (bytes_eq t) names) && are_names names
 
-abbrev pub words_of : List ℕ → List (List ℕ)
-words_of bytes = slice_split is_space bytes
+abbrev pub spaced_words : List ℕ → List (List ℕ)
+spaced_words bytes = slice_split is_space bytes
 
 -- the words that are left
 abbrev pub words_behind : Option (List ℕ) → List (List ℕ)
 words_behind None = []
-words_behind (Some bytes) = words_of bytes
+words_behind (Some bytes) = spaced_words bytes
 
 -- how many bytes are left, one more where some may come
 abbrev pub bytes_left : Option (List ℕ) → ℕ
@@ -126,7 +126,7 @@ bytes_left (Some bytes) = length bytes + 1
 
 abbrev pub played_by : List ℕ → Option (List ℕ) → Option TraceLine
 played_by w None = None
-played_by w (Some bytes) = if are_names (words_of bytes) then Some (PlaysOneOf w (words_of bytes)) else None
+played_by w (Some bytes) = if are_names (spaced_words bytes) then Some (PlaysOneOf w (spaced_words bytes)) else None
 
 -- a name, a verb and what stands behind it
 abbrev pub any_line : List ℕ → Option (List ℕ) → Option TraceLine
@@ -145,13 +145,13 @@ is_one_word_verb verb = bytes_eq verb (codes "go") || bytes_eq verb (codes "end"
 
 abbrev pub gone_line : List ℕ → Option (List ℕ) → Option TraceLine
 gone_line bytes None = if is_participant_name bytes then Some (AreGone bytes) else None
-gone_line bytes (Some rest) = if is_one_word_verb (first_word bytes) then None else verb_line (codes "gone") (first_word bytes) (Some rest)
+gone_line bytes (Some rest) = if is_one_word_verb (word_before_space bytes) then None else verb_line (codes "gone") (word_before_space bytes) (Some rest)
 
 abbrev pub named_line : List ℕ → List ℕ → Option TraceLine
 named_line t bytes =
     if not (is_participant_name t) then None
     else if bytes_eq t (codes "gone") then gone_line bytes (behind_word bytes)
-    else verb_line t (first_word bytes) (behind_word bytes)
+    else verb_line t (word_before_space bytes) (behind_word bytes)
 
 -- a line of one word
 abbrev pub short_line : List ℕ → Option TraceLine
@@ -162,11 +162,11 @@ short_line bytes =
 
 abbrev pub worded_line : List ℕ → Option (List ℕ) → Option TraceLine
 worded_line bytes None = short_line bytes
-worded_line bytes (Some rest) = named_line (first_word bytes) rest
+worded_line bytes (Some rest) = named_line (word_before_space bytes) rest
 
 -- a line
-abbrev pub line_at : List ℕ → Option TraceLine
-line_at bytes =
+abbrev pub trace_line_at : List ℕ → Option TraceLine
+trace_line_at bytes =
     if nat_lt most_line_bytes (length bytes) then None
     else if length bytes == 0 || slice_index bytes 0 == 35 then Some SaysNothing
     else worded_line bytes (behind_word bytes)
