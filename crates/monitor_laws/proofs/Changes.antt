@@ -1,11 +1,11 @@
 -- What stands in the list after a change.
-use Rattle.std.proofs.Common.{◌≡◌, ℕ, ◌<◌, ◌+◌, Bool, true, false, Some, None, Option, List, [], ◌∷◌, ◌++◌, refl, sym, ◌∙◌, ap, subst, inl, inr, ◌⊎◌, arith}
-use Rattle.std.specs.Prelude.{Contains, filter, map, if◌then◌else◌}
+use Rattle.std.proofs.Common.{◌≡◌, ℕ, ◌+◌, true, false, List, [], ◌∷◌, ◌++◌, sym, ap, subst, inl, inr, ◌⊎◌}
+use Rattle.std.specs.Prelude.{Contains, map, if◌then◌else◌}
 use Rattle.std.specs.List.{list_any}
 use Rattle.std.proofs.lemmas.Bool.{cases_Bool, cond-true, cond-false}
-use Rattle.std.proofs.lemmas.List.Elements.{Contains-append_cases, Contains-append_left, Contains-append_right}
-use Rattle.armus_base.proofs.Elements.{Contains-cons_cases, Contains-head, nothing_in_nil, in_map, from_map}
-use Rattle.monitor_laws.specs.States.{Participant, TraceState, changed_at, changed_by, is_there_as, new_participant, stays_listed, with_named}
+use Rattle.std.proofs.lemmas.List.Elements.{Contains-append_cases, Contains-append_left}
+use Rattle.armus_base.proofs.Elements.{Contains-cons_cases, nothing_in_nil, in_map, from_map}
+use Rattle.monitor_laws.specs.States.{Participant, TraceState, changed_by, is_there_as, new_participant, stays_listed, with_named}
 use Rattle.monitor_laws.proofs.Filters.{from_filter, in_filter}
 
 -- who is there with the name is changed

@@ -1,14 +1,12 @@
 -- Where nobody has ended and there is no wildcard, stuck is deadlocked.
-use Rattle.std.proofs.Common.{◌≡◌, ℕ, ◌<◌, Bool, true, false, ◌&&◌, ◌||◌, Some, None, Option, List, [], ◌∷◌, refl, sym, ◌∙◌, ap, subst, inl, inr, ◌⊎◌, arith}
+use Rattle.std.proofs.Common.{◌≡◌, ℕ, Bool, true, ◌&&◌, ◌||◌, List, refl, sym, ◌∙◌, ap, subst, inl, inr, arith}
 use Rattle.std.specs.Prelude.{Contains, eqb}
 use Rattle.std.specs.List.{list_any}
 use Rattle.std.proofs.lemmas.Bool.{and_from, and_parts, eq-eqb, eqb-true, or_cases, or_left, or_right}
 use Rattle.armus_base.specs.Deadlocks.{IsDead, IsImpededWithin}
-use Rattle.armus_base.specs.declared.event.Event.{Event}
-use Rattle.monitor_laws.specs.Lines.{TraceLine}
 use Rattle.monitor_laws.specs.States.{Condition, Running, Waiting, Ended, AnyTask, OneOf, Participant, TraceState, after_lines, is_live_task}
 use Rattle.monitor_laws.specs.Faults.{phase_on}
-use Rattle.monitor_laws.specs.Stuck.{IsClosedSet, IsKeptIn, IsStuck, has_phase_below}
+use Rattle.monitor_laws.specs.Stuck.{IsClosedSet, IsKeptIn, IsStuck}
 use Rattle.monitor_laws.specs.DeadlockLaws.{AwaitsByNumber, HasPhaseByNumber, StuckIsDeadlocked, UnionsAreClosed}
 use Rattle.monitor_laws.proofs.Filters.{any_from, any_is}
 use Rattle.monitor_laws.proofs.Lawful.{lawful_lines}

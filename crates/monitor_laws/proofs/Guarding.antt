@@ -1,14 +1,13 @@
 -- With the guard no wait makes anybody stuck.
-use Rattle.std.proofs.Common.{◌≡◌, ℕ, ◌<◌, ◌+◌, Bool, true, false, ◌&&◌, ◌||◌, not, Some, None, Option, List, [], ◌∷◌, ◌++◌, refl, sym, ◌∙◌, ap, subst, inl, inr, ◌⊎◌, arith}
-use Rattle.std.specs.Prelude.{Contains, bytes_eq, length, ◌==◌}
-use Rattle.std.proofs.lemmas.Bool.{cases_Bool, and_from, and_parts}
+use Rattle.std.proofs.Common.{◌≡◌, ℕ, Bool, true, ◌||◌, not, Option, List, [], ◌∷◌, refl, sym, ◌∙◌, ap, subst, inl, inr}
+use Rattle.std.specs.Prelude.{Contains, length, ◌==◌}
+use Rattle.std.proofs.lemmas.Bool.{cases_Bool}
 use Rattle.std.proofs.lemmas.Slice.Eq.{bytes_eq-Decides}
-use Rattle.monitor_laws.specs.Lines.{Announcement, Waits, Stands, TraceLine, Announces}
-use Rattle.monitor_laws.specs.States.{Condition, Running, Waiting, Ended, AnyTask, OneOf, Participant, TraceState, after_line, after_lines, announced_by, is_live_task, is_live_wildcard, is_there_as, new_participant, placed_at, stays_listed, with_named}
+use Rattle.monitor_laws.specs.Lines.{Waits, Stands, TraceLine, Announces}
+use Rattle.monitor_laws.specs.States.{Condition, Running, Waiting, Ended, AnyTask, OneOf, Participant, TraceState, after_line, after_lines, announced_by, is_live_task, is_live_wildcard, is_there_as, placed_at, stays_listed, with_named}
 use Rattle.monitor_laws.specs.Faults.{faults_of}
-use Rattle.monitor_laws.specs.Stuck.{IsClosedSet, IsKeptIn, IsStuck, has_phase_below}
-use Rattle.monitor_laws.specs.Traces.{IsLegalTrace}
-use Rattle.monitor_laws.specs.Guards.{IsGuarded, IsRefusedWait, IsTakenAs}
+use Rattle.monitor_laws.specs.Stuck.{IsClosedSet, IsKeptIn, IsStuck}
+use Rattle.monitor_laws.specs.Guards.{IsRefusedWait, IsTakenAs}
 use Rattle.monitor_laws.specs.Laws.{GuardedIsLegal, NoWaitMakesStuck}
 use Rattle.monitor_laws.proofs.Changes.{changed_there, from_change, from_named, in_change, in_named, other_is, there_is}
 use Rattle.monitor_laws.proofs.Lawful.{IsLawfulState, lawful_lines, placed_condition, placed_name, placed_number}

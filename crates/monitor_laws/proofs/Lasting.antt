@@ -1,15 +1,15 @@
 -- What makes a trace lasting.
-use Rattle.std.proofs.Common.{◌≡◌, ℕ, ◌<◌, ◌≤◌, ◌+◌, Bool, true, false, Some, None, Option, List, [], ◌∷◌, ◌++◌, refl, sym, ◌∙◌, ap, subst, inl, inr, ◌⊎◌, arith}
+use Rattle.std.proofs.Common.{◌≡◌, ℕ, ◌≤◌, true, false, Some, Option, List, [], ◌∷◌, refl, sym, ◌∙◌, ap, inl, inr, ◌⊎◌, arith}
 use Rattle.std.specs.Prelude.{Contains, bytes_eq, eqb}
 use Rattle.std.specs.List.{starts_with}
 use Rattle.std.specs.Map.{lookup}
 use Rattle.std.proofs.lemmas.Bool.{cases_Bool, cond-true, cond-false}
 use Rattle.armus_base.proofs.Elements.{Contains-head, Contains-tail, nothing_in_nil}
 use Rattle.monitor_laws.specs.Lines.{Announcement, Joins, Arrives, Leaves, Waits, Goes, Ends, Stands, TraceLine, SaysNothing, AsksReport, AsksList, AreGone, Announces, PlaysAny, PlaysOneOf}
-use Rattle.monitor_laws.specs.States.{Condition, Running, Waiting, Ended, AnyTask, OneOf, Participant, TraceState, after_line, after_lines, announced_by, changed_at, gone_by, is_live_wildcard, is_there_as, new_participant, placed_at, with_named, task_numbers}
+use Rattle.monitor_laws.specs.States.{Waiting, Ended, AnyTask, OneOf, Participant, TraceState, after_line, after_lines, announced_by, changed_at, gone_by, is_live_wildcard, is_there_as, placed_at, with_named, task_numbers}
 use Rattle.monitor_laws.specs.Faults.{phase_on}
-use Rattle.monitor_laws.specs.Stuck.{WaitsForPhase, has_phase_below}
-use Rattle.monitor_laws.specs.Traces.{EndsWait, HasOrderedJoins, HasTrueGoes, IsLasting, IsOfPhaser, JoinsAt, NobodyIsBelow, WasPassed}
+use Rattle.monitor_laws.specs.Stuck.{has_phase_below}
+use Rattle.monitor_laws.specs.Traces.{IsLasting, IsOfPhaser, JoinsAt, NobodyIsBelow, WasPassed}
 use Rattle.monitor_laws.specs.Laws.{TrueAndOrderedLasts}
 use Rattle.monitor_laws.proofs.Changes.{changed_there, from_change, from_named, other_is, there_is}
 use Rattle.monitor_laws.proofs.Lawful.{placed_condition, placed_phases}

@@ -1,14 +1,14 @@
 -- What holds of every state that lines lead to.
-use Rattle.std.proofs.Common.{◌≡◌, ◌≢◌, ℕ, ◌<◌, ◌≤◌, ◌+◌, Bool, true, false, ◌&&◌, ◌||◌, Some, None, Option, List, [], ◌∷◌, ◌++◌, refl, sym, ◌∙◌, ap, subst, inl, inr, ◌⊎◌, arith}
-use Rattle.std.specs.Prelude.{Contains, filter, map, if◌then◌else◌, bytes_eq, eqb}
+use Rattle.std.proofs.Common.{◌≡◌, ℕ, ◌<◌, ◌≤◌, ◌+◌, true, false, ◌&&◌, ◌||◌, Some, None, Option, List, [], ◌∷◌, ◌++◌, refl, sym, ◌∙◌, ap, subst, inl, inr, ◌⊎◌, arith}
+use Rattle.std.specs.Prelude.{Contains, filter, bytes_eq, eqb}
 use Rattle.std.specs.List.{list_any, starts_with}
 use Rattle.std.proofs.lemmas.Bool.{cases_Bool, and_parts, and_from, cond-true, cond-false}
 use Rattle.std.proofs.lemmas.Slice.Eq.{bytes_eq-Decides}
 use Rattle.armus_base.proofs.Elements.{from_map, nothing_in_nil}
 use Rattle.monitor_laws.specs.Lines.{Announcement, Joins, Arrives, Leaves, Waits, Goes, Ends, Stands, TraceLine, SaysNothing, AsksReport, AsksList, AreGone, Announces, PlaysAny, PlaysOneOf}
 use Rattle.monitor_laws.specs.States.{Condition, Running, Waiting, Ended, AnyTask, OneOf, Participant, TraceState, after_line, after_lines, announced_by, changed_at, changed_by, gone_by, is_live_task, is_live_wildcard, is_there_as, new_participant, task_numbers, placed_at, stays_listed, with_named}
-use Rattle.monitor_laws.proofs.Filters.{any_from, from_filter, none_passes}
-use Rattle.monitor_laws.proofs.Changes.{changed_there, from_change, from_named, in_named, named_grows, other_is, there_is}
+use Rattle.monitor_laws.proofs.Filters.{from_filter, none_passes}
+use Rattle.monitor_laws.proofs.Changes.{changed_there, from_change, from_named, named_grows, other_is, there_is}
 
 -- numbers are below the count and different, names of those who are there are different, and nobody is listed who does not stay
 pub record IsLawfulState (s : TraceState) : Type 0 where

@@ -1,5 +1,5 @@
 -- Whoever is stuck in a mix of first lines of a lasting trace has no more lines in that trace.
-use Rattle.std.proofs.Common.{◌≡◌, ℕ, ◌<◌, ◌≤◌, ◌+◌, Bool, true, false, ◌&&◌, ◌||◌, not, Some, None, Option, List, [], ◌∷◌, ◌++◌, length, refl, sym, ◌∙◌, ap, subst, inl, inr, ◌⊎◌, arith, append_assoc, length-append, drop}
+use Rattle.std.proofs.Common.{◌≡◌, ℕ, ◌<◌, ◌≤◌, Bool, true, false, ◌&&◌, ◌||◌, not, Option, List, [], ◌∷◌, ◌++◌, length, refl, sym, ◌∙◌, ap, subst, inl, inr, ◌⊎◌, arith, append_assoc, length-append, drop}
 use Rattle.std.specs.Prelude.{Contains, bytes_eq, eqb, filter, map}
 use Rattle.std.specs.List.{list_any}
 use Rattle.std.specs.Map.{lookup}
@@ -9,17 +9,17 @@ use Rattle.std.proofs.lemmas.List.Elements.{Contains-append_left}
 use Rattle.std.proofs.Math.Seq.{drop-append_seam}
 use Rattle.armus_base.proofs.Elements.{from_map, in_map, nothing_in_nil}
 use Rattle.monitor_laws.specs.Lines.{Announcement, Joins, Arrives, Leaves, Waits, Goes, Ends, Stands, TraceLine, SaysNothing, AsksReport, AsksList, AreGone, Announces, PlaysAny, PlaysOneOf}
-use Rattle.monitor_laws.specs.States.{Condition, Running, Waiting, Ended, AnyTask, OneOf, Participant, TraceState, after_line, after_lines, announced_by, changed_at, is_live_task, is_live_wildcard, is_there_as, new_participant, placed_at, stays_listed, with_named}
-use Rattle.monitor_laws.specs.Faults.{faults_of, is_go, participant_in, phase_on, waits_now}
+use Rattle.monitor_laws.specs.States.{Condition, Running, Waiting, Ended, AnyTask, OneOf, Participant, TraceState, after_lines, announced_by, is_live_task, is_live_wildcard, is_there_as, new_participant, placed_at, stays_listed, with_named}
+use Rattle.monitor_laws.specs.Faults.{faults_of, is_go, participant_in, waits_now}
 use Rattle.monitor_laws.specs.Stuck.{IsClosedSet, IsKeptIn, IsStuck, has_phase_below, is_phase_below}
 use Rattle.monitor_laws.specs.Traces.{HasNoWildcard, IsLasting, IsLegalTrace, IsMixedFrom, NobodyIsBelow, WasPassed, is_line_of}
 use Rattle.monitor_laws.specs.Laws.{own_list, unnumbered}
 use Rattle.monitor_laws.proofs.Changes.{changed_there, from_change, from_named, in_change, in_named, other_is, there_is}
 use Rattle.monitor_laws.proofs.Filters.{any_from, any_is, from_filter, in_filter}
-use Rattle.monitor_laws.proofs.Lawful.{IsLawfulState, lawful_lines, placed_condition, placed_phases}
+use Rattle.monitor_laws.proofs.Lawful.{lawful_lines, placed_condition, placed_phases}
 use Rattle.monitor_laws.proofs.Lasting.{lasting_now}
-use Rattle.monitor_laws.proofs.OwnLines.{kept, left_out, own_after, own_changed, own_lines, own_named}
-use Rattle.monitor_laws.proofs.Rows.{HasNoFault, has_no_fault, member_stays, name_is, named_is}
+use Rattle.monitor_laws.proofs.OwnLines.{kept, left_out, own_after, own_lines, own_named}
+use Rattle.monitor_laws.proofs.Rows.{has_no_fault, member_stays, name_is, named_is}
 
 -- two ends of one list that are of the same length
 pub same_end : {A : Type 0} (more later a b : List A) → more ++ a ≡ later ++ b → length a ≡ length b → a ≡ b

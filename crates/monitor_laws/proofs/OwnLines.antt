@@ -1,5 +1,5 @@
 -- The state of each name is made by its own lines alone.
-use Rattle.std.proofs.Common.{◌≡◌, ℕ, ◌+◌, Bool, true, false, ◌&&◌, ◌||◌, Some, None, Option, List, [], ◌∷◌, ◌++◌, refl, sym, ◌∙◌, ap, subst, inl, inr, ◌⊎◌}
+use Rattle.std.proofs.Common.{◌≡◌, ℕ, ◌+◌, Bool, true, false, ◌||◌, Some, None, Option, List, [], ◌∷◌, ◌++◌, refl, sym, ◌∙◌, ap, inl, inr, ◌⊎◌}
 use Rattle.std.specs.Prelude.{Contains, bytes_eq, filter, map, if◌then◌else◌}
 use Rattle.std.specs.List.{list_any}
 use Rattle.std.proofs.lemmas.Bool.{cases_Bool, and_parts, cond-true, cond-false}
@@ -9,11 +9,11 @@ use Rattle.std.proofs.lemmas.List.{map-append}
 use Rattle.std.proofs.lemmas.Slice.Eq.{bytes_eq-Decides}
 use Rattle.armus_base.proofs.Elements.{Contains-head, Contains-tail}
 use Rattle.monitor_laws.specs.Lines.{Announcement, Joins, Arrives, Leaves, Waits, Goes, Ends, Stands, TraceLine, SaysNothing, AsksReport, AsksList, AreGone, Announces, PlaysAny, PlaysOneOf}
-use Rattle.monitor_laws.specs.States.{Participant, TraceState, after_line, after_lines, announced_by, changed_at, is_live_task, is_live_wildcard, is_there_as, new_participant, nobody_named, placed_at, stays_listed, with_named}
-use Rattle.monitor_laws.specs.Traces.{HasNoWildcard, is_line_of, is_of_task}
+use Rattle.monitor_laws.specs.States.{Participant, TraceState, after_lines, announced_by, changed_at, is_live_task, is_live_wildcard, is_there_as, new_participant, placed_at, stays_listed, with_named}
+use Rattle.monitor_laws.specs.Traces.{HasNoWildcard, is_line_of}
 use Rattle.monitor_laws.specs.Laws.{SameLinesSameStates, own_list, unnumbered}
 use Rattle.monitor_laws.proofs.Changes.{changed_there, other_is}
-use Rattle.monitor_laws.proofs.Filters.{in_filter, from_filter}
+use Rattle.monitor_laws.proofs.Filters.{from_filter}
 use Rattle.monitor_laws.proofs.Lawful.{announced_name, lawful_lines, placed_name, IsLawfulState}
 
 -- filters and maps

@@ -1,13 +1,12 @@
 -- What follows where no row of the table of faults holds, and who is there with a name.
-use Rattle.std.proofs.Common.{◌≡◌, ℕ, ◌<◌, Bool, true, false, ◌&&◌, ◌||◌, not, Some, None, Option, List, [], ◌∷◌, ◌++◌, refl, sym, ◌∙◌, ap, subst, inl, inr, ◌⊎◌, arith}
-use Rattle.std.specs.Prelude.{Contains, find, if◌then◌else◌, bytes_eq, unwrap_or, length, ◌==◌, is_some, nat_le, nat_lt, map, filter}
-use Rattle.std.specs.List.{list_any}
+use Rattle.std.proofs.Common.{◌≡◌, ℕ, Bool, true, false, ◌&&◌, ◌||◌, not, Some, Option, List, [], ◌∷◌, ◌++◌, refl, sym, ◌∙◌, ap, inl, inr, ◌⊎◌, arith}
+use Rattle.std.specs.Prelude.{Contains, find, bytes_eq, unwrap_or, length, ◌==◌, is_some, nat_le, nat_lt, map, filter}
 use Rattle.std.specs.Map.{lookup}
 use Rattle.std.proofs.lemmas.Bool.{cases_Bool, and_parts, and_from, or_cases, or_right, not_from_false, ne_eqb, cond-true, cond-false}
 use Rattle.std.proofs.lemmas.Slice.Eq.{bytes_eq-Decides}
 use Rattle.armus_base.proofs.Elements.{Contains-cons_cases, Contains-head, Contains-tail, nothing_in_nil}
-use Rattle.monitor_laws.specs.Lines.{Announcement, Joins, Arrives, Leaves, Waits, Goes, Ends, Stands, Announces, PlaysOneOf}
-use Rattle.monitor_laws.specs.States.{Condition, Running, Waiting, Ended, AnyTask, OneOf, Participant, TraceState, after_line, is_live_task, is_live_wildcard, is_there_as, new_participant, stays_listed}
+use Rattle.monitor_laws.specs.Lines.{Announcement, Announces, PlaysOneOf}
+use Rattle.monitor_laws.specs.States.{Participant, TraceState, after_line, is_live_task, is_live_wildcard, is_there_as, new_participant, stays_listed}
 use Rattle.monitor_laws.specs.Faults.{LineFault, NamesTask, NamesWildcard, StillWaits, TooManyListed, TooManyMemberships, fault_where, faults_of, has_no_room, is_go, is_join, is_of_tasks, is_task_in, is_wildcard_in, memberships_in, most_memberships, participant_in, said_faults, waits_now}
 use Rattle.monitor_laws.specs.Stuck.{has_phase_below, is_phase_below}
 use Rattle.monitor_laws.proofs.Filters.{any_from}

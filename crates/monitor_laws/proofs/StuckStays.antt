@@ -1,6 +1,6 @@
 -- Whoever is stuck stays so along honest lines.
-use Rattle.std.proofs.Common.{◌≡◌, ◌≢◌, ℕ, ◌<◌, ◌≤◌, ◌+◌, Bool, true, false, ◌&&◌, ◌||◌, not, Some, None, Option, List, [], ◌∷◌, ◌++◌, refl, sym, ◌∙◌, ap, subst, inl, inr, ◌⊎◌, arith}
-use Rattle.std.specs.Prelude.{Contains, if◌then◌else◌, bytes_eq, nat_lt, nat_le, is_some, eqb}
+use Rattle.std.proofs.Common.{◌≡◌, ℕ, ◌<◌, Bool, true, false, ◌&&◌, ◌||◌, not, Option, List, [], ◌∷◌, ◌++◌, refl, sym, ◌∙◌, ap, subst, inl, inr, ◌⊎◌, arith}
+use Rattle.std.specs.Prelude.{Contains, bytes_eq, nat_lt, is_some, eqb}
 use Rattle.std.specs.List.{list_any, starts_with}
 use Rattle.std.specs.Map.{lookup}
 use Rattle.std.proofs.lemmas.Bool.{cases_Bool, and_parts, and_from, or_left, not_from_false, lt-ltb, ltb-true, cond-true, cond-false}
@@ -9,8 +9,8 @@ use Rattle.monitor_laws.specs.Lines.{Announcement, Joins, Arrives, Leaves, Waits
 use Rattle.monitor_laws.specs.States.{Condition, Running, Waiting, Ended, AnyTask, OneOf, Participant, TraceState, after_line, after_lines, announced_by, changed_at, changed_by, gone_by, is_live_task, is_live_wildcard, is_there_as, new_participant, task_numbers, placed_at, stays_listed, with_named}
 use Rattle.monitor_laws.specs.Faults.{NamesTask, TooManyListed, fault_where, has_no_room, faults_of, is_go, is_of_tasks, is_task_in, is_wildcard_in, participant_in, waits_now}
 use Rattle.monitor_laws.specs.Stuck.{IsClosedSet, IsKeptIn, IsStuck, has_phase_below, is_phase_below}
-use Rattle.monitor_laws.specs.Traces.{IsHonest, IsActOf, IsHonestLine, IsLegalTrace, MayPlay, NobodyWaits, SomebodyRuns}
-use Rattle.monitor_laws.specs.Laws.{IsNeverGone, StuckStays}
+use Rattle.monitor_laws.specs.Traces.{IsActOf, IsHonestLine, MayPlay, NobodyWaits, SomebodyRuns}
+use Rattle.monitor_laws.specs.Laws.{StuckStays}
 use Rattle.monitor_laws.proofs.Changes.{changed_there, from_change, from_named, in_change, in_named, other_is, there_is}
 use Rattle.monitor_laws.proofs.Lawful.{IsLawfulState, lawful_lines, placed_condition, placed_number, placed_phases, announced_number}
 use Rattle.monitor_laws.proofs.Rows.{HasNoFault, both_tables, has_no_fault, found_before, no_row, no_task_row, is_task, is_wildcard, member_stays, name_is, named_is, task_or_wildcard}

@@ -1,15 +1,14 @@
 -- Whoever is told is stuck in the program, nothing is taken back, and all are told.
-use Rattle.std.proofs.Common.{◌≡◌, ℕ, Bool, true, List, [], ◌∷◌, ◌++◌, refl, sym, ◌∙◌, ap, subst, inl, inr, ◌⊎◌, append_assoc, length, length-append, arith}
-use Rattle.std.specs.Prelude.{Contains, bytes_eq, filter, map}
+use Rattle.std.proofs.Common.{◌≡◌, ℕ, List, [], ◌∷◌, ◌++◌, refl, sym, ◌∙◌, ap, append_assoc, length, length-append, arith}
+use Rattle.std.specs.Prelude.{filter}
 use Rattle.std.proofs.lemmas.List.Elements.{filter-append}
 use Rattle.std.proofs.lemmas.Slice.Eq.{bytes_eq-Decides}
 use Rattle.monitor_laws.specs.Lines.{TraceLine}
-use Rattle.monitor_laws.specs.States.{Ended, Participant, after_lines}
-use Rattle.monitor_laws.specs.Stuck.{IsStuck}
-use Rattle.monitor_laws.specs.Traces.{HasNoWildcard, HaveSameLinesOfNames, IsLasting, IsLegalTrace, IsMixedFrom, is_line_of}
-use Rattle.monitor_laws.specs.Laws.{AllAreTold, NothingIsTakenBack, WhoIsToldIsStuck, own_list, unnumbered}
+use Rattle.monitor_laws.specs.States.{after_lines}
+use Rattle.monitor_laws.specs.Traces.{HasNoWildcard, IsMixedFrom, is_line_of}
+use Rattle.monitor_laws.specs.Laws.{AllAreTold, NothingIsTakenBack, WhoIsToldIsStuck}
 use Rattle.monitor_laws.proofs.OwnLines.{own_after, own_lines, same_lines_same_states}
-use Rattle.monitor_laws.proofs.Mixed.{ended_in_whole, has_waiting, has_waiting_from, in_both, same_end, says_no_more, stuck_there}
+use Rattle.monitor_laws.proofs.Mixed.{ended_in_whole, has_waiting_from, in_both, same_end, says_no_more, stuck_there}
 
 pub who_is_told_is_stuck : WhoIsToldIsStuck
 who_is_told_is_stuck h c t legal h_none c_none lasting mixed stuck =

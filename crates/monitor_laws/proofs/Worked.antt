@@ -1,13 +1,13 @@
 -- Worked traces.
-use Rattle.std.proofs.Common.{◌≡◌, ℕ, ◌<◌, Bool, true, false, Some, None, Option, List, [], ◌∷◌, refl, sym, ◌∙◌, ap, subst, inl, inr, ◌⊎◌, arith, rules}
+use Rattle.std.proofs.Common.{◌≡◌, ℕ, Bool, true, false, None, List, [], ◌∷◌, refl, sym, ap, subst, inl, inr}
 use Rattle.std.specs.Prelude.{Contains, codes, filter}
 use Rattle.std.proofs.lemmas.List.Elements.{filter-append}
 use Rattle.std.proofs.lemmas.Bool.{false≢true, true≢false}
 use Rattle.armus_base.proofs.Elements.{Contains-cons_cases, Contains-head, Contains-tail, nothing_in_nil}
-use Rattle.monitor_laws.specs.Lines.{Announcement, Joins, Arrives, Leaves, Waits, Goes, Ends, Stands, TraceLine, Announces, PlaysAny}
-use Rattle.monitor_laws.specs.States.{Condition, Running, Waiting, Ended, AnyTask, OneOf, Participant, TraceState, after_lines}
-use Rattle.monitor_laws.specs.Stuck.{IsClosedSet, IsKeptIn, IsStuck, has_phase_below}
-use Rattle.monitor_laws.specs.Traces.{IsLegalTrace, is_line_of}
+use Rattle.monitor_laws.specs.Lines.{Joins, Waits, Goes, Ends, TraceLine, PlaysAny}
+use Rattle.monitor_laws.specs.States.{Running, Waiting, AnyTask, Participant, after_lines}
+use Rattle.monitor_laws.specs.Stuck.{IsClosedSet, IsKeptIn, has_phase_below}
+use Rattle.monitor_laws.specs.Traces.{is_line_of}
 use Rattle.monitor_laws.specs.Worked.{HonestIsNeeded, IsTakenBack, LastingIsNeeded, OrderedJoinsAreNeeded, TrueGoesAreNeeded, WorkedEnds, WorkedFaults, WorkedGone, WorkedMembers, WorkedWildcards, listed, says}
 
 pub worked_members : WorkedMembers

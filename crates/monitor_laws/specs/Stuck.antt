@@ -1,5 +1,5 @@
 -- Who is stuck: closed sets of tasks and wildcards.
-use Rattle.std.specs.Prelude.{◌≡◌, ℕ, Bool, true, false, ◌&&◌, Option, Some, None, Contains, nat_lt, nat_eq, List}
+use Rattle.std.specs.Prelude.{◌≡◌, ℕ, Bool, true, false, Option, Some, None, Contains, nat_lt, List}
 use Rattle.monitor_laws.specs.States.{Condition, Running, Waiting, Ended, AnyTask, OneOf, Participant, TraceState, is_live_task}
 use Rattle.monitor_laws.specs.Faults.{phase_on}
 

@@ -1,10 +1,10 @@
 -- Traces, the last line first: legal, lasting, honest, and the mix of lines.
-use Rattle.std.specs.Prelude.{◌≡◌, ℕ, ◌≤◌, Bool, true, false, not, Option, Some, None, List, [], ◌∷◌, ◌++◌, ◌⊎◌, ◌↔◌, if◌then◌else◌, Contains, filter, bytes_eq}
+use Rattle.std.specs.Prelude.{◌≡◌, ℕ, ◌≤◌, Bool, true, false, Option, Some, List, [], ◌∷◌, ◌++◌, ◌⊎◌, Contains, filter, bytes_eq}
 use Rattle.std.specs.List.{list_any}
 use Rattle.monitor_laws.specs.Lines.{Announcement, Joins, Arrives, Leaves, Waits, Goes, Ends, Stands, TraceLine, SaysNothing, AsksReport, AsksList, AreGone, Announces, PlaysAny, PlaysOneOf}
-use Rattle.monitor_laws.specs.States.{Condition, Running, Waiting, Ended, AnyTask, OneOf, Participant, TraceState, after_line, after_lines, is_live_task, is_live_wildcard, is_there_as}
+use Rattle.monitor_laws.specs.States.{Condition, Running, Waiting, Ended, AnyTask, OneOf, Participant, TraceState, after_lines, is_live_wildcard, is_there_as}
 use Rattle.monitor_laws.specs.Faults.{faults_of, phase_on}
-use Rattle.monitor_laws.specs.Stuck.{IsKeptWaiting, WaitsForPhase, has_phase_below}
+use Rattle.monitor_laws.specs.Stuck.{WaitsForPhase, has_phase_below}
 
 -- no line is at fault
 abbrev pub IsLegalTrace : List TraceLine → Type 0

@@ -1,8 +1,8 @@
 -- What no law fixes, by worked traces, and what the premises of the laws are for. The last line of a trace stands first.
 use Rattle.std.specs.Prelude.{◌≡◌, ℕ, List, [], ◌∷◌, Option, Some, None, codes}
 use Rattle.monitor_laws.specs.Lines.{Announcement, Joins, Arrives, Leaves, Waits, Goes, Ends, Stands, TraceLine, AreGone, Announces, PlaysAny, PlaysOneOf}
-use Rattle.monitor_laws.specs.States.{Condition, Running, Waiting, Ended, AnyTask, OneOf, Participant, TraceState, after_lines}
-use Rattle.monitor_laws.specs.Faults.{LineFault, Malformed, NamesTask, NamesWildcard, StillWaits, DoesNotWait, IsMemberAlready, IsNoMember, IsAtLastPhase, first_fault}
+use Rattle.monitor_laws.specs.States.{Condition, Running, Waiting, Ended, OneOf, Participant, TraceState, after_lines}
+use Rattle.monitor_laws.specs.Faults.{Malformed, NamesTask, NamesWildcard, StillWaits, DoesNotWait, IsMemberAlready, IsNoMember, IsAtLastPhase, first_fault}
 use Rattle.monitor_laws.specs.Stuck.{IsStuck}
 use Rattle.monitor_laws.specs.Traces.{HasNoWildcard, HasOrderedJoins, HasTrueGoes, IsLasting, IsLegalTrace, IsMixedFrom}
 use Rattle.monitor_laws.specs.Laws.{unnumbered}
