@@ -1,0 +1,13 @@
+pub mod Filters
+pub mod Changes
+pub mod Lawful
+pub mod Rows
+pub mod StuckStays
+pub mod Guarding
+pub mod Phases
+pub mod Lasting
+pub mod OwnLines
+pub mod Mixed
+pub mod Told
+pub mod Deadlocked
+pub mod Worked

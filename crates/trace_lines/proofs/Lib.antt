@@ -1,0 +1,6 @@
+pub mod Numbers
+pub mod WordByWord
+pub mod Cuts
+pub mod Exact
+pub mod WholeLines
+pub mod Again
