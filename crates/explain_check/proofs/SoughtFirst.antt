@@ -15,8 +15,10 @@ use Rattle.pl_plan.specs.inside.Checker.{Checker, IsChecker, IsThingBelow, IsThi
 use Rattle.pl_plan.specs.inside.Flattening.{AddsSteps}
 use Rattle.pl_plan.specs.inside.Numbers.{spelling}
 use Rattle.pl_plan.specs.inside.Opening.{IsOpeningChecker}
+use Rattle.pl_plan.specs.inside.Shows.{IsNumbering}
 use Rattle.pl_plan.specs.inside.Steps.{IsList, IsSpelled}
-use Rattle.pl_plan.proofs.Planned.{as_many_steps, opens_flat}
+use Rattle.pl_plan.proofs.Opens.{opens}
+use Rattle.pl_plan.proofs.Spelled.{spelled_count}
 use Rattle.pl_plan.proofs.Unfolds as unfolds
 use Rattle.explain_check.specs.declared.notes.LastTurn.{LastTurn}
 use Rattle.explain_check.specs.declared.notes.Note.{Note}
@@ -99,7 +101,7 @@ module _ (program : Program) (a b : List (Bor (List ℕ))) (old steps : List Fla
   source = record { program = program; names = spelling b; steps = steps }
 
   pub few_steps : length steps < 2 ^ 32
-  few_steps = omega (arith, as_many_steps a b old steps program.body empty adds, few)
+  few_steps = omega (arith, spelled_count (length b) (spelling b) steps (length old) program.body (length steps) adds.spelled, ap length empty, few)
 
   spelled : IsSpelled (length k.bindings.slots) (spelling b) k.steps 0 program.body (length steps)
   spelled =
@@ -115,7 +117,9 @@ module _ (program : Program) (a b : List (Bor (List ℕ))) (old steps : List Fla
       past = record { leads = refl; kept = unfolds.opening_kept program.two program.body; few = omega arith };
       shown = record {
         fits = opening_fits steps names k o (spelling b, program.body, spelled);
-        shows = opens_flat a b old steps program.body names k empty many adds o;
+        shows = opens (spelling b) steps names k program.body o (subst (λ n. IsNumbering n (spelling b)) (sym many) adds.distinct)
+            (subst (λ n. IsSpelled n (spelling b) steps 0 program.body (length steps)) (sym many)
+            (subst (λ z. IsSpelled (length b) (spelling b) steps z program.body (length steps)) (ap length empty) adds.spelled));
         steps_are = o.steps_are;
         small = omega (arith, few_steps, ap length o.steps_are);
       };

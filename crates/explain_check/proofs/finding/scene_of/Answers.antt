@@ -1,7 +1,7 @@
-use Rattle.std.proofs.Common.{ℕ, List, ◌≡◌, ◌∙◌, ap, arith, refl, subst, sym}
+use Rattle.std.proofs.Common.{ℕ, List, ◌≡◌, ◌∙◌, ap, arith, length, refl, subst, sym}
 use Rattle.pl_plan.specs.declared.step.FlatStep.{FlatStep}
 use Rattle.pl_plan.specs.inside.Numbers.{spelling}
-use Rattle.pl_plan.proofs.Planned.{as_many_steps}
+use Rattle.pl_plan.proofs.Spelled.{spelled_count}
 use Rattle.explain_check.specs.inside.Seeks.{Before, HasSource, a_source}
 use Rattle.explain_check.proofs.SoughtFirst.{first_before, has_first}
 use Rattle.explain_check.proofs.finding.scene_of.Goals as goal
@@ -10,8 +10,9 @@ pub new_seeker-requires : goal.new_seeker-requires
 new_seeker-requires c =
     omega (
       arith,
-      as_many_steps c.new-names.result.keys c.flatten_body.new.names.keys c.new-steps.result.items c.flatten_body.new.steps.items c.args.program.now.body
-          c.new-steps.ensures.items c.in_ok-flatten_body.ensures,
+      spelled_count (length c.flatten_body.new.names.keys) (spelling c.flatten_body.new.names.keys) c.flatten_body.new.steps.items
+          (length c.new-steps.result.items) c.args.program.now.body (length c.flatten_body.new.steps.items) c.in_ok-flatten_body.ensures.spelled,
+      ap length c.new-steps.ensures.items,
       c.requires.few,
     )
 
