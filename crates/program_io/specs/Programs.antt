@@ -1,5 +1,5 @@
 -- The program of a text and the plan to which it unfolds, or why the text is refused.
-use Rattle.std.specs.Prelude.{◌≡◌, ⊥, Ok, Err}
+use Rattle.std.specs.Prelude.{◌≡◌, Ok, Err}
 use Rattle.armus_base.specs.Plans.{Plan}
 use Rattle.pl_syntax.specs.declared.tree.Program.{Program}
 use Rattle.pl_syntax.specs.Grammar.{IsText, HasFault}
