@@ -381,7 +381,7 @@ static bool has_handlers(void) {
 struct object { int kind; const void *key; unsigned number, team, turns; };
 static struct object objects[OBJECTS];
 static unsigned object_count[KINDS];
-struct group { bool used; int kind; const void *object; unsigned team, barriers; struct slot *owner; unsigned number, waiters, wildcards; char name[NAME + 10]; unsigned turn; };
+struct group { bool used; int kind; const void *object; unsigned team, barriers; struct slot *owner; unsigned number, waiters, wildcards; char name[NAME + 24]; unsigned turn; };
 static struct group groups[OBJECTS];
 
 static struct object *object_of(int kind, const void *key, unsigned team) {
@@ -535,7 +535,7 @@ static void retire(unsigned i) {
     struct group *g = &groups[i];
     struct object *o = object_of(g->kind, g->object, g->team);
     for (unsigned k = 0; k < g->wildcards; k++) {
-        say(k == 0 ? "%d/?%s end" : "%d/?%s.%u end", process, g->name, k);
+        say(k == 0 ? "%d/?%s end" : "%d/?%s#%u end", process, g->name, k);
     }
     EACH_SLOT(s) {
         if (s->group == (int)i) {
@@ -551,8 +551,8 @@ static void retire(unsigned i) {
 }
 
 static void wildcard(struct group *g, const struct slot *only) {
-    char name[NAME + 30];
-    snprintf(name, sizeof name, g->wildcards == 0 ? "%d/?%s" : "%d/?%s.%u", process, g->name, g->wildcards);
+    char name[NAME + 50];
+    snprintf(name, sizeof name, g->wildcards == 0 ? "%d/?%s" : "%d/?%s#%u", process, g->name, g->wildcards);
     if (only != NULL) {
         say("%s of %d/%s", name, process, only->name);
     } else {
@@ -576,6 +576,12 @@ static int new_group(struct slot *s) {
         snprintf(g->name, sizeof g->name, s->kind == JOIN && s->owner != NULL ? "%s-%s" : "%s-%s", kind_names[s->kind], s->kind == JOIN && s->owner != NULL ? s->owner->name : "");
         if (s->kind != JOIN || s->owner == NULL) {
             snprintf(g->name, sizeof g->name, "%s-%u", kind_names[s->kind], o->number);
+        }
+        for (unsigned j = 0; j < OBJECTS; j++) {
+            if (j != i && groups[j].used && strcmp(groups[j].name, g->name) == 0) {
+                snprintf(g->name + strlen(g->name), 8, ".%u", i % 100000);   /* the same object, kept by another thread */
+                break;
+            }
         }
         if (s->kind == TEAM || s->kind == TEAM_END) {
             unsigned members = 0;

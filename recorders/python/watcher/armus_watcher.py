@@ -317,9 +317,13 @@ class Announcer:
         group = self.groups.get(gkey)
         if group is None:
             name = wait.name or f'{wait.kind}-{self.number(wait.kind, wait.object)}'
+            base, k = name, 1
+            while any(g.name == name for g in self.groups.values()):   # the same object, kept by another thread
+                k += 1
+                name = f'{base}.{k}'
             group = self.groups[gkey] = Group(name, self.turns.get(name, 0))
             for i, keeper in enumerate(wait.keepers):
-                wildcard = f'{self.lines.process}/?{name}' + (f'.{i}' if i else '')
+                wildcard = f'{self.lines.process}/?{name}' + (f'#{i}' if i else '')
                 players = [self.task(k) for k in keeper if k in self.names] if keeper is not None else []
                 self.show(keeper or ())
                 line = f'{wildcard} of {" ".join(players)}'
