@@ -228,7 +228,7 @@ __attribute__((format(printf, 1, 2))) static void say(const char *form, ...) {
 /* ---- places */
 static bool read_memory(const void *from, void *to, size_t size) {
     struct iovec a = {to, size}, b = {(void *)(uintptr_t)from, size};
-    return process_vm_readv(process, &a, 1, &b, 1, 0) == (ssize_t)size;
+    return process_vm_readv(watcher_tid, &a, 1, &b, 1, 0) == (ssize_t)size;
 }
 
 static const char *base_name(const char *path) {
@@ -381,8 +381,9 @@ static bool has_handlers(void) {
 struct object { int kind; const void *key; unsigned number, team, turns; };
 static struct object objects[OBJECTS];
 static unsigned object_count[KINDS];
-struct group { bool used; int kind; const void *object; unsigned team, barriers; struct slot *owner; unsigned number, waiters, wildcards; char name[NAME + 24]; unsigned turn; };
+struct group { bool used; int kind; const void *object; unsigned team, barriers; struct slot *owner; bool any; unsigned number, wildcards; char name[NAME + 24]; unsigned turn; };
 static struct group groups[OBJECTS];
+static bool any_is_said;
 
 static struct object *object_of(int kind, const void *key, unsigned team) {
     unsigned h = (unsigned)(((uintptr_t)key >> 3) * 2654435761u + (unsigned)kind * 97 + team * 31) % OBJECTS;
@@ -442,7 +443,7 @@ static void find_foreign(void) {
     struct dirent *e;
     while (d != NULL && (e = readdir(d)) != NULL) {
         pid_t tid = (pid_t)atoi(e->d_name);
-        if (tid > 0 && tid != watcher_tid && slot_of_tid(tid) == NULL) {
+        if (tid > 0 && tid != watcher_tid && slot_of_tid(tid) == NULL && !is_over(tid)) {
             struct slot *s = taken_slot();
             if (s != NULL) {
                 s->foreign = true;
@@ -533,7 +534,10 @@ static bool is_past(unsigned i) {
 
 static void retire(unsigned i) {
     struct group *g = &groups[i];
-    struct object *o = object_of(g->kind, g->object, g->team);
+    struct object *o = object_of(g->kind, g->object, g->kind == TEAM || g->kind == TEAM_END ? g->team : 0);
+    if (g->any) {
+        say("%d/?any-thread leave %d/%s", process, process, g->name);
+    }
     for (unsigned k = 0; k < g->wildcards; k++) {
         say(k == 0 ? "%d/?%s end" : "%d/?%s#%u end", process, g->name, k);
     }
@@ -550,14 +554,37 @@ static void retire(unsigned i) {
     g->used = false;
 }
 
+/* Where nobody knows who may act it is any thread of this process: a wildcard that is a member of all such phasers. */
+static void say_any(void) {
+    char line[LINE];
+    unsigned names = 0;
+    size_t n = (size_t)snprintf(line, sizeof line, "%d/?any-thread of", process);
+    EACH_SLOT(s) {
+        names += s->announced;
+        if (s->announced && n < sizeof line) {
+            n += (size_t)snprintf(line + n, sizeof line - n, " %d/%s", process, s->name);
+        }
+    }
+    if (n < LINE && names > 1) {
+        say("%s", line);
+    } else {
+        say("%d/?any-thread any", process);
+    }
+}
+
 static void wildcard(struct group *g, const struct slot *only) {
     char name[NAME + 50];
-    snprintf(name, sizeof name, g->wildcards == 0 ? "%d/?%s" : "%d/?%s#%u", process, g->name, g->wildcards);
-    if (only != NULL) {
-        say("%s of %d/%s", name, process, only->name);
-    } else {
-        say("%s any", name);
+    if (only == NULL) {
+        if (!any_is_said) {
+            any_is_said = true;
+            say_any();
+        }
+        say("%d/?any-thread join %d/%s %u", process, process, g->name, g->turn);
+        g->any = true;
+        return;
     }
+    snprintf(name, sizeof name, g->wildcards == 0 ? "%d/?%s" : "%d/?%s#%u", process, g->name, g->wildcards);
+    say("%s of %d/%s", name, process, only->name);
     say("%s join %d/%s %u", name, process, g->name, g->turn);
     g->wildcards++;
 }
@@ -604,13 +631,17 @@ static int new_group(struct slot *s) {
 }
 
 static void announce_new(void) {
+    bool news = false;
     EACH_SLOT(s) {
         if (!s->announced && atomic_load(&s->tid) != 0 && !s->over) {
             named(s);
             place_of(s->place, sizeof s->place, s->begins, NULL, false);
             say("%d/%s at @%s", process, s->name, s->place);
-            s->announced = true;
+            s->announced = news = true;
         }
+    }
+    if (news && any_is_said) {
+        say_any();
     }
 }
 
@@ -746,6 +777,7 @@ static void forked(void) {
     memset(objects, 0, sizeof objects);
     memset(object_count, 0, sizeof object_count);
     memset(groups, 0, sizeof groups);
+    any_is_said = false;
     mine = NULL;
     atomic_store(&critical_owner, NULL);
     atomic_store(&active, -1);

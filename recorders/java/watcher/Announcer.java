@@ -12,12 +12,14 @@ import java.util.Set;
 /** Says who is there and who waits for what, in the order in which the monitor wants it: who is new, who went on, who ended, who waits. */
 final class Announcer {
     private static final int NAME = 40;
+    private static final int LINE = 511;
 
     /** Those who wait for one turn of one object. */
     private static final class Group {
         final String name;
         final int turn;
         final Set<Object> waiters = new LinkedHashSet<>();
+        String ends;
 
         Group(String name, int turn) {
             this.name = name;
@@ -30,6 +32,7 @@ final class Announcer {
     private final Set<String> used = new HashSet<>();
     private final Map<Object, String> waits = new HashMap<>();
     private final Map<String, Group> groups = new HashMap<>();
+    private boolean anyIsSaid;
     private final Set<String> inUse = new HashSet<>();
     private final Map<String, Integer> numbers = new HashMap<>();
     private final Map<String, Integer> counts = new HashMap<>();
@@ -62,7 +65,18 @@ final class Announcer {
         lines.say(task(key) + " at @" + place);
     }
 
+    /** Where nobody knows who may act it is any thread of this process: a wildcard that is a member of all such phasers. */
+    private void sayAny() {
+        StringBuilder line = new StringBuilder(lines.process + "/?any-thread of");
+        for (Object key : names.keySet()) {
+            line.append(' ').append(task(key));
+        }
+        lines.say(line.length() < LINE && names.size() > 1 ? line.toString() : lines.process + "/?any-thread any");
+        anyIsSaid = true;
+    }
+
     void announce(Map<Long, Thread> present, List<String> others, Map<Long, Wait> standing) {
+        int before = names.size();
         Set<Object> there = new HashSet<>(present.keySet());
         there.addAll(others);
         for (Map.Entry<Long, Thread> entry : present.entrySet()) {
@@ -74,6 +88,9 @@ final class Announcer {
             if (!names.containsKey(other)) {
                 begins(other, other, "outside");
             }
+        }
+        if (anyIsSaid && names.size() > before) {
+            sayAny();
         }
         for (Object key : new ArrayList<>(waits.keySet())) {
             Wait wait = standing.get(key);
@@ -93,7 +110,7 @@ final class Announcer {
 
     private void retire(String key) {
         Group group = groups.remove(key);
-        lines.say(lines.process + "/?" + group.name + " end");
+        lines.say(group.ends);
         for (Object waiter : group.waiters) {
             lines.say(task(waiter) + " go");
             waits.remove(waiter);
@@ -126,6 +143,7 @@ final class Announcer {
         inUse.add(name);
         Integer turn = turns.get(name);
         Group group = new Group(name, wait.phase >= 0 && (turn == null || wait.phase >= turn) ? wait.phase : turn == null ? 0 : turn);
+        String phaser = lines.process + "/" + name;
         String wildcard = lines.process + "/?" + name;
         Object by = wait.by;
         if (wait.by >= 0 && names.containsKey(by)) {
@@ -133,10 +151,15 @@ final class Announcer {
                 lines.say(task(by) + " at @" + Watcher.place(present.get(wait.by).getStackTrace()));
             }
             lines.say(wildcard + " of " + task(by));
+            group.ends = wildcard + " end";
         } else {
-            lines.say(wildcard + " any");
+            wildcard = lines.process + "/?any-thread";
+            if (!anyIsSaid) {
+                sayAny();
+            }
+            group.ends = wildcard + " leave " + phaser;
         }
-        lines.say(wildcard + " join " + lines.process + "/" + name + " " + group.turn);
+        lines.say(wildcard + " join " + phaser + " " + group.turn);
         groups.put(wait.key(), group);
         return group;
     }

@@ -15,6 +15,8 @@ final class Wait {
     String object;
     /** The number of the thread that has to act, or -1 for any. */
     long by = -1;
+    /** Whether it is a lock with an owner: its mark tells that the wait is over, and the machine wakes who waits for a monitor from time to time to look again. */
+    boolean isOwned;
     /** The name of a joined thread. */
     String ends;
     /** The phase of a phaser, or -1. */
@@ -37,6 +39,7 @@ final class Wait {
     void of(String kind, String object, long owner) {
         any(kind, object);
         by = owner;
+        isOwned = true;
     }
 
     void end(Thread joined) {

@@ -173,7 +173,7 @@ public final class Watcher implements Runnable {
         for (Map.Entry<Long, Wait> entry : known.entrySet()) {
             Thread thread = before.get(entry.getKey());
             Wait wait = entry.getValue();
-            if (thread != null && !wait.isOver() && !running.contains(Inside.kernelName(thread))) {
+            if (thread != null && !wait.isOver() && (wait.isOwned || !running.contains(Inside.kernelName(thread)))) {
                 wait.refresh(before);
                 standing.put(entry.getKey(), wait);
             }

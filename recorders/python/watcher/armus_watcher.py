@@ -234,20 +234,24 @@ def named(text, longest=40):
     return ''.join(c if '!' <= c <= '~' and c != '/' else '_' for c in text)[:longest] or '_'
 
 
+ALL = 'all'
+
+
 class Wait:
-    """What a thread waits for: an object of a kind, and keepers: each is None (any task) or a list of threads of which one has to act."""
+    """What a thread waits for: an object of a kind, and keepers: each is None (any thread of this process), ALL (of all processes) or a list of threads of which one has
+    to act."""
     __slots__ = ('kind', 'object', 'keepers', 'place', 'name', 'last')
 
     def __init__(self, kind, object_, keepers, place, name=None, last=False):
         self.kind, self.object, self.keepers, self.place, self.name, self.last = kind, object_, keepers, place, name, last
 
     def key(self):
-        return self.kind, id(self.object), tuple(None if k is None else tuple(k) for k in self.keepers)
+        return self.kind, id(self.object), tuple(k if k in (None, ALL) else tuple(k) for k in self.keepers)
 
 
 class Group:
     def __init__(self, name, turn):
-        self.name, self.turn, self.wildcards, self.waiters = name, turn, [], set()
+        self.name, self.turn, self.ends, self.waiters = name, turn, [], set()
 
 
 class Announcer:
@@ -255,6 +259,7 @@ class Announcer:
 
     def __init__(self, lines):
         self.lines, self.names, self.waits, self.groups, self.numbers, self.turns, self.used = lines, {}, {}, {}, {}, {}, set()
+        self.any_is_said = False
 
     def task(self, key):
         return f'{self.lines.process}/{self.names[key]}'
@@ -283,8 +288,8 @@ class Announcer:
 
     def retire(self, gkey):
         group = self.groups.pop(gkey)
-        for wildcard in group.wildcards:
-            self.lines.say(f'{wildcard} end')
+        for line in group.ends:
+            self.lines.say(line)
         for key in group.waiters:
             self.lines.say(f'{self.task(key)} go')
             del self.waits[key]
@@ -293,9 +298,11 @@ class Announcer:
     def announce(self, present, standing):
         """present: the tasks that are there, each with a name and a place. standing: those that stood in the same wait at two looks."""
         self.present, self.standing = present, standing
-        for key, (name, place) in present.items():
-            if key not in self.names:
-                self.new(key, name, place)
+        new = [key for key in present if key not in self.names]
+        for key in new:
+            self.new(key, *present[key])
+        if new and self.any_is_said:
+            self.say_any()
         for key, gkey in list(self.waits.items()):
             if key in self.waits and (key not in standing or standing[key].key() != gkey):
                 self.retire(gkey)
@@ -305,6 +312,29 @@ class Announcer:
         waiting = [k for k in standing if k in self.names and k not in self.waits]
         for key in sorted(waiting, key=lambda k: standing[k].last, reverse=True):
             self.wait(key, standing[key])
+
+    def say_any(self):
+        """Where nobody knows who may act it is any thread of this process: a wildcard that is a member of all such phasers."""
+        line = f'{self.lines.process}/?any-thread of {" ".join(self.task(k) for k in self.names)}'
+        self.lines.say(line if len(line) < 511 and len(self.names) > 1 else f'{self.lines.process}/?any-thread any')
+        self.any_is_said = True
+
+    def keep(self, group, number, keeper):
+        """One who has to act: a thread, one of several, any of this process, or of all."""
+        phaser = f'{self.lines.process}/{group.name}'
+        players = [self.task(k) for k in keeper if k in self.names] if keeper not in (None, ALL) else []
+        if keeper is None or (keeper is not ALL and not players):
+            wildcard = f'{self.lines.process}/?any-thread'
+            if not self.any_is_said:
+                self.say_any()
+            group.ends.append(f'{wildcard} leave {phaser}')
+        else:
+            wildcard = f'{self.lines.process}/?{group.name}' + (f'#{number}' if number else '')
+            self.show(() if keeper is ALL else keeper)
+            line = f'{wildcard} of {" ".join(players)}'
+            self.lines.say(f'{wildcard} any' if keeper is ALL or len(line) > 511 else line)
+            group.ends.append(f'{wildcard} end')
+        self.lines.say(f'{wildcard} join {phaser} {group.turn}')
 
     def show(self, keys):
         """Where those are who run, and for whom somebody waits."""
@@ -323,13 +353,7 @@ class Announcer:
                 name = f'{base}.{k}'
             group = self.groups[gkey] = Group(name, self.turns.get(name, 0))
             for i, keeper in enumerate(wait.keepers):
-                wildcard = f'{self.lines.process}/?{name}' + (f'#{i}' if i else '')
-                players = [self.task(k) for k in keeper if k in self.names] if keeper is not None else []
-                self.show(keeper or ())
-                line = f'{wildcard} of {" ".join(players)}'
-                self.lines.say(line if players and len(line) < 500 else f'{wildcard} any')
-                self.lines.say(f'{wildcard} join {self.lines.process}/{name} {group.turn}')
-                group.wildcards.append(wildcard)
+                self.keep(group, i, keeper)
         group.waiters.add(key)
         self.waits[key] = gkey
         self.lines.say(f'{self.task(key)} wait {self.lines.process}/{group.name} {group.turn + 1} @{wait.place[:200]}')
@@ -352,11 +376,11 @@ class Watcher:
         return None
 
     def native(self, ident):
+        """The kernel's number of a thread. Behind a fork threading may still have that of the parent."""
+        if self.native_offset is not None:
+            return self.memory.word(ident + self.native_offset) & 0xffffffff or None
         threading = sys.modules.get('threading')
-        known = getattr(getattr(threading, '_active', {}).get(ident), 'native_id', None)
-        if known is None and self.native_offset is not None:
-            known = self.memory.word(ident + self.native_offset) & 0xffffffff or None
-        return known
+        return getattr(getattr(threading, '_active', {}).get(ident), 'native_id', None)
 
     def name(self, ident):
         threading = sys.modules.get('threading')
@@ -532,7 +556,7 @@ class Watcher:
         this = dict(self.library_values(outer)).get('self') if outer is not None and outer.f_code.co_filename.startswith(STANDARD) else values.get('self')
         if type(this).__name__ == 'Barrier' and getattr(this, '_state', 0) != 0:
             return None
-        return Wait(type(this).__name__, this, [None], place)
+        return Wait(type(this).__name__, this, [ALL], place)
 
     # ---- locks
     def lock_at(self, address, candidates):
