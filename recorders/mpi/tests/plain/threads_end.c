@@ -19,6 +19,7 @@ int main(int count, char **words) {
     pthread_t t[2];
     MPI_Comm half, both;
     MPI_Request q[2];
+    MPI_Status taken[2];
     MPI_Init_thread(&count, &words, MPI_THREAD_MULTIPLE, &given);
     MPI_Comm_rank(MPI_COMM_WORLD, &me);
     MPI_Comm_size(MPI_COMM_WORLD, &size);
@@ -34,7 +35,7 @@ int main(int count, char **words) {
     MPI_Irecv(&x, 1, MPI_INT, (me + size - 1) % size, 3, MPI_COMM_WORLD, &q[0]);
     usleep(300000);
     MPI_Isend(&me, 1, MPI_INT, (me + 1) % size, 3, MPI_COMM_WORLD, &q[1]);
-    MPI_Waitall(2, q, MPI_STATUSES_IGNORE);
+    MPI_Waitall(2, q, taken);
     MPI_Comm_split(MPI_COMM_WORLD, me == 0, me, &half);
     MPI_Intercomm_create(half, 0, MPI_COMM_WORLD, me == 0 ? 1 : 0, 5, &both);
     MPI_Allreduce(&x, &y, 1, MPI_INT, MPI_SUM, both);
