@@ -609,8 +609,8 @@ class Life:
     """The watcher's thread, which stops before a fork and goes on behind it."""
     current = None
 
-    def __init__(self, start, hook):
-        self.start, self.hook, self.wake = start, hook, _thread.allocate_lock()
+    def __init__(self, hook):
+        self.hook, self.wake = hook, _thread.allocate_lock()
         self.done, self.native = _thread.allocate_lock(), None
         self.wake.acquire()
 
@@ -680,10 +680,25 @@ def moved(connection):
     return other
 
 
-def begin(start, hook):
+def start(run):
+    """A thread that Python did not start: it is none of the program's threads, and is not counted as one. It blocks all signals."""
+    import ctypes
+    import signal
+    made = ctypes.CFUNCTYPE(ctypes.c_void_p, ctypes.c_void_p)(lambda _: run())
+    own = signal.pthread_sigmask(signal.SIG_BLOCK, signal.valid_signals())
+    try:
+        library, thread = ctypes.CDLL(None), ctypes.c_ulong()
+        if library.pthread_create(ctypes.byref(thread), None, made, None) == 0:
+            library.pthread_detach(thread)
+    finally:
+        signal.pthread_sigmask(signal.SIG_SETMASK, own)
+    return made
+
+
+def begin(hook):
     first = Life.current is None
-    Life.current = life = Life(start, hook)
-    start(life.run, ())
+    Life.current = life = Life(hook)
+    life.kept = start(life.run)
     if first:
         os.register_at_fork(before=before_fork, after_in_parent=behind_fork)
         import atexit
@@ -701,4 +716,4 @@ def behind_fork():
     if life is not None:
         life.hook()
         if len(sys._current_frames()) > 1 or 'multiprocessing' in sys.modules:
-            begin(life.start, life.hook)
+            begin(life.hook)

@@ -17,15 +17,26 @@ def _begin():
         if state.get('process') != os.getpid():
             state['process'] = os.getpid()
             restore()
+            if not is_main_interpreter():
+                return
             try:
                 if 'module' not in state:
                     names = {'__name__': 'armus_watcher', '__file__': os.path.join(folder, 'armus_watcher.py')}
                     with open(names['__file__'], encoding='utf-8') as file:
                         exec(compile(file.read(), names['__file__'], 'exec'), names)
                     state['module'] = names
-                state['module']['begin'](real['start_new_thread'], hook)
+                state['module']['begin'](hook)
             except Exception:                       # nothing of the recorder reaches the program
                 pass
+
+    def is_main_interpreter():
+        for name in ('_interpreters', '_xxsubinterpreters'):
+            try:
+                module = __import__(name)
+                return module.get_current() == module.get_main()
+            except (ImportError, AttributeError):
+                pass
+        return True
 
     def hooked(name):
         def start(*words, **more):
