@@ -1022,6 +1022,23 @@ void GOMP_critical_end(void) {
     real_GOMP_critical_end()();
 }
 
+/* ---- for the watcher of Python 3.11 and 3.12: the values of a frame's locals, each with a reference of its own. It is called with Python's lock held, and so at one moment;
+ * nothing of it is of use where the frame is not laid out as those versions have it, and then its code is another than the one that is given. */
+long armus_frame_values(const char *frame, long to_code, const void *code, long to_values, long count, uintptr_t *values) {
+    const char *inner = *(const char *const *)(frame + 24);
+    if (inner == NULL || *(const void *const *)(inner + to_code) != code) {
+        return 0;
+    }
+    for (long i = 0; i < count; i++) {
+        values[i] = ((const uintptr_t *)(inner + to_values))[i];
+        int32_t *references = (int32_t *)values[i];
+        if (references != NULL && *references >= 0) {           /* one that is below 0 is never given back */
+            ++*(intptr_t *)references;
+        }
+    }
+    return count;
+}
+
 /* ---- std::barrier, std::latch and what else waits by libc's syscall(SYS_futex). All other calls go on to libc as they came. */
 #ifdef __x86_64__
 static long (*volatile real_syscall)(long, ...) __attribute__((used));
