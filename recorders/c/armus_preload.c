@@ -34,7 +34,7 @@
 enum kind { BARRIER, JOIN, MUTEX, RWLOCK, CONDITION, SEMAPHORE, CRITICAL, TEAM, TEAM_END, IDLE, ADDRESS, KINDS };
 static const char *const kind_names[KINDS] = {"barrier", "end-of", "mutex", "rwlock", "condition", "semaphore", "critical", "team", "team-end", "idle", "address"};
 enum state { FREE, LIVE, ENDING };
-enum { CHUNK = 256, CHUNKS = 256, OBJECTS = 4096, LINE = 512, NAME = 40, MILLISECOND = 1000000, PERIOD = 50 };
+enum { CHUNK = 256, CHUNKS = 256, OBJECTS = 4096, LINE = 512, NAME = 40, MILLISECOND = 1000000, PERIOD = 50, LONGEST = 1000 };
 
 /* What a waiting thread says. The counter is odd while it waits; all else is written before the counter. */
 struct wait {
@@ -714,11 +714,12 @@ static void *watch(void *nothing) {
     watcher_tid = (pid_t)syscall(SYS_gettid);
     pthread_setname_np(pthread_self(), "armus");
     while (out >= 0) {
-        clock_gettime(CLOCK_MONOTONIC, &begun);
+        clock_gettime(CLOCK_THREAD_CPUTIME_ID, &begun);
         look();
-        clock_gettime(CLOCK_MONOTONIC, &done);
+        clock_gettime(CLOCK_THREAD_CPUTIME_ID, &done);
         long took = (done.tv_sec - begun.tv_sec) * 1000000000L + done.tv_nsec - begun.tv_nsec;
         long pause = took * 25 > PERIOD * (long)MILLISECOND ? took * 25 : PERIOD * (long)MILLISECOND;
+        pause = pause < LONGEST * (long)MILLISECOND ? pause : LONGEST * (long)MILLISECOND;
         struct timespec t = {pause / 1000000000L, pause % 1000000000L};
         nanosleep(&t, NULL);
     }

@@ -21,6 +21,7 @@ import java.util.concurrent.locks.LockSupport;
  * announces those that stood in the same wait at two looks. Begins with the program (-javaagent) or in one that already runs (armus-attach). */
 public final class Watcher implements Runnable {
     private static final int PERIOD = 50;
+    private static final int LONGEST = 1000;
     private static final int FRAMES = 64;
     private static final Set<String> OWN_THREADS = new HashSet<>(Arrays.asList("Reference Handler", "Finalizer", "Signal Dispatcher", "Attach Listener", "Common-Cleaner",
         "Notification Thread", "Service Thread", "DestroyJavaVM", "Monitor Deflation Thread", "armus watcher"));
@@ -79,14 +80,19 @@ public final class Watcher implements Runnable {
             long pause = PERIOD;
             while (true) {
                 Thread.sleep(pause);
-                long begun = System.nanoTime();
+                long begun = processorTime();
                 look();
-                pause = Math.max(PERIOD, 25 * (System.nanoTime() - begun) / 1_000_000);
+                pause = Math.min(LONGEST, Math.max(PERIOD, 25 * (processorTime() - begun) / 1_000_000));
             }
         } catch (InterruptedException | IOException e) {
             debug(e);
         }
         lines.close();
+    }
+
+    /** What this thread has taken of a processor, in nanoseconds; the first look, which wakes the machine's own beans, does not count. */
+    private long processorTime() {
+        return threads != null && threads.isCurrentThreadCpuTimeSupported() ? threads.getCurrentThreadCpuTime() : 0;
     }
 
     private Map<Long, Thread> present() {

@@ -15,7 +15,7 @@ import time
 import _thread
 import weakref
 
-PERIOD = 0.05
+PERIOD, LONGEST = 0.05, 1.0
 FUTEX = {'x86_64': 202, 'aarch64': 98, 'riscv64': 98, 'ppc64le': 221, 's390x': 238}.get(platform.machine())
 STANDARD = os.path.dirname(os.__file__) + os.sep
 OWN = __file__
@@ -645,9 +645,9 @@ class Life:
                 watcher = Watcher(self.lines)
                 pause = PERIOD
                 while not self.wake.acquire(timeout=pause):
-                    begun = time.monotonic()
+                    begun = time.thread_time()
                     watcher.look()
-                    pause = max(PERIOD, 25 * (time.monotonic() - begun))
+                    pause = min(LONGEST, max(PERIOD, 25 * (time.thread_time() - begun)))
         except BaseException as e:                        # nothing of the recorder reaches the program
             if os.environ.get('ARMUS_DEBUG'):
                 import traceback
