@@ -82,7 +82,8 @@ public final class Watcher implements Runnable {
                 Thread.sleep(pause);
                 long begun = processorTime();
                 look();
-                pause = Math.min(LONGEST, Math.max(PERIOD, 25 * (processorTime() - begun) / 1_000_000));
+                long took = begun == 0 ? 0 : processorTime() - begun;
+                pause = Math.min(LONGEST, Math.max(PERIOD, 25 * took / 1_000_000));
             }
         } catch (InterruptedException | IOException e) {
             debug(e);
