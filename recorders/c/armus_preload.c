@@ -1,0 +1,1065 @@
+/* The recorder of C and C++ programs on Linux: a library that is loaded before the program's own (LD_PRELOAD), so that nothing in the program changes. A thread that
+ * may wait writes into its own slot for what and from where; a watcher looks at all slots every 50 ms, asks the kernel whether those threads sleep at what they say,
+ * and announces who stood in the same wait at two looks. Seen are pthread barriers, joins, mutexes, read-write locks, conditions, semaphores, the teams of GCC's
+ * OpenMP, and what waits at an address by syscall(SYS_futex), as std::barrier and std::latch do.
+ *
+ * The recorder takes no signal, holds no lock, has no cancellation point of its own, and begins with the program's first thread or first wait. */
+#define _GNU_SOURCE
+#include <dirent.h>
+#include <dlfcn.h>
+#include <elf.h>
+#include <errno.h>
+#include <fcntl.h>
+#include <linux/futex.h>
+#include <pthread.h>
+#include <semaphore.h>
+#include <signal.h>
+#include <stdarg.h>
+#include <stdatomic.h>
+#include <stdbool.h>
+#include <stdint.h>
+#include <stdio.h>
+#include <stdlib.h>
+#include <string.h>
+#include <sys/mman.h>
+#include <sys/resource.h>
+#include <sys/socket.h>
+#include <sys/stat.h>
+#include <sys/syscall.h>
+#include <sys/uio.h>
+#include <sys/un.h>
+#include <time.h>
+#include <unistd.h>
+
+enum kind { BARRIER, JOIN, MUTEX, RWLOCK, CONDITION, SEMAPHORE, CRITICAL, TEAM, TEAM_END, IDLE, ADDRESS, KINDS };
+static const char *const kind_names[KINDS] = {"barrier", "end-of", "mutex", "rwlock", "condition", "semaphore", "critical", "team", "team-end", "idle", "address"};
+enum state { FREE, LIVE, ENDING };
+enum { CHUNK = 256, CHUNKS = 256, OBJECTS = 4096, LINE = 512, NAME = 40, MILLISECOND = 1000000, PERIOD = 50, LONGEST = 1000 };
+
+/* What a waiting thread says. The counter is odd while it waits; all else is written before the counter. */
+struct wait {
+    _Atomic(unsigned) count;
+    _Atomic(int) kind;
+    _Atomic(const void *) object;
+    _Atomic(const void *) from;     /* where it was called */
+    _Atomic(const void *) frame;
+};
+
+/* The team of OpenMP in which a thread is. */
+struct place_in_team {
+    _Atomic(unsigned) number, size, barriers;   /* 0: none; how many threads it has; the barriers that this thread came to */
+    _Atomic(struct slot *) first;               /* the thread that made it */
+    _Atomic(bool) at_end;
+    const void *from;
+};
+
+struct slot {
+    struct wait wait;
+    struct place_in_team team;
+    _Atomic(int) state;
+    _Atomic(pid_t) tid;
+    _Atomic(pthread_t) handle;
+    const void *begins;             /* the function of the thread */
+    unsigned number;
+    /* of the watcher alone */
+    bool announced, foreign, stands, over;
+    unsigned seen, told;            /* the counter at the last look; that of the wait that was announced, or 0 */
+    int kind;
+    const void *object;
+    unsigned barriers, team_number;
+    struct slot *owner;
+    int group;                      /* the one of the announced wait, or -1 */
+    char name[NAME], place[300];
+};
+
+static struct slot *_Atomic chunks[CHUNKS];
+static _Atomic(unsigned) thread_numbers, team_numbers;
+static __thread struct slot *mine __attribute__((tls_model("initial-exec")));
+static _Atomic(int) active = -1;    /* -1 not begun, 0 off, 1 on */
+static int out = -1;
+static struct stat out_stat;
+static pid_t process, watcher_tid;
+static _Atomic(struct slot *) critical_owner;
+
+/* ---- the functions of the libraries behind this one */
+#define REAL(result, name, ...) \
+    static result (*_Atomic real_##name##_found)(__VA_ARGS__); \
+    static inline result (*real_##name(void))(__VA_ARGS__) { \
+        result (*found)(__VA_ARGS__) = atomic_load_explicit(&real_##name##_found, memory_order_relaxed); \
+        if (found == NULL) { \
+            found = (result (*)(__VA_ARGS__))behind(#name); \
+            atomic_store_explicit(&real_##name##_found, found, memory_order_relaxed); \
+        } \
+        return found; \
+    }
+
+static void *behind(const char *name) {
+    void *found = NULL;
+    if (strncmp(name, "pthread_cond_", 13) == 0) {
+        found = dlvsym(RTLD_NEXT, name, "GLIBC_2.3.2");      /* x86: the default is not the oldest version */
+    }
+    return found != NULL ? found : dlsym(RTLD_NEXT, name);
+}
+
+REAL(int, pthread_create, pthread_t *, const pthread_attr_t *, void *(*)(void *), void *)
+REAL(int, pthread_join, pthread_t, void **)
+REAL(void, pthread_exit, void *)
+REAL(int, pthread_barrier_wait, pthread_barrier_t *)
+REAL(int, pthread_mutex_lock, pthread_mutex_t *)
+REAL(int, pthread_mutex_trylock, pthread_mutex_t *)
+REAL(int, pthread_rwlock_rdlock, pthread_rwlock_t *)
+REAL(int, pthread_rwlock_tryrdlock, pthread_rwlock_t *)
+REAL(int, pthread_rwlock_wrlock, pthread_rwlock_t *)
+REAL(int, pthread_rwlock_trywrlock, pthread_rwlock_t *)
+REAL(int, pthread_cond_wait, pthread_cond_t *, pthread_mutex_t *)
+REAL(int, sem_wait, sem_t *)
+
+/* ---- slots */
+static struct slot *slot_at(unsigned i) {
+    struct slot *chunk = atomic_load_explicit(&chunks[i / CHUNK], memory_order_acquire);
+    return chunk != NULL ? &chunk[i % CHUNK] : NULL;
+}
+
+static struct slot *taken_slot(void) {
+    for (unsigned c = 0; c < CHUNKS; c++) {
+        struct slot *chunk = atomic_load_explicit(&chunks[c], memory_order_acquire);
+        if (chunk == NULL) {
+            struct slot *made = mmap(NULL, CHUNK * sizeof *made, PROT_READ | PROT_WRITE, MAP_PRIVATE | MAP_ANONYMOUS, -1, 0);
+            if (made == MAP_FAILED) {
+                return NULL;
+            }
+            if (atomic_compare_exchange_strong(&chunks[c], &chunk, made)) {
+                chunk = made;
+            } else {
+                munmap(made, CHUNK * sizeof *made);
+            }
+        }
+        for (unsigned i = 0; i < CHUNK; i++) {
+            int free_state = FREE;
+            if (atomic_load_explicit(&chunk[i].state, memory_order_relaxed) == FREE && atomic_compare_exchange_strong(&chunk[i].state, &free_state, LIVE)) {
+                chunk[i].number = atomic_fetch_add(&thread_numbers, 1);
+                chunk[i].group = -1;
+                return &chunk[i];
+            }
+        }
+    }
+    return NULL;
+}
+
+static void begin_watching(void);
+
+static __attribute__((noinline)) struct slot *new_slot(void) {
+    if (atomic_load_explicit(&active, memory_order_relaxed) < 0) {
+        begin_watching();
+    }
+    if (atomic_load_explicit(&active, memory_order_relaxed) <= 0) {
+        return NULL;
+    }
+    if (mine == NULL) {
+        struct slot *s = taken_slot();
+        if (s != NULL) {
+            atomic_store(&s->tid, (pid_t)syscall(SYS_gettid));
+            atomic_store(&s->handle, pthread_self());
+            mine = s;
+        }
+    }
+    return mine;
+}
+
+/* The own slot; for a thread that was made without this library a new one. Nothing where the recorder is off. */
+static inline struct slot *own_slot(void) { return __builtin_expect(mine != NULL, 1) ? mine : new_slot(); }
+
+static inline void wait_begins(struct slot *s, enum kind kind, const void *object, const void *from, const void *frame) {
+    if (s != NULL) {
+        unsigned count = atomic_load_explicit(&s->wait.count, memory_order_relaxed);
+        atomic_store_explicit(&s->wait.count, (count + 2) & ~1u, memory_order_relaxed);
+        atomic_signal_fence(memory_order_seq_cst);
+        atomic_store_explicit(&s->wait.kind, (int)kind, memory_order_relaxed);
+        atomic_store_explicit(&s->wait.object, object, memory_order_relaxed);
+        atomic_store_explicit(&s->wait.from, from, memory_order_relaxed);
+        atomic_store_explicit(&s->wait.frame, frame, memory_order_relaxed);
+        atomic_store_explicit(&s->wait.count, ((count + 2) & ~1u) + 1, memory_order_release);
+    }
+}
+
+static inline void wait_ends(void *slot) {
+    struct slot *s = slot;
+    if (s != NULL) {
+        unsigned count = atomic_load_explicit(&s->wait.count, memory_order_relaxed);
+        atomic_store_explicit(&s->wait.count, (count + 1) & ~1u, memory_order_release);
+    }
+}
+
+/* ---- lines */
+static char text[1 << 16];
+static size_t length;
+
+static void hand_over(void) {
+    struct stat now;
+    if (length == 0 || out < 0) {
+        length = 0;
+        return;
+    }
+    bool same = fstat(out, &now) == 0 && now.st_ino == out_stat.st_ino && now.st_dev == out_stat.st_dev;   /* the program may have closed it and opened another */
+    ssize_t sent = same ? send(out, text, length, MSG_DONTWAIT | MSG_NOSIGNAL) : -1;
+    if (sent != (ssize_t)length) {
+        if (same) {
+            close(out);
+        }
+        out = -1;
+    }
+    length = 0;
+}
+
+__attribute__((format(printf, 1, 2))) static void say(const char *form, ...) {
+    va_list words;
+    if (length > sizeof text - 2 * LINE) {
+        hand_over();
+    }
+    va_start(words, form);
+    int n = vsnprintf(text + length, LINE, form, words);
+    va_end(words);
+    if (n > 0 && n < LINE) {
+        length += (size_t)n;
+        text[length++] = '\n';
+    }
+}
+
+/* ---- places */
+static bool read_memory(const void *from, void *to, size_t size) {
+    struct iovec a = {to, size}, b = {(void *)(uintptr_t)from, size};
+    return process_vm_readv(watcher_tid, &a, 1, &b, 1, 0) == (ssize_t)size;
+}
+
+static const char *base_name(const char *path) {
+    const char *stroke = strrchr(path, '/');
+    return stroke != NULL ? stroke + 1 : path;
+}
+
+static bool is_library_of_threads(const char *path) {
+    const char *base = base_name(path);
+    return strncmp(base, "libstdc++", 9) == 0 || strncmp(base, "libgomp", 7) == 0 || strncmp(base, "libc.so", 7) == 0 || strncmp(base, "libc++", 6) == 0
+        || strncmp(base, "libpthread", 10) == 0 || strncmp(base, "libarmus", 8) == 0 || strncmp(base, "libgcc", 6) == 0 || strncmp(base, "ld-linux", 8) == 0;
+}
+
+/* The addresses of the program's own calls: the one from which it waits, or, where that is a library of threads, the words of the stack that stand behind a call in
+ * another file. The next ones serve where the first is of code that a header brought into the program. */
+enum { CALLS = 5, WORDS = 160 };
+
+static unsigned own_calls(const void *from, const void *frame, const void **calls, Dl_info *info) {
+    static uintptr_t words[WORDS];
+    unsigned char before[6];
+    unsigned n = 0, size = sizeof words;
+    if (from != NULL && dladdr(from, info) != 0 && info->dli_fname != NULL && !is_library_of_threads(info->dli_fname)) {
+        calls[n++] = from;
+    }
+    while (frame != NULL && size >= 512 && !read_memory((const char *)frame + 16, words, size)) {
+        size /= 2;                                             /* the stack ends before */
+    }
+    for (unsigned i = 0; frame != NULL && i < size / sizeof words[0] && n < CALLS; i++) {
+        Dl_info found;
+        const char *at = (const char *)words[i];
+        if (words[i] > 4096 && dladdr(at, &found) != 0 && found.dli_fname != NULL && !is_library_of_threads(found.dli_fname) && (n == 0 || found.dli_fbase == info->dli_fbase)
+            && read_memory(at - 6, before, 6) && (before[1] == 0xe8 || (before[4] == 0xff && (before[5] & 0xf8) == 0xd0) || (before[0] == 0xff && before[1] == 0x15))) {
+            *info = found;
+            calls[n++] = at;
+        }
+    }
+    return n;
+}
+
+static void place_of(char *to, size_t size, const void *from, const void *frame, bool is_return) {
+    static char program[256];
+    const void *calls[CALLS];
+    Dl_info info;
+    unsigned n = from != NULL ? own_calls(from, frame, calls, &info) : 0;
+    if (program[0] == 0) {
+        ssize_t length_of_name = readlink("/proc/self/exe", program, sizeof program - 1);
+        program[length_of_name > 0 ? length_of_name : 0] = 0;
+    }
+    if (n == 0) {
+        snprintf(to, size, "%s", program[0] ? base_name(program) : "main");
+        return;
+    }
+    const char *file = info.dli_fname[0] == '/' ? info.dli_fname : program;
+    bool fixed = ((const Elf64_Ehdr *)info.dli_fbase)->e_type == ET_EXEC;
+    int k = snprintf(to, size, "%.180s", strlen(file) > 180 ? base_name(file) : file);
+    for (unsigned i = 0; i < n; i++) {
+        uintptr_t offset = (uintptr_t)calls[i] - (is_return ? 1 : 0) - (fixed ? 0 : (uintptr_t)info.dli_fbase);
+        k += snprintf(to + k, size - (size_t)k, "%c%#lx", i == 0 ? '+' : ',', (unsigned long)offset);
+    }
+}
+
+/* ---- what the kernel says */
+static bool proc_text(const char *form, pid_t tid, char *to, size_t size) {
+    char path[64];
+    snprintf(path, sizeof path, form, (int)tid);
+    int f = open(path, O_RDONLY | O_CLOEXEC);
+    if (f < 0) {
+        return false;
+    }
+    ssize_t n = read(f, to, size - 1);
+    close(f);
+    to[n > 0 ? n : 0] = 0;
+    return n > 0;
+}
+
+static bool is_over(pid_t tid) {
+    char line[256];
+    if (!proc_text("/proc/self/task/%d/stat", tid, line, sizeof line)) {
+        return true;
+    }
+    const char *close_of_name = strrchr(line, ')');
+    return close_of_name != NULL && (close_of_name[2] == 'Z' || close_of_name[2] == 'X');
+}
+
+/* Whether the memory of this address is shared with other processes. */
+static bool is_shared(unsigned long address) {
+    static unsigned long own[64];                              /* addresses that are known to be the process's own */
+    unsigned long *known = &own[address / 64 % 64];
+    char line[512];
+    if (*known == address) {
+        return false;
+    }
+    FILE *maps = fopen("/proc/self/maps", "re");
+    bool shared = true;
+    while (maps != NULL && fgets(line, sizeof line, maps) != NULL) {
+        unsigned long from, to;
+        char may[5];
+        if (sscanf(line, "%lx-%lx %4s", &from, &to, may) == 3 && from <= address && address < to) {
+            shared = may[3] != 'p';
+        }
+    }
+    if (maps != NULL) {
+        fclose(maps);
+    }
+    *known = shared ? 0 : address;
+    return shared;
+}
+
+/* Whether the thread sleeps without a limit in a futex call, and, but at OpenMP's objects, at an address of the object. */
+static bool sleeps(const struct slot *s) {
+    static const size_t sizes[KINDS] = {[BARRIER] = sizeof(pthread_barrier_t), [JOIN] = 4096, [MUTEX] = sizeof(pthread_mutex_t), [RWLOCK] = sizeof(pthread_rwlock_t),
+        [CONDITION] = sizeof(pthread_cond_t), [SEMAPHORE] = sizeof(sem_t), [ADDRESS] = 8};
+    char line[256];
+    unsigned long words[4];
+    long number;
+    if (!proc_text("/proc/self/task/%d/syscall", atomic_load(&s->tid), line, sizeof line)
+        || sscanf(line, "%ld %lx %lx %lx %lx", &number, &words[0], &words[1], &words[2], &words[3]) != 5 || number != SYS_futex) {
+        return false;
+    }
+    int call = (int)words[1] & FUTEX_CMD_MASK;
+    if ((call != FUTEX_WAIT && call != FUTEX_WAIT_BITSET && call != FUTEX_LOCK_PI && call != FUTEX_LOCK_PI2) || words[3] != 0) {
+        return false;
+    }
+    if (s->kind != JOIN && !(words[1] & FUTEX_PRIVATE_FLAG) && is_shared(words[0])) {
+        return false;                                          /* another process may come */
+    }
+    return sizes[s->kind] == 0 || words[0] - (uintptr_t)s->object < sizes[s->kind];
+}
+
+/* Whether a signal's handler may act: one is installed, and not only for a fault of the program itself. */
+static bool has_handlers(void) {
+    char status[4096];
+    unsigned long caught = 0;
+    int f = open("/proc/self/status", O_RDONLY | O_CLOEXEC);
+    if (f < 0) {
+        return true;
+    }
+    ssize_t n = read(f, status, sizeof status - 1);
+    close(f);
+    status[n > 0 ? n : 0] = 0;
+    const char *at = strstr(status, "SigCgt:");
+    if (at != NULL) {
+        sscanf(at, "SigCgt: %lx", &caught);
+    }
+    unsigned long faults = 1ul << (SIGSEGV - 1) | 1ul << (SIGBUS - 1) | 1ul << (SIGFPE - 1) | 1ul << (SIGILL - 1) | 1ul << (SIGABRT - 1) | 3ul << 31;
+    return at == NULL || (caught & ~faults) != 0;
+}
+
+/* ---- objects and groups: who waits for the same */
+struct object { int kind; const void *key; unsigned number, team, turns; };
+static struct object objects[OBJECTS];
+static unsigned object_count[KINDS];
+struct group { bool used; int kind; const void *object; unsigned team, barriers; struct slot *owner; bool any; unsigned number, wildcards; char name[NAME + 24]; unsigned turn; };
+static struct group groups[OBJECTS];
+static bool any_is_said;
+
+static struct object *object_of(int kind, const void *key, unsigned team) {
+    unsigned h = (unsigned)(((uintptr_t)key >> 3) * 2654435761u + (unsigned)kind * 97 + team * 31) % OBJECTS;
+    for (unsigned i = 0; i < OBJECTS; i++, h = (h + 1) % OBJECTS) {
+        struct object *o = &objects[h];
+        if (o->number == 0) {
+            *o = (struct object){kind, key, ++object_count[kind], team, 0};
+            return o;
+        }
+        if (o->kind == kind && o->key == key && o->team == team) {
+            return o;
+        }
+    }
+    return NULL;
+}
+
+#define EACH_SLOT(s) for (unsigned index_ = 0; index_ < CHUNK * CHUNKS && slot_at(index_) != NULL; index_++) for (struct slot *s = slot_at(index_); s != NULL; s = NULL) if (atomic_load_explicit(&s->state, memory_order_acquire) != FREE)
+
+static struct slot *slot_of_tid(pid_t tid) {
+    struct slot *found = NULL;
+    EACH_SLOT(s) {
+        if (atomic_load_explicit(&s->tid, memory_order_relaxed) == tid && !s->over && (found == NULL || found->foreign)) {
+            found = s;
+        }
+    }
+    return found;
+}
+
+static void named(struct slot *s) {
+    char comm[20] = "", own[20] = "";
+    pid_t tid = atomic_load(&s->tid);
+    if (tid == process) {
+        snprintf(s->name, sizeof s->name, "main");
+        return;
+    }
+    proc_text("/proc/self/task/%d/comm", tid, comm, sizeof comm);
+    proc_text("/proc/self/task/%d/comm", process, own, sizeof own);
+    comm[strcspn(comm, "\n")] = own[strcspn(own, "\n")] = 0;
+    for (char *c = comm; *c != 0; c++) {
+        *c = *c > 32 && *c < 127 && *c != '/' ? *c : '_';
+    }
+    if (comm[0] == 0 || strcmp(comm, own) == 0) {
+        snprintf(s->name, sizeof s->name, "thread-%u", s->number);
+        return;
+    }
+    snprintf(s->name, sizeof s->name, "%s", comm);
+    EACH_SLOT(t) {
+        if (t != s && t->announced && strcmp(t->name, s->name) == 0) {
+            snprintf(s->name, sizeof s->name, "%s_%u", comm, s->number);
+        }
+    }
+}
+
+/* Threads that this library did not see begin: they run. */
+static void find_foreign(void) {
+    DIR *d = opendir("/proc/self/task");
+    struct dirent *e;
+    while (d != NULL && (e = readdir(d)) != NULL) {
+        pid_t tid = (pid_t)atoi(e->d_name);
+        if (tid > 0 && tid != watcher_tid && slot_of_tid(tid) == NULL && !is_over(tid)) {
+            struct slot *s = taken_slot();
+            if (s != NULL) {
+                s->foreign = true;
+                atomic_store(&s->tid, tid);
+            }
+        }
+    }
+    if (d != NULL) {
+        closedir(d);
+    }
+}
+
+/* ---- a look */
+static struct slot *owner_of(const struct slot *s) {
+    int owner = 0;
+    if (s->kind == MUTEX) {
+        pthread_mutex_t m;
+        owner = read_memory(s->object, &m, sizeof m) ? m.__data.__owner & FUTEX_TID_MASK : 0;
+    } else if (s->kind == RWLOCK) {
+        pthread_rwlock_t l;
+        owner = read_memory(s->object, &l, sizeof l) ? l.__data.__cur_writer : 0;
+    } else if (s->kind == CRITICAL) {
+        return s->object == NULL ? atomic_load(&critical_owner) : NULL;
+    } else if (s->kind == JOIN) {
+        EACH_SLOT(t) {
+            if (atomic_load(&t->handle) == (pthread_t)(uintptr_t)s->object && !t->foreign) {
+                return t;
+            }
+        }
+        return NULL;
+    }
+    return owner > 0 ? slot_of_tid(owner) : NULL;
+}
+
+static void look_at(struct slot *s, int *handlers) {
+    s->stands = false;
+    unsigned count = atomic_load_explicit(&s->wait.count, memory_order_acquire);
+    bool twice = count % 2 == 1 && count == s->seen;
+    s->seen = count;
+    if (!twice || s->foreign) {
+        return;
+    }
+    s->kind = atomic_load_explicit(&s->wait.kind, memory_order_relaxed);
+    s->object = atomic_load_explicit(&s->wait.object, memory_order_relaxed);
+    s->team_number = atomic_load(&s->team.number);
+    s->barriers = atomic_load(&s->team.barriers);
+    atomic_thread_fence(memory_order_acquire);
+    if ((s->kind == SEMAPHORE || s->kind == ADDRESS) && *handlers < 0) {
+        *handlers = has_handlers();
+    }
+    if (((s->kind == SEMAPHORE || s->kind == ADDRESS) && *handlers) || !sleeps(s)) {
+        return;
+    }
+    s->owner = owner_of(s);
+    if (s->kind == TEAM_END) {
+        struct slot *first = atomic_load(&s->team.first);
+        if (first == NULL || atomic_load(&first->team.number) != s->team_number) {
+            s->kind = IDLE;                                    /* the region is over: a thread of the pool */
+        }
+    }
+    s->stands = atomic_load_explicit(&s->wait.count, memory_order_acquire) == count;
+}
+
+static bool keeps(const struct slot *member, const struct group *g) {
+    if (atomic_load(&member->team.number) != g->team || member->over) {
+        return false;
+    }
+    return g->kind == TEAM ? atomic_load(&member->team.barriers) < g->barriers : !atomic_load(&member->team.at_end);
+}
+
+static bool fits(const struct slot *s, const struct group *g) {
+    return g->used && g->kind == s->kind && g->object == s->object && g->owner == s->owner
+        && ((s->kind != TEAM && s->kind != TEAM_END) || (g->team == s->team_number && (s->kind == TEAM_END || g->barriers == s->barriers)));
+}
+
+/* A team's group is over when somebody of whom it waited has come, and any when one of its waiting threads does not stand there any more. */
+static bool is_past(unsigned i) {
+    struct group *g = &groups[i];
+    unsigned kept = 0;
+    EACH_SLOT(s) {
+        if (s->group == (int)i && (s->over || !s->stands || s->seen != s->told || !fits(s, g))) {
+            return true;
+        }
+        kept += (g->kind == TEAM || g->kind == TEAM_END) && keeps(s, g);
+    }
+    return (g->kind == TEAM || g->kind == TEAM_END) && kept != g->number;
+}
+
+static void retire(unsigned i) {
+    struct group *g = &groups[i];
+    struct object *o = object_of(g->kind, g->object, g->kind == TEAM || g->kind == TEAM_END ? g->team : 0);
+    if (g->any) {
+        say("%d/?any-thread leave %d/%s", process, process, g->name);
+    }
+    for (unsigned k = 0; k < g->wildcards; k++) {
+        say(k == 0 ? "%d/?%s end" : "%d/?%s#%u end", process, g->name, k);
+    }
+    EACH_SLOT(s) {
+        if (s->group == (int)i) {
+            say("%d/%s go", process, s->name);
+            s->group = -1;
+            s->told = 0;
+        }
+    }
+    if (o != NULL) {
+        o->turns++;
+    }
+    g->used = false;
+}
+
+/* Where nobody knows who may act it is any thread of this process: a wildcard that is a member of all such phasers. */
+static void say_any(void) {
+    char line[LINE];
+    unsigned names = 0;
+    size_t n = (size_t)snprintf(line, sizeof line, "%d/?any-thread of", process);
+    EACH_SLOT(s) {
+        names += s->announced;
+        if (s->announced && n < sizeof line) {
+            n += (size_t)snprintf(line + n, sizeof line - n, " %d/%s", process, s->name);
+        }
+    }
+    if (n < LINE && names > 1) {
+        say("%s", line);
+    } else {
+        say("%d/?any-thread any", process);
+    }
+}
+
+static void wildcard(struct group *g, const struct slot *only) {
+    char name[NAME + 50];
+    if (only == NULL) {
+        if (!any_is_said) {
+            any_is_said = true;
+            say_any();
+        }
+        say("%d/?any-thread join %d/%s %u", process, process, g->name, g->turn);
+        g->any = true;
+        return;
+    }
+    snprintf(name, sizeof name, g->wildcards == 0 ? "%d/?%s" : "%d/?%s#%u", process, g->name, g->wildcards);
+    say("%s of %d/%s", name, process, only->name);
+    say("%s join %d/%s %u", name, process, g->name, g->turn);
+    g->wildcards++;
+}
+
+static int new_group(struct slot *s) {
+    struct object *o = object_of(s->kind, s->object, s->kind == TEAM || s->kind == TEAM_END ? s->team_number : 0);
+    if (o == NULL) {
+        return -1;
+    }
+    for (unsigned i = 0; i < OBJECTS; i++) {
+        struct group *g = &groups[i];
+        if (g->used) {
+            continue;
+        }
+        *g = (struct group){.used = true, .kind = s->kind, .object = s->object, .team = s->team_number, .barriers = s->barriers, .owner = s->owner, .turn = o->turns};
+        snprintf(g->name, sizeof g->name, s->kind == JOIN && s->owner != NULL ? "%s-%s" : "%s-%s", kind_names[s->kind], s->kind == JOIN && s->owner != NULL ? s->owner->name : "");
+        if (s->kind != JOIN || s->owner == NULL) {
+            snprintf(g->name, sizeof g->name, "%s-%u", kind_names[s->kind], o->number);
+        }
+        for (unsigned j = 0; j < OBJECTS; j++) {
+            if (j != i && groups[j].used && strcmp(groups[j].name, g->name) == 0) {
+                snprintf(g->name + strlen(g->name), 8, ".%u", i % 100000);   /* the same object, kept by another thread */
+                break;
+            }
+        }
+        if (s->kind == TEAM || s->kind == TEAM_END) {
+            unsigned members = 0;
+            EACH_SLOT(t) {
+                members += atomic_load(&t->team.number) == g->team && !t->over;
+                if (keeps(t, g)) {
+                    wildcard(g, t);
+                    g->number++;
+                }
+            }
+            if (members < atomic_load(&s->team.size)) {
+                wildcard(g, NULL);
+            }
+        } else {
+            wildcard(g, s->owner);
+        }
+        return (int)i;
+    }
+    return -1;
+}
+
+static void announce_new(void) {
+    bool news = false;
+    EACH_SLOT(s) {
+        if (!s->announced && atomic_load(&s->tid) != 0 && !s->over) {
+            named(s);
+            place_of(s->place, sizeof s->place, s->begins, NULL, false);
+            say("%d/%s at @%s", process, s->name, s->place);
+            s->announced = news = true;
+        }
+    }
+    if (news && any_is_said) {
+        say_any();
+    }
+}
+
+static void announce_wait(struct slot *s) {
+    for (unsigned i = 0; i < OBJECTS && s->group < 0; i++) {
+        s->group = fits(s, &groups[i]) ? (int)i : -1;
+    }
+    s->group = s->group >= 0 ? s->group : new_group(s);
+    if (s->group >= 0) {
+        place_of(s->place, sizeof s->place, atomic_load(&s->wait.from), s->kind == ADDRESS || s->kind == CONDITION || s->kind == JOIN ? atomic_load(&s->wait.frame) : NULL, true);
+        say("%d/%s wait %d/%s %u @%s", process, s->name, process, groups[s->group].name, groups[s->group].turn + 1, s->place);
+        s->told = s->seen;
+    }
+}
+
+static void look(void) {
+    int handlers = -1;
+    bool news = false;
+    EACH_SLOT(s) {
+        look_at(s, &handlers);
+        if (!s->over && (atomic_load(&s->state) == ENDING || s->foreign) && atomic_load(&s->tid) != 0) {
+            s->over = is_over(atomic_load(&s->tid));
+            news |= s->over;
+        }
+        news |= s->stands && s->group < 0;
+    }
+    if (news) {
+        find_foreign();
+    }
+    EACH_SLOT(s) {
+        if (atomic_load(&s->tid) == 0) {
+            return;                                            /* a thread is beginning: the next look knows it */
+        }
+        s->over |= s->foreign && slot_of_tid(atomic_load(&s->tid)) != s;
+    }
+    announce_new();
+    for (unsigned i = 0; i < OBJECTS; i++) {
+        if (groups[i].used && is_past(i)) {
+            retire(i);
+        }
+    }
+    EACH_SLOT(s) {
+        if (s->over) {
+            if (s->announced) {
+                say("%d/%s end", process, s->name);
+            }
+            memset(&s->wait, 0, sizeof s->wait);
+            memset(&s->team, 0, sizeof s->team);
+            s->announced = s->over = s->stands = s->foreign = false;
+            s->seen = s->told = 0;
+            s->begins = NULL;
+            s->owner = NULL;
+            atomic_store(&s->handle, 0);
+            atomic_store(&s->tid, 0);
+            atomic_store(&s->state, FREE);
+        }
+    }
+    for (int pass = 0; pass < 3; pass++) {                     /* who waits for a thread's end first, and the end of a team last: so the first words name the cause */
+        EACH_SLOT(s) {
+            if (s->stands && s->group < 0 && s->announced && pass == (s->kind == JOIN ? 0 : s->kind == TEAM_END ? 2 : 1)) {
+                announce_wait(s);
+            }
+        }
+    }
+    hand_over();
+}
+
+static void *watch(void *nothing) {
+    struct timespec begun, done;
+    watcher_tid = (pid_t)syscall(SYS_gettid);
+    pthread_setname_np(pthread_self(), "armus");
+    while (out >= 0) {
+        clock_gettime(CLOCK_THREAD_CPUTIME_ID, &begun);
+        look();
+        clock_gettime(CLOCK_THREAD_CPUTIME_ID, &done);
+        long took = (done.tv_sec - begun.tv_sec) * 1000000000L + done.tv_nsec - begun.tv_nsec;
+        long pause = took * 25 > PERIOD * (long)MILLISECOND ? took * 25 : PERIOD * (long)MILLISECOND;
+        pause = pause < LONGEST * (long)MILLISECOND ? pause : LONGEST * (long)MILLISECOND;
+        struct timespec t = {pause / 1000000000L, pause % 1000000000L};
+        nanosleep(&t, NULL);
+    }
+    atomic_store(&active, 0);
+    return nothing;
+}
+
+/* ---- begin */
+static bool has_another_recorder(void) {
+    char exe[512];
+    ssize_t n = readlink("/proc/self/exe", exe, sizeof exe - 1);
+    exe[n > 0 ? n : 0] = 0;
+    const char *base = base_name(exe);
+    return dlsym(RTLD_DEFAULT, "JNI_CreateJavaVM") != NULL || dlsym(RTLD_DEFAULT, "Py_IsInitialized") != NULL || strcmp(base, "java") == 0
+        || dlsym(RTLD_DEFAULT, "MPI_Init") != NULL || strncmp(base, "orte", 4) == 0 || strncmp(base, "prte", 4) == 0 || strncmp(base, "hydra", 5) == 0;
+}
+
+static int connected(const char *path) {
+    struct sockaddr_un to = {.sun_family = AF_UNIX};
+    size_t n = strcspn(path, "|");
+    if (n >= sizeof to.sun_path) {
+        return -1;
+    }
+    memcpy(to.sun_path, path, n);
+    int s = socket(AF_UNIX, SOCK_STREAM | SOCK_CLOEXEC, 0);
+    if (s < 0) {
+        return -1;
+    }
+    if (connect(s, (struct sockaddr *)&to, sizeof to) < 0) {
+        close(s);
+        return -1;
+    }
+    struct rlimit most;
+    long high = getrlimit(RLIMIT_NOFILE, &most) == 0 && most.rlim_cur < 65536 ? (long)most.rlim_cur : 65536;
+    int moved = fcntl(s, F_DUPFD_CLOEXEC, (int)(high - high / 16));   /* out of the way of the program's own */
+    if (moved >= 0) {
+        close(s);
+        return moved;
+    }
+    return s;
+}
+
+static void forked(void) {
+    struct stat now;
+    if (out >= 0 && fstat(out, &now) == 0 && now.st_ino == out_stat.st_ino) {
+        close(out);
+    }
+    out = -1;
+    length = 0;
+    for (unsigned c = 0; c < CHUNKS; c++) {
+        struct slot *chunk = atomic_load(&chunks[c]);
+        if (chunk != NULL) {
+            memset(chunk, 0, CHUNK * sizeof *chunk);
+        }
+    }
+    memset(objects, 0, sizeof objects);
+    memset(object_count, 0, sizeof object_count);
+    memset(groups, 0, sizeof groups);
+    any_is_said = false;
+    mine = NULL;
+    atomic_store(&critical_owner, NULL);
+    atomic_store(&active, -1);
+}
+
+static void begin_watching(void) {
+    static _Atomic(bool) handled;
+    int not_begun = -1;
+    const char *path = getenv("ARMUS_SOCKET");
+    if (!atomic_compare_exchange_strong(&active, &not_begun, 0) || path == NULL || has_another_recorder()) {
+        return;
+    }
+    int saved = errno;
+    process = getpid();
+    out = connected(path);
+    if (out >= 0 && fstat(out, &out_stat) == 0) {
+        sigset_t all, own;
+        pthread_attr_t kept;
+        pthread_t watcher;
+        atomic_store(&thread_numbers, 0);
+        if (!atomic_exchange(&handled, true)) {
+            pthread_atfork(NULL, NULL, forked);
+        }
+        say("# process %d/", process);
+        atomic_store(&active, 1);
+        own_slot();                                            /* whoever begins is the first; main, if it is another, is found as foreign */
+        sigfillset(&all);
+        pthread_sigmask(SIG_SETMASK, &all, &own);
+        pthread_attr_init(&kept);
+        pthread_attr_setdetachstate(&kept, PTHREAD_CREATE_DETACHED);
+        pthread_attr_setstacksize(&kept, 256 * 1024);
+        if (real_pthread_create()(&watcher, &kept, watch, NULL) != 0) {
+            atomic_store(&active, 0);
+            close(out);
+            out = -1;
+        }
+        pthread_attr_destroy(&kept);
+        pthread_sigmask(SIG_SETMASK, &own, NULL);
+    }
+    errno = saved;
+}
+
+/* ---- threads */
+struct start { void *(*function)(void *); void *word; struct slot *slot; };
+
+static void thread_ends(void *slot) {
+    struct slot *s = slot;
+    wait_ends(s);
+    atomic_store(&s->state, ENDING);
+}
+
+static void *run(void *word) {
+    struct start start = *(struct start *)word;
+    void *result;
+    free(word);
+    mine = start.slot;
+    atomic_store(&mine->handle, pthread_self());
+    atomic_store(&mine->tid, (pid_t)syscall(SYS_gettid));
+    pthread_cleanup_push(thread_ends, start.slot);
+    result = start.function(start.word);
+    pthread_cleanup_pop(1);
+    return result;
+}
+
+int pthread_create(pthread_t *to, const pthread_attr_t *kept, void *(*function)(void *), void *word) {
+    struct slot *own = own_slot();
+    struct start *start = own != NULL ? malloc(sizeof *start) : NULL;
+    struct slot *s = start != NULL ? taken_slot() : NULL;
+    if (s == NULL) {
+        free(start);
+        return real_pthread_create()(to, kept, function, word);
+    }
+    s->begins = (const void *)(uintptr_t)function;
+    *start = (struct start){function, word, s};
+    int result = real_pthread_create()(to, kept, run, start);
+    if (result != 0) {
+        atomic_store(&s->state, FREE);
+        free(start);
+    }
+    return result;
+}
+
+__attribute__((noreturn)) void pthread_exit(void *result) {
+    if (mine != NULL && atomic_load(&mine->tid) == process) {
+        atomic_store(&mine->state, ENDING);
+    }
+    real_pthread_exit()(result);
+    __builtin_unreachable();
+}
+
+/* ---- waits. A call that is a cancellation point is one here, and no other is. */
+#define HERE __builtin_extract_return_addr(__builtin_return_address(0)), __builtin_frame_address(0)
+#define CANCELLABLE(kind, object, call) \
+    int result; \
+    struct slot *s = own_slot(); \
+    wait_begins(s, kind, object, HERE); \
+    pthread_cleanup_push(wait_ends, s); \
+    result = call; \
+    pthread_cleanup_pop(1); \
+    return result
+#define TRIED_FIRST(kind, type, name, tried) \
+    static __attribute__((noinline)) int waits_##name(type *object, const void *from) { \
+        struct slot *s = own_slot(); \
+        wait_begins(s, kind, object, from, NULL); \
+        int result = real_##name()(object); \
+        wait_ends(s); \
+        return result; \
+    } \
+    int name(type *object) { \
+        int result = real_##tried()(object); \
+        return __builtin_expect(result != EBUSY, 1) ? result : waits_##name(object, __builtin_extract_return_addr(__builtin_return_address(0))); \
+    }
+
+int pthread_join(pthread_t thread, void **to) { CANCELLABLE(JOIN, (const void *)(uintptr_t)thread, real_pthread_join()(thread, to)); }
+int pthread_cond_wait(pthread_cond_t *c, pthread_mutex_t *m) { CANCELLABLE(CONDITION, c, real_pthread_cond_wait()(c, m)); }
+int sem_wait(sem_t *t) { CANCELLABLE(SEMAPHORE, t, real_sem_wait()(t)); }
+
+int pthread_barrier_wait(pthread_barrier_t *b) {
+    struct slot *s = own_slot();
+    wait_begins(s, BARRIER, b, HERE);
+    int result = real_pthread_barrier_wait()(b);
+    wait_ends(s);
+    return result;
+}
+
+TRIED_FIRST(MUTEX, pthread_mutex_t, pthread_mutex_lock, pthread_mutex_trylock)
+TRIED_FIRST(RWLOCK, pthread_rwlock_t, pthread_rwlock_rdlock, pthread_rwlock_tryrdlock)
+TRIED_FIRST(RWLOCK, pthread_rwlock_t, pthread_rwlock_wrlock, pthread_rwlock_trywrlock)
+
+/* ---- teams of GCC's OpenMP. Its members are known: a thread waits for each of the team that has not come yet. */
+struct region { void (*function)(void *); void *word; unsigned number; struct slot *first; const void *from; };
+
+static unsigned team_size(void) {
+    static int (*_Atomic found)(void);
+    if (atomic_load(&found) == NULL) {
+        atomic_store(&found, (int (*)(void))dlsym(RTLD_DEFAULT, "omp_get_num_threads"));
+    }
+    return atomic_load(&found) != NULL ? (unsigned)atomic_load(&found)() : 0;
+}
+
+static void region(void *word) {
+    struct region *r = word;
+    struct slot *s = own_slot();
+    if (s == NULL) {
+        r->function(r->word);
+        return;
+    }
+    wait_ends(s);
+    atomic_store(&s->team.at_end, false);
+    atomic_store(&s->team.barriers, 0);
+    atomic_store(&s->team.size, team_size());
+    atomic_store(&s->team.first, r->first);
+    s->team.from = r->from;
+    atomic_store(&s->team.number, r->number);
+    r->function(r->word);
+    const void *from = s->team.from;
+    atomic_store(&s->team.at_end, true);
+    wait_begins(s, TEAM_END, NULL, from, NULL);
+}
+
+struct kept_team { unsigned number, size, barriers; struct slot *first; bool at_end; const void *from; };
+
+static struct kept_team team_of(struct slot *s) {
+    struct kept_team t = {0};
+    if (s != NULL) {
+        t = (struct kept_team){atomic_load(&s->team.number), atomic_load(&s->team.size), atomic_load(&s->team.barriers), atomic_load(&s->team.first), atomic_load(&s->team.at_end), s->team.from};
+    }
+    return t;
+}
+
+static void back_to_team(struct slot *s, struct kept_team t) {
+    if (s != NULL) {
+        wait_ends(s);
+        atomic_store(&s->team.number, 0);
+        atomic_store(&s->team.size, t.size);
+        atomic_store(&s->team.barriers, t.barriers);
+        atomic_store(&s->team.first, t.first);
+        atomic_store(&s->team.at_end, t.at_end);
+        s->team.from = t.from;
+        atomic_store(&s->team.number, t.number);
+    }
+}
+
+#define REGION(call) \
+    struct slot *s = own_slot(); \
+    struct kept_team outer = team_of(s); \
+    struct region r = {function, word, atomic_fetch_add(&team_numbers, 1) + 1, s, __builtin_return_address(0)}; \
+    call; \
+    back_to_team(s, outer)
+#define LOOP_REGION(name) \
+    REAL(void, name, void (*)(void *), void *, unsigned, long, long, long, long, unsigned) \
+    void name(void (*function)(void *), void *word, unsigned n, long a, long b, long c, long d, unsigned flags) { REGION(real_##name()(region, &r, n, a, b, c, d, flags)); }
+#define PLAIN_LOOP_REGION(name) \
+    REAL(void, name, void (*)(void *), void *, unsigned, long, long, long, unsigned) \
+    void name(void (*function)(void *), void *word, unsigned n, long a, long b, long c, unsigned flags) { REGION(real_##name()(region, &r, n, a, b, c, flags)); }
+REAL(void, GOMP_parallel, void (*)(void *), void *, unsigned, unsigned)
+void GOMP_parallel(void (*function)(void *), void *word, unsigned n, unsigned flags) { REGION(real_GOMP_parallel()(region, &r, n, flags)); }
+REAL(void, GOMP_parallel_sections, void (*)(void *), void *, unsigned, unsigned, unsigned)
+void GOMP_parallel_sections(void (*function)(void *), void *word, unsigned n, unsigned count, unsigned flags) { REGION(real_GOMP_parallel_sections()(region, &r, n, count, flags)); }
+LOOP_REGION(GOMP_parallel_loop_static)
+LOOP_REGION(GOMP_parallel_loop_dynamic)
+LOOP_REGION(GOMP_parallel_loop_guided)
+LOOP_REGION(GOMP_parallel_loop_nonmonotonic_dynamic)
+LOOP_REGION(GOMP_parallel_loop_nonmonotonic_guided)
+PLAIN_LOOP_REGION(GOMP_parallel_loop_runtime)
+PLAIN_LOOP_REGION(GOMP_parallel_loop_nonmonotonic_runtime)
+PLAIN_LOOP_REGION(GOMP_parallel_loop_maybe_nonmonotonic_runtime)
+
+static struct slot *team_wait_begins(const void *from, const void *frame) {
+    struct slot *s = own_slot();
+    if (s == NULL || atomic_load_explicit(&s->team.number, memory_order_relaxed) == 0) {
+        return NULL;
+    }
+    atomic_store(&s->team.barriers, atomic_load_explicit(&s->team.barriers, memory_order_relaxed) + 1);
+    wait_begins(s, TEAM, NULL, from, frame);
+    return s;
+}
+
+#define TEAM_WAIT(result, name) \
+    REAL(result, name, void) \
+    result name(void) { struct slot *s = team_wait_begins(HERE); TEAM_CALL_##result(name) }
+#define TEAM_CALL_void(name) real_##name()(); wait_ends(s);
+#define TEAM_CALL_bool(name) bool was_cancelled = real_##name()(); wait_ends(s); return was_cancelled;
+TEAM_WAIT(void, GOMP_barrier)
+TEAM_WAIT(void, GOMP_loop_end)
+TEAM_WAIT(void, GOMP_sections_end)
+TEAM_WAIT(bool, GOMP_barrier_cancel)
+TEAM_WAIT(bool, GOMP_loop_end_cancel)
+TEAM_WAIT(bool, GOMP_sections_end_cancel)
+
+REAL(void, GOMP_critical_start, void)
+REAL(void, GOMP_critical_end, void)
+void GOMP_critical_start(void) {
+    struct slot *s = own_slot();
+    wait_begins(s, CRITICAL, NULL, HERE);
+    real_GOMP_critical_start()();
+    wait_ends(s);
+    atomic_store(&critical_owner, s);
+}
+void GOMP_critical_end(void) {
+    atomic_store(&critical_owner, NULL);
+    real_GOMP_critical_end()();
+}
+
+/* ---- for the watcher of Python 3.11 and 3.12: the values of a frame's locals, each with a reference of its own. It is called with Python's lock held, and so at one moment;
+ * nothing of it is of use where the frame is not laid out as those versions have it, and then its code is another than the one that is given. */
+long armus_frame_values(const char *frame, long to_code, const void *code, long to_values, long count, uintptr_t *values) {
+    const char *inner = *(const char *const *)(frame + 24);
+    if (inner == NULL || *(const void *const *)(inner + to_code) != code) {
+        return 0;
+    }
+    for (long i = 0; i < count; i++) {
+        values[i] = ((const uintptr_t *)(inner + to_values))[i];
+        int32_t *references = (int32_t *)values[i];
+        if (references != NULL && *references >= 0) {           /* one that is below 0 is never given back */
+            ++*(intptr_t *)references;
+        }
+    }
+    return count;
+}
+
+/* ---- std::barrier, std::latch and what else waits by libc's syscall(SYS_futex). All other calls go on to libc as they came. */
+#ifdef __x86_64__
+static long (*volatile real_syscall)(long, ...) __attribute__((used));
+
+__attribute__((constructor, used)) static void find_syscall(void) { real_syscall = (long (*)(long, ...))dlsym(RTLD_NEXT, "syscall"); }
+
+__attribute__((used)) static long futex_call(long number, long a, long b, long c, long d, long e, long f) {
+    int call = (int)b & FUTEX_CMD_MASK;
+    struct slot *s = (call == FUTEX_WAIT || call == FUTEX_WAIT_BITSET) && d == 0 ? own_slot() : NULL;
+    wait_begins(s, ADDRESS, (const void *)a, HERE);
+    long result = real_syscall(number, a, b, c, d, e, f);
+    wait_ends(s);
+    return result;
+}
+
+__asm__(".text\n.globl syscall\n.type syscall,@function\nsyscall:\n"
+        "  mov real_syscall(%rip), %rax\n  test %rax, %rax\n  jz 1f\n"
+        "2: cmp $202, %rdi\n  je 3f\n  jmp *%rax\n"
+        "3: jmp futex_call\n"
+        "1: push %rdi\n  push %rsi\n  push %rdx\n  push %rcx\n  push %r8\n  push %r9\n  sub $8, %rsp\n  call find_syscall\n  add $8, %rsp\n"
+        "  pop %r9\n  pop %r8\n  pop %rcx\n  pop %rdx\n  pop %rsi\n  pop %rdi\n  mov real_syscall(%rip), %rax\n  jmp 2b\n"
+        ".size syscall,.-syscall\n");
+#endif

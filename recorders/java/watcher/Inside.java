@@ -1,0 +1,145 @@
+package armus;
+
+import java.io.BufferedReader;
+import java.io.File;
+import java.io.FileInputStream;
+import java.io.IOException;
+import java.io.InputStreamReader;
+import java.lang.instrument.Instrumentation;
+import java.lang.management.ManagementFactory;
+import java.lang.reflect.Field;
+import java.lang.reflect.Method;
+import java.nio.charset.StandardCharsets;
+import java.util.ArrayList;
+import java.util.Arrays;
+import java.util.Collections;
+import java.util.HashMap;
+import java.util.HashSet;
+import java.util.List;
+import java.util.Map;
+import java.util.Set;
+
+/** What the library and the kernel keep for themselves. */
+final class Inside {
+    private static final int NAME = 15;    // so many bytes of a thread's name does the kernel keep
+
+    private final Map<String, Field> fields = new HashMap<>();
+
+    Inside(Instrumentation instrumentation) {
+        try {
+            open(instrumentation);
+        } catch (ReflectiveOperationException e) {
+            return;                                            // Java 8 has nothing to open
+        }
+    }
+
+    /** Java 9 and later: the packages whose fields are read are opened to this class alone. */
+    private void open(Instrumentation instrumentation) throws ReflectiveOperationException {
+        Method moduleOf = Class.class.getMethod("getModule");
+        Object base = moduleOf.invoke(Object.class);
+        Set<Object> own = Collections.singleton(moduleOf.invoke(Inside.class));
+        Map<String, Set<Object>> opens = new HashMap<>();
+        for (String name : Arrays.asList("java.lang", "java.util.concurrent", "java.util.concurrent.locks", "jdk.internal.misc")) {
+            opens.put(name, own);
+        }
+        for (Method method : Instrumentation.class.getMethods()) {
+            if (method.getName().equals("redefineModule")) {
+                method.invoke(instrumentation, base, Collections.emptySet(), Collections.emptyMap(), opens, Collections.emptySet(), Collections.emptyMap());
+            }
+        }
+    }
+
+    /** The value of a field of an object or, of a class, of the class; nothing where there is none. */
+    Object value(Object of, String name) {
+        Class<?> type = of instanceof Class ? (Class<?>) of : of.getClass();
+        String key = type.getName() + " " + name;
+        try {
+            Field field = fields.get(key);
+            for (Class<?> c = type; field == null && c != null; c = c.getSuperclass()) {
+                for (Field f : c.getDeclaredFields()) {
+                    if (f.getName().equals(name)) {
+                        field = f;
+                        field.setAccessible(true);
+                        fields.put(key, field);
+                        break;
+                    }
+                }
+            }
+            return field == null ? null : field.get(of instanceof Class ? null : of);
+        } catch (ReflectiveOperationException | RuntimeException e) {
+            return null;
+        }
+    }
+
+    /** Whether the count of a latch is 0. */
+    boolean isOpen(Object sync) {
+        Object state = value(sync, "state");
+        return state instanceof Integer && (Integer) state == 0;
+    }
+
+    /** The hooks of the program's end: threads that a signal from outside may begin. */
+    List<String> hooks() {
+        List<String> names = new ArrayList<>();
+        try {
+            Object hooks = value(Class.forName("java.lang.ApplicationShutdownHooks"), "hooks");
+            if (hooks instanceof Map) {
+                for (Object hook : new ArrayList<>(((Map<?, ?>) hooks).keySet())) {
+                    if (hook.getClass() == Thread.class || hook.getClass().getClassLoader() != null) {
+                        names.add("hook-" + ((Thread) hook).getName());
+                    }
+                }
+            }
+        } catch (ClassNotFoundException | RuntimeException e) {
+            return names;
+        }
+        return names;
+    }
+
+    /** Whether a signal from outside may run code of the program. */
+    boolean hasSignalHandlers() {
+        for (String name : Arrays.asList("jdk.internal.misc.Signal", "sun.misc.Signal")) {
+            try {
+                Object handlers = value(Class.forName(name), "handlers");
+                if (handlers instanceof Map) {
+                    for (Object handler : new ArrayList<>(((Map<?, ?>) handlers).values())) {
+                        if (!handler.getClass().getName().startsWith("java.lang.Terminator") && !handler.getClass().getName().contains(".Signal")
+                            && !handler.getClass().getName().startsWith("jdk.internal.misc.")) {
+                            return true;
+                        }
+                    }
+                }
+            } catch (ClassNotFoundException | RuntimeException e) {
+                continue;
+            }
+        }
+        return false;
+    }
+
+    static String process() {
+        String name = ManagementFactory.getRuntimeMXBean().getName();
+        return name.substring(0, name.indexOf('@'));
+    }
+
+    static String kernelName(Thread thread) {
+        byte[] bytes = thread.getName().getBytes(StandardCharsets.UTF_8);
+        return thread.getId() == 1 ? "java" : new String(bytes, 0, Math.min(NAME, bytes.length), StandardCharsets.ISO_8859_1);
+    }
+
+    /** The names, as the kernel has them, of threads that it lets run: a thread that was woken and has not come to run yet is one. */
+    static Set<String> runningNames() {
+        Set<String> names = new HashSet<>();
+        File[] tasks = new File("/proc/self/task").listFiles();
+        for (File task : tasks == null ? new File[0] : tasks) {
+            try (BufferedReader reader = new BufferedReader(new InputStreamReader(new FileInputStream(new File(task, "stat")), StandardCharsets.ISO_8859_1), 512)) {
+                String line = reader.readLine();
+                int close = line == null ? -1 : line.lastIndexOf(')');
+                if (close > 0 && close + 2 < line.length() && "RD".indexOf(line.charAt(close + 2)) >= 0) {
+                    names.add(line.substring(line.indexOf('(') + 1, close));
+                }
+            } catch (IOException e) {
+                continue;                                      // it has ended
+            }
+        }
+        return names;
+    }
+}

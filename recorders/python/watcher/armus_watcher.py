@@ -1,0 +1,728 @@
+"""The watcher of a Python program: a thread that looks at the frames of all others every 50 ms, and announces who stood in the same wait at two looks. Nothing of the
+program is replaced. What a thread waits for is what its frames say: where it stands in threading, queue and concurrent.futures, and in which line of the program.
+That it has not run between two looks is what the kernel says."""
+import ast
+import gc
+import inspect
+import linecache
+import os
+import platform
+import socket
+import stat
+import struct
+import sys
+import time
+import _thread
+import weakref
+
+PERIOD, LONGEST = 0.05, 1.0
+FUTEX = {'x86_64': 202, 'aarch64': 98, 'riscv64': 98, 'ppc64le': 221, 's390x': 238}.get(platform.machine())
+STANDARD = os.path.dirname(os.__file__) + os.sep
+OWN = __file__
+
+
+# ---- what the kernel says of a thread
+def text_of(path):
+    try:
+        with open(path, 'rb', buffering=0) as file:
+            return file.read(4096)
+    except OSError:
+        return b''
+
+
+def switches(native):
+    """How often a thread has run; the same number at two looks means that it has slept between."""
+    text = text_of(f'/proc/self/task/{native}/status')
+    return text[text.find(b'voluntary_ctxt_switches'):] if text else None
+
+
+def sleeps_at(native):
+    """The address at which a thread sleeps without a limit, or nothing."""
+    words = text_of(f'/proc/self/task/{native}/syscall').split()
+    if len(words) < 6 or words[0] != str(FUTEX).encode() or int(words[4], 16) != 0:
+        return None
+    return int(words[1], 16)
+
+
+class Memory:
+    """The process's own memory, read without touching it."""
+
+    def __init__(self):
+        self.file = os.open('/proc/self/mem', os.O_RDONLY | os.O_CLOEXEC)
+
+    def words(self, address, count):
+        try:
+            got = os.pread(self.file, 8 * count, address)
+        except (OSError, OverflowError):
+            got = b''
+        return struct.unpack(f'{len(got) // 8}Q', got[:len(got) // 8 * 8])
+
+    def word(self, address):
+        found = self.words(address, 1)
+        return found[0] if found else 0
+
+
+# ---- names and values of a frame, without making its dictionary of locals, which would keep values alive
+def local_values(frame, memory):
+    """Pairs of a name, or None where it is not known, and a value."""
+    code = frame.f_code
+    if not code.co_flags & inspect.CO_OPTIMIZED:
+        return list(frame.f_locals.items())
+    if sys.version_info >= (3, 13):
+        return list(frame.f_locals.items())
+    if sys.version_info < (3, 11):
+        return [(None, value) for value in gc.get_referents(frame)]
+    names = code.co_varnames + tuple(n for n in code.co_cellvars if n not in code.co_varnames) + code.co_freevars
+    return [(name, value.cell_contents if type(value) is CELL and not is_empty(value) else value) for name, value in zip(names, frame_values(frame, code, len(names)))
+            if value is not None]
+
+
+def frame_values(frame, code, count):
+    """What the locals of a frame of Python 3.11 and 3.12 have. Without the library of the C recorder, which takes them all at one moment, they are not looked at."""
+    import ctypes
+    try:
+        take = ctypes.PyDLL(None).armus_frame_values
+    except AttributeError:
+        return []
+    take.restype, take.argtypes = ctypes.c_long, (ctypes.py_object, ctypes.c_long, ctypes.py_object, ctypes.c_long, ctypes.c_long, ctypes.c_void_p)
+    found = (ctypes.c_size_t * (count + 1))()
+    taken = take(frame, 32 if sys.version_info < (3, 12) else 0, code, 72, count, found)
+    values = [ctypes.cast(p, ctypes.py_object).value if p else None for p in found[:taken]]
+    for p in found[:taken]:
+        if p:
+            ctypes.pythonapi.Py_DecRef(ctypes.c_void_p(p))
+    return values
+
+
+CELL = type((lambda x: lambda: x)(0).__closure__[0])
+
+
+def is_empty(cell):
+    try:
+        cell.cell_contents
+        return False
+    except ValueError:
+        return True
+
+
+def attribute(value, name):
+    """An attribute as it is stored, without running code of the program."""
+    try:
+        return vars(value)[name]
+    except (TypeError, KeyError):
+        try:
+            found = inspect.getattr_static(value, name)
+            if inspect.ismemberdescriptor(found):
+                return found.__get__(value)
+            return found
+        except Exception:
+            return None
+
+
+def evaluated(node, frame, locals_):
+    """The values that an expression of names, attributes and plain indices may have."""
+    if isinstance(node, ast.Name):
+        near = [v for n, v in locals_ if n == node.id or n is None]
+        return near if any(n == node.id for n, _ in locals_) or (near and node.id in frame.f_code.co_varnames) else \
+            near + [frame.f_globals[node.id]] if node.id in frame.f_globals else near
+    if isinstance(node, ast.Attribute):
+        return [v for v in (attribute(o, node.attr) for o in evaluated(node.value, frame, locals_)) if v is not None]
+    if isinstance(node, ast.Subscript):
+        found = []
+        index = node.slice.value if isinstance(node.slice, getattr(ast, 'Index', ())) else node.slice
+        keys = [index.value] if isinstance(index, ast.Constant) else evaluated(index, frame, locals_)
+        for o in evaluated(node.value, frame, locals_):
+            for k in keys:
+                if type(o) in (list, tuple, dict):
+                    try:
+                        found.append(o[k])
+                    except (LookupError, TypeError):
+                        pass
+        return found
+    return []
+
+
+# ---- what the text of the program says about locks
+class Text:
+    """Of a file: the calls and with-statements in each line, and the regions in which a lock is held."""
+    known = {}
+
+    def __init__(self, file, frame_globals):
+        self.at, self.regions = {}, []
+        try:
+            tree = ast.parse(''.join(linecache.getlines(file, frame_globals)))
+        except (SyntaxError, ValueError, RecursionError, MemoryError):
+            return
+        for node in ast.walk(tree):
+            if isinstance(node, (ast.With, ast.AsyncWith)):
+                for item in node.items:
+                    self.note(item.context_expr.lineno, getattr(item.context_expr, 'end_lineno', 0), 'with', item.context_expr)
+                    self.regions.append((span(node.body), item.context_expr))
+            elif isinstance(node, ast.Call) and isinstance(node.func, ast.Attribute) and node.func.attr in ('acquire', 'get', 'put', 'wait'):
+                self.note(node.lineno, node.end_lineno, node.func.attr, node.func.value)
+            for _, body in ast.iter_fields(node):
+                if isinstance(body, list):
+                    for one, two in zip(body, body[1:]):
+                        self.tried(one, two)
+
+    def note(self, first, last, verb, expression):
+        for line in range(first, min(max(last, first), first + 20) + 1):
+            self.at.setdefault(line, []).append((verb, expression))
+
+    def tried(self, one, two):
+        """lock.acquire(), and then try .. finally lock.release()"""
+        call = one.value if isinstance(one, ast.Expr) else None
+        if isinstance(call, ast.Call) and isinstance(call.func, ast.Attribute) and call.func.attr == 'acquire' and not call.args and isinstance(two, ast.Try):
+            for last in two.finalbody:
+                end = last.value if isinstance(last, ast.Expr) else None
+                if isinstance(end, ast.Call) and isinstance(end.func, ast.Attribute) and end.func.attr == 'release' and ast.dump(end.func.value) == ast.dump(call.func.value):
+                    self.regions.append((span(two.body), call.func.value))
+
+    @classmethod
+    def of(cls, frame):
+        file = frame.f_code.co_filename
+        if file not in cls.known:
+            cls.known[file] = cls(file, frame.f_globals)
+        return cls.known[file]
+
+
+def span(body):
+    return (body[0].lineno, body[0].col_offset), (body[-1].end_lineno, body[-1].end_col_offset)
+
+
+def stands_at(frame):
+    """Line and column of the instruction, the column as far as it is known."""
+    if hasattr(frame.f_code, 'co_positions') and frame.f_lasti >= 0:
+        for i, (line, _, column, _) in enumerate(frame.f_code.co_positions()):
+            if i == frame.f_lasti // 2 and line is not None and column is not None:
+                return line, column
+    return frame.f_lineno, None
+
+
+def is_inside(frame, region):
+    (first, first_column), (last, last_column) = region
+    line, column = stands_at(frame)
+    if column is None:
+        return first <= line <= last
+    return (first, first_column) <= (line, column) < (last, last_column)
+
+
+def frames_of(frame):
+    while frame is not None:
+        yield frame
+        frame = frame.f_back
+
+
+# ---- lines
+class Lines:
+    def __init__(self, connection, process):
+        self.connection, self.process, self.lines = connection, process, []
+        self.is_same = self.identity()
+
+    def identity(self):
+        found = os.fstat(self.connection.fileno())
+        return found.st_dev, found.st_ino, stat.S_ISSOCK(found.st_mode)
+
+    def say(self, line):
+        self.lines.append(line)
+
+    def hand_over(self):
+        """All lines of a look at once. What cannot be written ends the recorder."""
+        data, self.lines = ''.join(x + '\n' for x in self.lines).encode('latin-1', 'replace'), []
+        while data:
+            if self.identity() != self.is_same:
+                self.connection.detach()
+                raise OSError('another file has the place of the socket')
+            part = data[:60000] if len(data) <= 60000 else data[:data.rfind(b'\n', 0, 60000) + 1]
+            if self.connection.send(part, socket.MSG_DONTWAIT | socket.MSG_NOSIGNAL) != len(part):
+                raise OSError('a line was cut')
+            data = data[len(part):]
+
+
+def named(text, longest=40):
+    return ''.join(c if '!' <= c <= '~' and c != '/' else '_' for c in text)[:longest] or '_'
+
+
+ALL = 'all'
+
+
+class Wait:
+    """What a thread waits for: an object of a kind, and keepers: each is None (any thread of this process), ALL (of all processes) or a list of threads of which one has
+    to act."""
+    __slots__ = ('kind', 'object', 'keepers', 'place', 'name', 'last')
+
+    def __init__(self, kind, object_, keepers, place, name=None, last=False):
+        self.kind, self.object, self.keepers, self.place, self.name, self.last = kind, object_, keepers, place, name, last
+
+    def key(self):
+        return self.kind, id(self.object), tuple(k if k in (None, ALL) else tuple(k) for k in self.keepers)
+
+
+class Group:
+    def __init__(self, name, turn):
+        self.name, self.turn, self.ends, self.waiters = name, turn, [], set()
+
+
+class Announcer:
+    """Who is there, who waits for what, in the order in which the monitor wants it: who is new, who went on, who ended, who waits."""
+
+    def __init__(self, lines):
+        self.lines, self.names, self.waits, self.groups, self.numbers, self.turns, self.used = lines, {}, {}, {}, {}, {}, set()
+        self.any_is_said = False
+
+    def task(self, key):
+        return f'{self.lines.process}/{self.names[key]}'
+
+    def number(self, kind, object_):
+        """The number of an object; an address that comes again is another object."""
+        known = self.numbers.get((kind, id(object_)))
+        if known is None or known[0]() is not object_:
+            try:
+                reference = weakref.ref(object_)
+            except TypeError:
+                reference = lambda held=object_: held
+            count = self.numbers[kind] = self.numbers.get(kind, 0) + 1
+            known = self.numbers[kind, id(object_)] = reference, count
+        return known[1]
+
+    def new(self, key, name, place):
+        base = name = named(name)
+        k = 1
+        while name in self.used:
+            k += 1
+            name = f'{base}_{k}'
+        self.used.add(name)
+        self.names[key] = name
+        self.lines.say(f'{self.task(key)} at @{place}')
+
+    def retire(self, gkey):
+        group = self.groups.pop(gkey)
+        for line in group.ends:
+            self.lines.say(line)
+        for key in group.waiters:
+            self.lines.say(f'{self.task(key)} go')
+            del self.waits[key]
+        self.turns[group.name] = group.turn + 1
+
+    def announce(self, present, standing):
+        """present: the tasks that are there, each with a name and a place. standing: those that stood in the same wait at two looks."""
+        self.present, self.standing = present, standing
+        new = [key for key in present if key not in self.names]
+        for key in new:
+            self.new(key, *present[key])
+        if new and self.any_is_said:
+            self.say_any()
+        for key, gkey in list(self.waits.items()):
+            if key in self.waits and (key not in standing or standing[key].key() != gkey):
+                self.retire(gkey)
+        for key in [k for k in self.names if k not in present]:
+            self.lines.say(f'{self.task(key)} end')
+            self.used.discard(self.names.pop(key))
+        waiting = [k for k in standing if k in self.names and k not in self.waits]
+        for key in sorted(waiting, key=lambda k: standing[k].last, reverse=True):
+            self.wait(key, standing[key])
+
+    def say_any(self):
+        """Where nobody knows who may act it is any thread of this process: a wildcard that is a member of all such phasers."""
+        line = f'{self.lines.process}/?any-thread of {" ".join(self.task(k) for k in self.names)}'
+        self.lines.say(line if len(line) < 511 and len(self.names) > 1 else f'{self.lines.process}/?any-thread any')
+        self.any_is_said = True
+
+    def keep(self, group, number, keeper):
+        """One who has to act: a thread, one of several, any of this process, or of all."""
+        phaser = f'{self.lines.process}/{group.name}'
+        players = [self.task(k) for k in keeper if k in self.names] if keeper not in (None, ALL) else []
+        if keeper is None or (keeper is not ALL and not players):
+            wildcard = f'{self.lines.process}/?any-thread'
+            if not self.any_is_said:
+                self.say_any()
+            group.ends.append(f'{wildcard} leave {phaser}')
+        else:
+            wildcard = f'{self.lines.process}/?{group.name}' + (f'#{number}' if number else '')
+            self.show(() if keeper is ALL else keeper)
+            line = f'{wildcard} of {" ".join(players)}'
+            self.lines.say(f'{wildcard} any' if keeper is ALL or len(line) > 511 else line)
+            group.ends.append(f'{wildcard} end')
+        self.lines.say(f'{wildcard} join {phaser} {group.turn}')
+
+    def show(self, keys):
+        """Where those are who run, and for whom somebody waits."""
+        for key in keys:
+            if key in self.present and key not in self.standing and key not in self.waits:
+                self.lines.say(f'{self.task(key)} at @{self.present[key][1]}')
+
+    def wait(self, key, wait):
+        gkey = wait.key()
+        group = self.groups.get(gkey)
+        if group is None:
+            name = wait.name or f'{wait.kind}-{self.number(wait.kind, wait.object)}'
+            base, k = name, 1
+            while any(g.name == name for g in self.groups.values()):   # the same object, kept by another thread
+                k += 1
+                name = f'{base}.{k}'
+            group = self.groups[gkey] = Group(name, self.turns.get(name, 0))
+            for i, keeper in enumerate(wait.keepers):
+                self.keep(group, i, keeper)
+        group.waiters.add(key)
+        self.waits[key] = gkey
+        self.lines.say(f'{self.task(key)} wait {self.lines.process}/{group.name} {group.turn + 1} @{wait.place[:200]}')
+
+
+# ---- a look
+class Watcher:
+    def __init__(self, lines):
+        self.announcer, self.memory, self.own = Announcer(lines), Memory(), _thread.get_ident()
+        self.native_offset = self.found_offset()
+        self.seen, self.slept, self.beginning = {}, {}, {}
+        self.main = None
+
+    def found_offset(self):
+        """Where the library of threads keeps the kernel's number of a thread, behind the address by which Python knows it."""
+        own = _thread.get_native_id()
+        for offset in (720, 208):
+            if self.memory.word(self.own + offset) & 0xffffffff == own:
+                return offset
+        return None
+
+    def native(self, ident):
+        """The kernel's number of a thread. Behind a fork threading may still have that of the parent."""
+        if self.native_offset is not None:
+            return self.memory.word(ident + self.native_offset) & 0xffffffff or None
+        threading = sys.modules.get('threading')
+        return getattr(getattr(threading, '_active', {}).get(ident), 'native_id', None)
+
+    def name(self, ident):
+        threading = sys.modules.get('threading')
+        thread = getattr(threading, '_active', {}).get(ident)
+        if thread is not None:
+            return 'main' if thread is threading._main_thread else thread._name
+        return f'thread-{len(self.announcer.names)}'
+
+    @staticmethod
+    def place(frame):
+        """The innermost line outside of the standard library; of a thread that is within it altogether, the innermost line."""
+        for f in frames_of(frame):
+            file = f.f_code.co_filename
+            if not (file.startswith(STANDARD) and 'site-packages' not in file) and not file.startswith('<frozen'):
+                return f'{os.path.basename(file)}:{f.f_lineno}'
+        return f'{os.path.basename(frame.f_code.co_filename)}:{frame.f_lineno}'
+
+    def slept_since(self, key, native, mark):
+        """Whether a thread has not run since the last look, and where it sleeps."""
+        now = mark, switches(native)
+        before, self.slept[key] = self.slept.get(key), now
+        if before != now or now[1] is None:
+            return None
+        return sleeps_at(native)
+
+    def look(self):
+        frames = {ident: frame for ident, frame in reversed(list(sys._current_frames().items())) if ident != self.own}
+        natives = {ident: self.native(ident) for ident in frames}
+        present, asleep = {}, {}
+        for ident, frame in frames.items():
+            present[ident] = self.name(ident), self.place(frame)
+            if natives[ident] is not None:
+                at = self.slept_since(ident, natives[ident], (id(frame), frame.f_lasti))
+                if at is not None:
+                    asleep[ident] = at
+        standing = {}
+        if asleep:
+            for ident in asleep:
+                wait = self.wait_of(ident, frames[ident], asleep, frames)
+                if wait is not None:
+                    standing[ident] = wait
+        self.add_others(present, standing, {n for n in natives.values() if n})
+        for ident, frame in sys._current_frames().items():       # who began meanwhile
+            if ident not in present and ident != self.own:
+                present[ident] = self.name(ident), self.place(frame)
+        self.end_main(present, standing, frames)
+        if standing and self.has_handlers():
+            present['signals'] = 'signal-handlers', 'signal.py'
+        self.announcer.announce(present, standing)
+        self.announcer.lines.hand_over()
+        for key in [k for k in self.slept if k not in present]:
+            del self.slept[key]
+        return bool(frames)
+
+    def add_others(self, present, standing, known):
+        """Threads that are not of Python: they may call it. Those that sleep without a limit wait for anybody."""
+        try:
+            natives = [int(n) for n in os.listdir('/proc/self/task')]
+        except OSError:
+            return
+        own = _thread.get_native_id()
+        for native in natives:
+            if native not in known and native != own:
+                key = 'native', native
+                at = self.slept_since(key, native, None)
+                if text_of(f'/proc/self/task/{native}/stat').rpartition(b') ')[2][:1] in (b'Z', b'X', b''):
+                    continue
+                present[key] = f'native-{native}', 'native'
+                if at is not None:
+                    standing[key] = Wait('native', None, [None], 'native', f'native-{native}')
+
+    def end_main(self, present, standing, frames):
+        """Behind its last line the main thread waits for the others; it does nothing more. Where only daemons are left the program is over."""
+        threading = sys.modules.get('threading')
+        if threading is None:
+            return
+        main = threading._main_thread.ident
+        frame = frames.get(main)
+        if frame is None:
+            present.setdefault(main, ('main', 'exit'))
+        elif frame.f_code.co_name == '_shutdown' and frame.f_code.co_filename == threading.__file__:
+            standing.pop(main, None)
+            if any(t.is_alive() and not t.daemon for t in list(threading._active.values()) if t.ident != main):
+                present.pop(main, None)
+
+    @staticmethod
+    def has_handlers():
+        signal = sys.modules.get('signal')
+        if signal is None:
+            return False
+        return any(callable(h) and h is not signal.default_int_handler for h in map(signal.getsignal, signal.valid_signals()) if not isinstance(h, int))
+
+    # ---- what a frame waits for
+    def wait_of(self, ident, frame, asleep, frames):
+        threading, code = sys.modules.get('threading'), frame.f_code
+        place = self.place(frame)
+        if threading is not None and code.co_filename == threading.__file__:
+            return self.of_threading(frame, place, asleep[ident], frames, ident)
+        if code.co_name == '_worker' and code.co_filename.endswith(os.path.join('concurrent', 'futures', 'thread.py')):
+            return Wait('idle', frame, [None], place, f'work-of-{self.announcer.names.get(ident, "pool")}')
+        if code.co_filename.endswith(os.path.join('multiprocessing', 'synchronize.py')):
+            return self.of_processes(frame, place, ident)
+        return self.of_line(frame, place, asleep[ident], frames, ident)
+
+    def of_threading(self, frame, place, address, frames, ident):
+        threading, name = sys.modules['threading'], frame.f_code.co_name
+        values = dict(self.library_values(frame))
+        this = values.get('self')
+        if name == 'wait' and isinstance(this, threading.Condition):
+            return self.of_condition(frame, this, values, place, frames)
+        if name in ('_wait_for_tstate_lock', 'join') and isinstance(this, threading.Thread):
+            if values.get('timeout') not in (None, -1) or not this.is_alive():
+                return None
+            return Wait('end-of', this, [[this.ident]], place, f'end-of-{self.announcer.names.get(this.ident, named(this._name))}', last=True)
+        if name in ('_acquire_restore', '__enter__', 'acquire'):
+            return self.of_lock(self.lock_at(address, [getattr(this, '_lock', None), getattr(this, '_block', None)]), place, frames, ident)
+        return None
+
+    @staticmethod
+    def library_values(frame):
+        return frame.f_locals.items()                    # of the library's own frames, which are short-lived
+
+    def of_condition(self, frame, condition, values, place, frames):
+        if values.get('timeout') is not None or values.get('waiter') not in condition._waiters:
+            return None
+        outer = frame.f_back
+        if outer is not None and outer.f_code.co_name == 'wait_for':
+            outer = outer.f_back
+        if outer is None:
+            return None
+        this, code = dict(self.library_values(outer)).get('self') if outer.f_code.co_filename.startswith(STANDARD) else None, outer.f_code
+        threading, kind = sys.modules['threading'], type(this).__name__
+        if isinstance(this, threading.Barrier) and code.co_name in ('_wait', '_enter'):
+            return Wait(kind, this, [None], place) if this._state == 0 or code.co_name == '_enter' else None
+        if isinstance(this, threading.Event):
+            return None if this._flag else self.of_event(outer, this, place, frames)
+        if isinstance(this, threading.Semaphore):
+            return Wait(kind, this, [None], place) if this._value == 0 else None
+        if code.co_name in ('get', 'put', 'join') and hasattr(this, 'unfinished_tasks'):
+            return Wait(kind, this, [None], place, f'{named(kind)}-{self.announcer.number(kind, this)}.{code.co_name}')
+        if code.co_name in ('result', 'exception') and hasattr(this, '_done_callbacks'):
+            return self.of_future(this, place, frames)
+        return Wait('Condition', condition, [None], place)
+
+    def of_event(self, frame, event, place, frames):
+        """The start of a thread is an event too: that thread is on its way."""
+        outer = frame.f_back
+        if outer is not None and outer.f_code.co_name == 'start' and outer.f_code.co_filename == sys.modules['threading'].__file__:
+            return None
+        return Wait('Event', event, [None], place)
+
+    def of_future(self, future, place, frames):
+        """Who runs it, and else any."""
+        for ident, frame in frames.items():
+            for f in frames_of(frame):
+                if f.f_code.co_name == 'run' and f.f_code.co_filename.endswith(os.path.join('futures', 'thread.py')):
+                    item = dict(self.library_values(f)).get('self')
+                    if getattr(item, 'future', None) is future:
+                        return Wait('Future', future, [[ident]], place)
+        return Wait('Future', future, [None], place)
+
+    def of_processes(self, frame, place, ident):
+        """Objects of several processes: time enough has to pass until all of them are there."""
+        values = dict(self.library_values(frame))
+        if frame.f_code.co_name != 'wait' or values.get('timeout') is not None:
+            return None
+        since = self.beginning.setdefault((ident, id(frame)), time.monotonic())
+        if time.monotonic() - since < 0.5:
+            return None
+        outer = frame.f_back
+        if outer is not None and outer.f_code.co_name == 'wait_for':
+            outer = outer.f_back
+        this = dict(self.library_values(outer)).get('self') if outer is not None and outer.f_code.co_filename.startswith(STANDARD) else values.get('self')
+        if type(this).__name__ == 'Barrier' and getattr(this, '_state', 0) != 0:
+            return None
+        return Wait(type(this).__name__, this, [ALL], place)
+
+    # ---- locks
+    def lock_at(self, address, candidates):
+        """The one of them whose lock is at the address where the thread sleeps."""
+        for lock in candidates:
+            if type(lock).__name__ in ('lock', 'RLock') and self.memory.word(id(lock) + 16) == address:
+                return lock
+        return None
+
+    def of_line(self, frame, place, address, frames, ident):
+        calls = Text.of(frame).at.get(frame.f_lineno, ())
+        if not calls:
+            return None
+        locals_, found = local_values(frame, self.memory), []
+        for _, expression in calls:
+            found += evaluated(expression, frame, locals_)
+        lock = self.lock_at(address, found)
+        if lock is not None:
+            return self.of_lock(lock, place, frames, ident)
+        queues = [q for q in found if type(q).__name__ == 'SimpleQueue' and q.empty()]
+        return Wait('SimpleQueue', queues[0], [None], place) if len(queues) == 1 and len(calls) == 1 else None
+
+    def of_lock(self, lock, place, frames, ident):
+        if lock is None:
+            return None
+        if type(lock).__name__ == 'RLock':
+            words = repr(lock).partition('owner=')[2].split(' ')
+            owner = int(words[0]) if words[0].isdigit() else 0
+            return Wait('RLock', lock, [[owner] if owner in frames else None], place) if owner else None
+        if not lock.locked():
+            return None
+        holders = [i for i, f in frames.items() if self.holds(f, lock, i == ident)]
+        return Wait('Lock', lock, [holders if len(holders) == 1 else None], place)
+
+    def holds(self, frame, lock, waits):
+        """Whether a thread stands inside of a with-statement of this lock, or between its acquire and the release of a finally."""
+        for n, f in enumerate(frames_of(frame)):
+            if f.f_code.co_filename.startswith(STANDARD):
+                continue
+            for region, expression in Text.of(f).regions:
+                if region[0][0] <= f.f_lineno <= region[1][0] and is_inside(f, region) and f.f_code.co_firstlineno <= region[0][0] \
+                        and not (n == 0 and waits and stands_at(f)[1] is None):
+                    if any(value is lock for value in evaluated(expression, f, local_values(f, self.memory))):
+                        return True
+        return False
+
+
+# ---- begin and end
+class Life:
+    """The watcher's thread, which stops before a fork and goes on behind it."""
+    current = None
+
+    def __init__(self, hook):
+        self.hook, self.wake = hook, _thread.allocate_lock()
+        self.done, self.native = _thread.allocate_lock(), None
+        self.wake.acquire()
+
+    def connect(self):
+        path = os.environ['ARMUS_SOCKET'].split('|')[0]
+        connection = socket.socket(socket.AF_UNIX)
+        try:
+            connection.connect(path)
+            connection = moved(connection)
+            process = str(os.getpid())
+            self.lines = Lines(connection, process)
+            self.lines.say(f'# process {process}/')
+            return True
+        except OSError:
+            connection.close()
+            return False
+
+    def run(self):
+        try:
+            self.done.acquire()
+            self.native = _thread.get_native_id()
+            if self.connect():
+                watcher = Watcher(self.lines)
+                pause = PERIOD
+                while not self.wake.acquire(timeout=pause):
+                    begun = time.thread_time()
+                    watcher.look()
+                    pause = min(LONGEST, max(PERIOD, 25 * (time.thread_time() - begun)))
+        except BaseException as e:                        # nothing of the recorder reaches the program
+            if os.environ.get('ARMUS_DEBUG'):
+                import traceback
+                traceback.print_exc()
+        finally:
+            try:
+                self.lines.connection.close()
+                os.close(watcher.memory.file)
+            except Exception:
+                pass
+            self.done.release()
+
+    def end(self):
+        """Tells the thread to end."""
+        try:
+            self.wake.release()
+        except RuntimeError:
+            pass
+
+    def stop(self):
+        """Ends the thread, and waits until the kernel knows it no more."""
+        self.end()
+        end = time.monotonic() + 0.5
+        while self.native and os.path.exists(f'/proc/self/task/{self.native}') and time.monotonic() < end:
+            time.sleep(0.0005)
+
+
+def moved(connection):
+    """The socket with a number that the program is not likely to meet."""
+    import fcntl
+    import resource
+    limit = resource.getrlimit(resource.RLIMIT_NOFILE)[0]
+    high = min(limit if limit > 0 else 65536, 65536)
+    try:
+        other = socket.socket(fileno=fcntl.fcntl(connection.fileno(), fcntl.F_DUPFD_CLOEXEC, high - high // 16))
+    except OSError:
+        return connection
+    connection.close()
+    return other
+
+
+def start(run):
+    """A thread that Python did not start: it is none of the program's threads, and is not counted as one. It blocks all signals."""
+    import ctypes
+    import signal
+    made = ctypes.CFUNCTYPE(ctypes.c_void_p, ctypes.c_void_p)(lambda _: run())
+    own = signal.pthread_sigmask(signal.SIG_BLOCK, signal.valid_signals())
+    try:
+        library, thread = ctypes.CDLL(None), ctypes.c_ulong()
+        if library.pthread_create(ctypes.byref(thread), None, made, None) == 0:
+            library.pthread_detach(thread)
+    finally:
+        signal.pthread_sigmask(signal.SIG_SETMASK, own)
+    return made
+
+
+def begin(hook):
+    first = Life.current is None
+    Life.current = life = Life(hook)
+    life.kept = start(life.run)
+    if first:
+        os.register_at_fork(before=before_fork, after_in_parent=behind_fork)
+        import atexit
+        atexit.register(lambda: Life.current and Life.current.end())
+
+
+def before_fork():
+    if Life.current is not None:
+        Life.current.stop()
+
+
+def behind_fork():
+    """In the parent: goes on where there are other threads, and else with the next one."""
+    life = Life.current
+    if life is not None:
+        life.hook()
+        if len(sys._current_frames()) > 1 or 'multiprocessing' in sys.modules:
+            begin(life.hook)
