@@ -30,7 +30,7 @@ tail_of [] = []
 tail_of (l ∷ h) = h
 
 -- the name that a line of a task has
-abbrev name_of : TraceLine → List ℕ
+abbrev pub name_of : TraceLine → List ℕ
 name_of SaysNothing = []
 name_of AsksReport = []
 name_of AsksList = []
