@@ -81,16 +81,16 @@ stuck_is_deadlocked h number t one live within = (dead, stuck)
         }
 
 -- a larger set keeps whom a smaller one keeps
-kept_in_larger : (s : TraceState) (small large : ℕ → Bool) → ((k : ℕ) → small k ≡ true → large k ≡ true) → (c : Condition) → IsKeptIn s small c → IsKeptIn s large c
+pub kept_in_larger : (s : TraceState) (small large : ℕ → Bool) → ((u : Participant) → Contains s.list u → small u.number ≡ true → large u.number ≡ true) → (c : Condition) → IsKeptIn s small c → IsKeptIn s large c
 kept_in_larger s small large more Running kept = kept
-kept_in_larger s small large more (Waiting p n) (u, within, below, inside) = (u, within, below, more u.number inside)
+kept_in_larger s small large more (Waiting p n) (u, within, below, inside) = (u, within, below, more u within inside)
 kept_in_larger s small large more Ended kept = tt
-kept_in_larger s small large more AnyTask all = λ u within live. more u.number (all u within live)
-kept_in_larger s small large more (OneOf names tasks) all = λ u within live has. more u.number (all u within live has)
+kept_in_larger s small large more AnyTask all = λ u within live. more u within (all u within live)
+kept_in_larger s small large more (OneOf names tasks) all = λ u within live has. more u within (all u within live has)
 
 pub unions_are_closed : UnionsAreClosed
 unions_are_closed s one other closed too t within inside =
     elim (or_cases (one t.number) (other t.number) inside) [
-      | inl here ↦ kept_in_larger s one (λ k. one k || other k) (λ k on. or_left (one k) (other k) on) t.condition (closed t within here)
-      | inr there ↦ kept_in_larger s other (λ k. one k || other k) (λ k on. or_right (one k) (other k) on) t.condition (too t within there)
+      | inl here ↦ kept_in_larger s one (λ k. one k || other k) (λ u in_u on. or_left (one u.number) (other u.number) on) t.condition (closed t within here)
+      | inr there ↦ kept_in_larger s other (λ k. one k || other k) (λ u in_u on. or_right (one u.number) (other u.number) on) t.condition (too t within there)
     ]

@@ -107,7 +107,7 @@ module _ (s : TraceState) (lawful : IsLawfulState s) (t p : List ℕ) (n : ℕ) 
             kept_before set closed u.condition (closed u (subst (λ x. Contains after.list x) (other_is t change u other) (is_after u within)) inside)
       ]
 
-  stuck_before : (u : Participant) → IsStuck after u → IsStuck s u
+  pub stuck_before : (u : Participant) → IsStuck after u → IsStuck s u
   stuck_before u stuck =
       record {
         listed = was_there stuck.set stuck.closed u stuck.listed stuck.inside;

@@ -11,3 +11,5 @@ pub mod Mixed
 pub mod Told
 pub mod Deadlocked
 pub mod Worked
+pub mod Known
+pub mod WereTold

@@ -1,13 +1,15 @@
 -- Worked traces.
-use Rattle.std.proofs.Common.{◌≡◌, ℕ, Bool, true, false, None, List, [], ◌∷◌, refl, sym, ap, subst, inl, inr}
+use Rattle.std.proofs.Common.{◌≡◌, ℕ, Bool, true, false, Option, None, List, [], ◌∷◌, refl, sym, ap, subst, ◌⊎◌, inl, inr}
 use Rattle.std.specs.Prelude.{Contains, codes, filter}
+use Rattle.std.specs.List.{list_any}
 use Rattle.std.proofs.lemmas.List.Elements.{filter-append}
 use Rattle.std.proofs.lemmas.Bool.{false≢true, true≢false}
 use Rattle.armus_base.proofs.Elements.{Contains-cons_cases, Contains-head, Contains-tail, nothing_in_nil}
-use Rattle.monitor_laws.specs.Lines.{Joins, Waits, Goes, Ends, TraceLine, PlaysAny}
-use Rattle.monitor_laws.specs.States.{Running, Waiting, AnyTask, Participant, after_lines}
+use Rattle.monitor_laws.specs.Lines.{Announcement, Announces, Joins, Waits, Goes, Ends, TraceLine, PlaysAny}
+use Rattle.monitor_laws.specs.States.{Running, Waiting, AnyTask, Participant, TraceState, after_lines, is_live_wildcard, is_there_as, nobody_named}
 use Rattle.monitor_laws.specs.Stuck.{IsClosedSet, IsKeptIn, has_phase_below}
-use Rattle.monitor_laws.specs.Traces.{is_line_of}
+use Rattle.monitor_laws.specs.Traces.{BringsTask, IsHonestLine, NobodyWaits, is_line_of}
+use Rattle.monitor_laws.proofs.WereTold.{name_of}
 use Rattle.monitor_laws.specs.Worked.{HonestIsNeeded, IsTakenBack, LastingIsNeeded, OrderedJoinsAreNeeded, TrueGoesAreNeeded, WorkedEnds, WorkedFaults, WorkedGone, WorkedMembers, WorkedWildcards, listed, says}
 
 pub worked_members : WorkedMembers
@@ -29,6 +31,36 @@ worked_faults = (refl, refl, refl, refl, refl, refl, refl, refl, refl, refl, ref
 only_one : {A : Type 0} (x y : A) → Contains (x ∷ []) y → x ≡ y
 only_one x y within = elim (Contains-cons_cases x [] y within) [ inl here ↦ here | inr there ↦ absurd (nothing_in_nil y there) ]
 
+-- whose name is there is no new task
+known_name : (s : TraceState) (t : List ℕ) (what : Announcement) (place : Option (List ℕ)) → list_any (is_there_as t) s.list ≡ true → BringsTask s (Announces t what place) → ⊥
+known_name s t what place there (u, also, at, is, none) =
+    let e = subst (λ x. list_any (is_there_as x) s.list ≡ false) (sym (ap name_of is)) none in cc
+
+-- a join, a wait, and a first line of a wildcard, are honest where no task is new, or none waits
+join_is_honest : (s : TraceState) (t p : List ℕ) (n : ℕ) → (list_any (is_there_as t) s.list ≡ true) ⊎ NobodyWaits s → IsHonestLine s (says t (Joins p n))
+join_is_honest s t p n fine = record {
+  goes = λ q m ends. absurd (let e = ends.2 in cc);
+  plays = λ w within wild act. absurd act;
+  comes = λ new. elim fine [ inl there ↦ absurd (known_name s t (Joins p n) None there new) | inr none ↦ inr none ];
+}
+
+wait_is_honest : (s : TraceState) (t p : List ℕ) (n : ℕ) → (list_any (is_there_as t) s.list ≡ true) ⊎ NobodyWaits s → IsHonestLine s (says t (Waits p n))
+wait_is_honest s t p n fine = record {
+  goes = λ q m ends. absurd (let e = ends.2 in cc);
+  plays = λ w within wild act. absurd act;
+  comes = λ new. elim fine [ inl there ↦ absurd (known_name s t (Waits p n) None there new) | inr none ↦ inr none ];
+}
+
+any_is_honest : (s : TraceState) (w : List ℕ) → ((v : Participant) → Contains s.list v → is_live_wildcard v.condition ≡ false) → IsHonestLine s (PlaysAny w)
+any_is_honest s w none = record {
+  goes = λ q m ends. absurd (let e = ends.2 in cc);
+  plays = λ v within wild act. absurd (let e = none v within in cc);
+  comes = λ new. absurd (let e = new.3 in cc);
+}
+
+nobody_at_first : NobodyWaits nobody_named
+nobody_at_first u within = absurd (nothing_in_nil u within)
+
 -- c waits for itself
 abbrev c_waits : Participant
 c_waits = listed 0 (codes "c") ((codes "p", 1) ∷ []) (Waiting (codes "p") 2) None
@@ -39,6 +71,7 @@ c_trace = says (codes "c") (Waits (codes "p") 2) ∷ says (codes "c") (Joins (co
 go_takes_back : IsTakenBack c_trace (says (codes "c") Goes) c_waits
 go_takes_back = (
   (((tt, refl), refl), refl),
+  ((tt, join_is_honest nobody_named (codes "c") (codes "p") 1 (inr nobody_at_first)), wait_is_honest (after_lines (says (codes "c") (Joins (codes "p") 1) ∷ [])) (codes "c") (codes "p") 2 (inl refl)),
   record {
     listed = Contains-head c_waits [];
     waits = (codes "p", 2, refl);
@@ -62,6 +95,13 @@ d_trace = says (codes "w") (Joins (codes "p") 0) ∷ PlaysAny (codes "w") ∷ sa
 end_takes_back : IsTakenBack d_trace (says (codes "w") Ends) d_waits
 end_takes_back = (
   ((((tt, refl), refl), refl), refl),
+  (
+    (
+      (tt, wait_is_honest nobody_named (codes "d") (codes "p") 1 (inr nobody_at_first)),
+      any_is_honest (after_lines (says (codes "d") (Waits (codes "p") 1) ∷ [])) (codes "w") (λ v within. subst (λ (x : Participant). is_live_wildcard x.condition ≡ false) (only_one d_waits v within) refl),
+    ),
+    join_is_honest (after_lines (PlaysAny (codes "w") ∷ says (codes "d") (Waits (codes "p") 1) ∷ [])) (codes "w") (codes "p") 0 (inl refl),
+  ),
   record {
     listed = Contains-head d_waits (w_after ∷ []);
     waits = (codes "p", 1, refl);
@@ -95,6 +135,14 @@ a_trace = says (codes "a") (Waits (codes "p") 1) ∷ says (codes "w") (Joins (co
 new_takes_back : IsTakenBack a_trace (says (codes "b") (Joins (codes "q") 0)) a_waits
 new_takes_back = (
   ((((tt, refl), refl), refl), refl),
+  (
+    (
+      (tt, any_is_honest nobody_named (codes "w") (λ v within. absurd (nothing_in_nil v within))),
+      join_is_honest (after_lines (PlaysAny (codes "w") ∷ [])) (codes "w") (codes "p") 0 (inl refl),
+    ),
+    wait_is_honest (after_lines (says (codes "w") (Joins (codes "p") 0) ∷ PlaysAny (codes "w") ∷ [])) (codes "a") (codes "p") 1
+      (inr (λ u within p n waits. let e = subst (λ (x : Participant). x.condition ≡ Waiting p n) (sym (only_one w_waited u within)) waits in cc)),
+  ),
   record {
     listed = Contains-tail w_waited (a_waits ∷ []) a_waits (Contains-head a_waits []);
     waits = (codes "p", 1, refl);

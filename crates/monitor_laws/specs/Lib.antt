@@ -5,5 +5,6 @@ pub mod Stuck
 pub mod Traces
 pub mod Guards
 pub mod Laws
+pub mod Told
 pub mod DeadlockLaws
 pub mod Worked

@@ -4,7 +4,7 @@ use Rattle.monitor_laws.specs.Lines.{Announcement, Joins, Arrives, Leaves, Waits
 use Rattle.monitor_laws.specs.States.{Condition, Running, Waiting, Ended, OneOf, Participant, TraceState, after_lines}
 use Rattle.monitor_laws.specs.Faults.{Malformed, NamesTask, NamesWildcard, StillWaits, DoesNotWait, IsMemberAlready, IsNoMember, IsAtLastPhase, first_fault}
 use Rattle.monitor_laws.specs.Stuck.{IsStuck}
-use Rattle.monitor_laws.specs.Traces.{HasNoWildcard, HasOrderedJoins, HasTrueGoes, IsLasting, IsLegalTrace, IsMixedFrom}
+use Rattle.monitor_laws.specs.Traces.{HasNoWildcard, HasOrderedJoins, HasTrueGoes, IsHonest, IsLasting, IsLegalTrace, IsMixedFrom}
 use Rattle.monitor_laws.specs.Laws.{unnumbered}
 
 -- without a place
@@ -122,9 +122,9 @@ WorkedFaults =
     × (first_fault some_state (Some (says (codes "b") (Arrives (codes "p")))) ≡ Some (IsAtLastPhase (codes "b") (codes "p")))
     × (first_fault some_state (Some (says (codes "a") Goes)) ≡ None)
 
--- by this line of a legal trace somebody is stuck no more
+-- by this line behind honest ones of a legal trace somebody is stuck no more
 abbrev pub IsTakenBack : List TraceLine → TraceLine → Participant → Type 0
-IsTakenBack h l t = IsLegalTrace (l ∷ h) × IsStuck (after_lines h) t × (IsStuck (after_lines (l ∷ h)) t → ⊥)
+IsTakenBack h l t = IsLegalTrace (l ∷ h) × IsHonest h × IsStuck (after_lines h) t × (IsStuck (after_lines (l ∷ h)) t → ⊥)
 
 -- a go while its task is kept waiting, a wildcard that ends while nobody runs, and a new task while nobody runs and somebody waits take a stuck task back
 abbrev pub HonestIsNeeded : Type 0

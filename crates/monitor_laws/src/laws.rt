@@ -1,6 +1,7 @@
 // The laws of the monitor.
 ghost use Rattle.monitor_laws.specs.DeadlockLaws.{StuckIsDeadlocked, UnionsAreClosed};
 ghost use Rattle.monitor_laws.specs.Laws.{AllAreTold, GuardedIsLegal, NothingIsTakenBack, NoWaitMakesStuck, SameLinesSameStates, StuckStays, TrueAndOrderedLasts, WhoIsToldIsStuck};
+ghost use Rattle.monitor_laws.specs.Told.{AllWereTold, OwnWaitSticks, StuckIsKnown, StuckWereTold};
 ghost use Rattle.monitor_laws.specs.Worked.{HonestIsNeeded, LastingIsNeeded, OrderedJoinsAreNeeded, TrueGoesAreNeeded, WorkedEnds, WorkedFaults, WorkedGone, WorkedMembers, WorkedWildcards};
 
 /// In every honest continuation of an honest trace whoever is stuck and is not gone stays so.
@@ -39,6 +40,22 @@ pub fn all_are_told()
 pub fn stuck_is_deadlocked()
     ensures same { StuckIsDeadlocked }
     ensures unions { UnionsAreClosed }
+{}
+
+/// In each state a test finds the greatest closed set.
+pub fn stuck_is_known()
+    ensures { StuckIsKnown }
+{}
+
+/// All that are stuck became so by a line, and were stuck from then on; in whatever order the lines of a trace without wildcards come.
+pub fn stuck_were_told()
+    ensures told { StuckWereTold }
+    ensures all { AllWereTold }
+{}
+
+/// A wait by which anybody becomes stuck makes its own task stuck.
+pub fn own_wait_sticks()
+    ensures { OwnWaitSticks }
 {}
 
 /// What lines make of the list, by worked traces.

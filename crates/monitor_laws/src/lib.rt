@@ -6,7 +6,7 @@
 mod laws;
 
 pub use laws::{
-    all_are_told, no_wait_makes_stuck, premises_are_needed, same_lines_same_states,
-    stuck_is_deadlocked, stuck_stays, true_and_ordered_lasts, who_is_told_is_stuck,
-    worked_line_faults, worked_lists,
+    all_are_told, no_wait_makes_stuck, own_wait_sticks, premises_are_needed,
+    same_lines_same_states, stuck_is_deadlocked, stuck_is_known, stuck_stays, stuck_were_told,
+    true_and_ordered_lasts, who_is_told_is_stuck, worked_line_faults, worked_lists,
 };
