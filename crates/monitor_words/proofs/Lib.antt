@@ -1,0 +1,5 @@
+pub mod Ascending
+pub mod Circles
+pub mod OneMessage
+pub mod Worked
+pub mod Joined

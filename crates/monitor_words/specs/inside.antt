@@ -1,0 +1,3 @@
+pub mod FaultValues
+pub mod ValueWords
+pub mod ValueMessages
