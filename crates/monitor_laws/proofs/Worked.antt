@@ -141,7 +141,7 @@ new_takes_back = (
       join_is_honest (after_lines (PlaysAny (codes "w") ∷ [])) (codes "w") (codes "p") 0 (inl refl),
     ),
     wait_is_honest (after_lines (says (codes "w") (Joins (codes "p") 0) ∷ PlaysAny (codes "w") ∷ [])) (codes "a") (codes "p") 1
-      (inr (λ u within p n waits. let e = subst (λ (x : Participant). x.condition ≡ Waiting p n) (sym (only_one w_waited u within)) waits in cc)),
+        (inr (λ u within p n waits. let e = subst (λ (x : Participant). x.condition ≡ Waiting p n) (sym (only_one w_waited u within)) waits in cc)),
   ),
   record {
     listed = Contains-tail w_waited (a_waits ∷ []) a_waits (Contains-head a_waits []);
