@@ -10,7 +10,7 @@ use Rattle.monitor_laws.specs.States.{Running, Waiting, AnyTask, Participant, Tr
 use Rattle.monitor_laws.specs.Stuck.{IsClosedSet, IsKeptIn, has_phase_below}
 use Rattle.monitor_laws.specs.Traces.{BringsTask, IsHonestLine, NobodyWaits, is_line_of}
 use Rattle.monitor_laws.proofs.WereTold.{name_of}
-use Rattle.monitor_laws.specs.Worked.{HonestIsNeeded, IsTakenBack, LastingIsNeeded, OrderedJoinsAreNeeded, TrueGoesAreNeeded, WorkedEnds, WorkedFaults, WorkedGone, WorkedMembers, WorkedWildcards, listed, says}
+use Rattle.monitor_laws.specs.Worked.{HonestIsNeeded, IsTakenBack, LastingIsNeeded, OrderedJoinsAreNeeded, TrueGoesAreNeeded, WorkedEnds, WorkedFaults, WorkedGone, WorkedLimits, WorkedMembers, WorkedWildcards, listed, says}
 
 pub worked_members : WorkedMembers
 worked_members = refl
@@ -26,6 +26,9 @@ worked_gone = refl
 
 pub worked_faults : WorkedFaults
 worked_faults = (refl, refl, refl, refl, refl, refl, refl, refl, refl, refl, refl, refl, refl, refl)
+
+pub worked_limits : WorkedLimits
+worked_limits = (refl, refl, refl, refl, refl, refl)
 
 -- the one element of a list
 only_one : {A : Type 0} (x y : A) → Contains (x ∷ []) y → x ≡ y

@@ -1,8 +1,8 @@
 -- What no law fixes, by worked traces, and what the premises of the laws are for. The last line of a trace stands first.
-use Rattle.std.specs.Prelude.{◌≡◌, ℕ, List, [], ◌∷◌, Option, Some, None, codes}
+use Rattle.std.specs.Prelude.{◌≡◌, ℕ, List, [], ◌∷◌, Option, Some, None, codes, replicate}
 use Rattle.monitor_laws.specs.Lines.{Announcement, Joins, Arrives, Leaves, Waits, Goes, Ends, Stands, TraceLine, AreGone, Announces, PlaysAny, PlaysOneOf}
 use Rattle.monitor_laws.specs.States.{Condition, Running, Waiting, Ended, OneOf, Participant, TraceState, after_lines}
-use Rattle.monitor_laws.specs.Faults.{Malformed, NamesTask, NamesWildcard, StillWaits, DoesNotWait, IsMemberAlready, IsNoMember, IsAtLastPhase, first_fault}
+use Rattle.monitor_laws.specs.Faults.{Malformed, NamesTask, NamesWildcard, StillWaits, DoesNotWait, IsMemberAlready, IsNoMember, IsAtLastPhase, TooManyListed, TooManyMemberships, first_fault}
 use Rattle.monitor_laws.specs.Stuck.{IsStuck}
 use Rattle.monitor_laws.specs.Traces.{HasNoWildcard, HasOrderedJoins, HasTrueGoes, IsHonest, IsLasting, IsLegalTrace, IsMixedFrom}
 use Rattle.monitor_laws.specs.Laws.{unnumbered}
@@ -121,6 +121,28 @@ WorkedFaults =
     × (first_fault some_state (Some (says (codes "b") (Arrives (codes "q")))) ≡ Some (IsNoMember (codes "b") (codes "q")))
     × (first_fault some_state (Some (says (codes "b") (Arrives (codes "p")))) ≡ Some (IsAtLastPhase (codes "b") (codes "p")))
     × (first_fault some_state (Some (says (codes "a") Goes)) ≡ None)
+
+-- so many running tasks
+abbrev pub crowd : ℕ → TraceState
+crowd k = record { list = replicate k (listed 0 [] [] Running None); named = k }
+
+-- a wildcard that so many tasks may play
+abbrev pub played_by : ℕ → Participant
+played_by k = listed 0 (codes "v") [] (OneOf [] (replicate k 0)) None
+
+-- b runs, and so many tasks and 1023 times 1024 may play wildcards
+abbrev pub many_players : ℕ → TraceState
+many_players k = record { list = listed 0 (codes "b") [] Running None ∷ played_by k ∷ replicate 1023 (played_by 1024); named = 0 }
+
+-- the last task and the last membership that a list may have, and one more
+abbrev pub WorkedLimits : Type 0
+WorkedLimits =
+    (first_fault (crowd 65535) (Some (says (codes "a") (Joins (codes "p") 0))) ≡ None)
+    × (first_fault (crowd 65536) (Some (says (codes "a") (Joins (codes "p") 0))) ≡ Some TooManyListed)
+    × (first_fault (many_players 1023) (Some (says (codes "b") (Joins (codes "p") 0))) ≡ None)
+    × (first_fault (many_players 1024) (Some (says (codes "b") (Joins (codes "p") 0))) ≡ Some TooManyMemberships)
+    × (first_fault (many_players 1024) (Some (PlaysOneOf (codes "u") (codes "z" ∷ []))) ≡ None)
+    × (first_fault (many_players 1024) (Some (PlaysOneOf (codes "u") (codes "b" ∷ []))) ≡ Some TooManyMemberships)
 
 -- by this line behind honest ones of a legal trace somebody is stuck no more
 abbrev pub IsTakenBack : List TraceLine → TraceLine → Participant → Type 0

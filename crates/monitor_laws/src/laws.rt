@@ -2,7 +2,7 @@
 ghost use Rattle.monitor_laws.specs.DeadlockLaws.{StuckIsDeadlocked, UnionsAreClosed};
 ghost use Rattle.monitor_laws.specs.Laws.{AllAreTold, GuardedIsLegal, NothingIsTakenBack, NoWaitMakesStuck, SameLinesSameStates, StuckStays, TrueAndOrderedLasts, WhoIsToldIsStuck};
 ghost use Rattle.monitor_laws.specs.Told.{AllWereTold, OwnWaitSticks, StuckIsKnown, StuckWereTold};
-ghost use Rattle.monitor_laws.specs.Worked.{HonestIsNeeded, LastingIsNeeded, OrderedJoinsAreNeeded, TrueGoesAreNeeded, WorkedEnds, WorkedFaults, WorkedGone, WorkedMembers, WorkedWildcards};
+ghost use Rattle.monitor_laws.specs.Worked.{HonestIsNeeded, LastingIsNeeded, OrderedJoinsAreNeeded, TrueGoesAreNeeded, WorkedEnds, WorkedFaults, WorkedGone, WorkedLimits, WorkedMembers, WorkedWildcards};
 
 /// In every honest continuation of an honest trace whoever is stuck and is not gone stays so.
 pub fn stuck_stays()
@@ -66,9 +66,10 @@ pub fn worked_lists()
     ensures gone { WorkedGone }
 {}
 
-/// The first fault of a line, row by row.
+/// The first fault of a line, row by row, and at both limits of the list.
 pub fn worked_line_faults()
-    ensures { WorkedFaults }
+    ensures rows { WorkedFaults }
+    ensures limits { WorkedLimits }
 {}
 
 /// Without each part of honest, of lasting, and of what makes a trace lasting, its law is false.

@@ -1,0 +1,9 @@
+pub mod OwnPhases
+pub mod Named
+pub mod StuckAreDead
+pub mod Faultless
+pub mod OneLine
+pub mod OneStep
+pub mod LowPhases
+pub mod Counted
+pub mod RunTraces
