@@ -127,12 +127,12 @@ abbrev pub crowd : ℕ → TraceState
 crowd k = record { list = replicate k (listed 0 [] [] Running None); named = k }
 
 -- a wildcard that so many tasks may play
-abbrev pub played_by : ℕ → Participant
-played_by k = listed 0 (codes "v") [] (OneOf [] (replicate k 0)) None
+abbrev pub wildcard_of_many : ℕ → Participant
+wildcard_of_many k = listed 0 (codes "v") [] (OneOf [] (replicate k 0)) None
 
 -- b runs, and so many tasks and 1023 times 1024 may play wildcards
 abbrev pub many_players : ℕ → TraceState
-many_players k = record { list = listed 0 (codes "b") [] Running None ∷ played_by k ∷ replicate 1023 (played_by 1024); named = 0 }
+many_players k = record { list = listed 0 (codes "b") [] Running None ∷ wildcard_of_many k ∷ replicate 1023 (wildcard_of_many 1024); named = 0 }
 
 -- the last task and the last membership that a list may have, and one more
 abbrev pub WorkedLimits : Type 0
