@@ -15,6 +15,7 @@ AwaitsByNumber s number k e =
 abbrev pub HasPhaseByNumber : TraceState → (List ℕ → ℕ) → HasPhase
 HasPhaseByNumber s number k q m = (u : Participant) × Contains s.list u × (u.number ≡ k) × (p : List ℕ) × (number p ≡ q) × (phase_on u p ≡ Some m)
 
+-- whoever is stuck where nobody has ended and there is no wildcard is dead, and who is dead is stuck
 abbrev pub StuckIsDeadlocked : Type 0
 StuckIsDeadlocked =
     (h : List TraceLine) (number : List ℕ → ℕ) (t : Participant) → ((p q : List ℕ) → number p ≡ number q → p ≡ q) →

@@ -9,9 +9,11 @@ use Rattle.monitor_laws.specs.States.{Condition, Running, Waiting, Ended, AnyTas
 abbrev pub last_phase : ℕ
 last_phase = 4294967295
 
+-- so many tasks and wildcards a list has at most
 abbrev pub most_listed : ℕ
 most_listed = 65536
 
+-- so many memberships they have at most in all
 abbrev pub most_memberships : ℕ
 most_memberships = 1048576
 
@@ -32,9 +34,11 @@ pub data LineFault : Type 0 where
 abbrev pub fault_where : Bool → LineFault → List LineFault
 fault_where holds fault = if holds then fault ∷ [] else []
 
+-- the phase of a task or wildcard on a phaser, if it is a member
 abbrev pub phase_on : Participant → List ℕ → Option ℕ
 phase_on u p = lookup (bytes_eq p) u.phases
 
+-- a task waits in this condition
 abbrev pub waits_now : Condition → Bool
 waits_now Running = false
 waits_now (Waiting p n) = true
@@ -46,9 +50,11 @@ waits_now (OneOf names tasks) = false
 abbrev pub participant_in : TraceState → List ℕ → Participant
 participant_in s t = unwrap_or (find (is_there_as t) s.list) (new_participant s.named t)
 
+-- a task with the name is there
 abbrev pub is_task_in : TraceState → List ℕ → Bool
 is_task_in s t = list_any (λ u. is_live_task u.condition && bytes_eq t u.name) s.list
 
+-- a wildcard with the name is there
 abbrev pub is_wildcard_in : TraceState → List ℕ → Bool
 is_wildcard_in s t = list_any (λ u. is_live_wildcard u.condition && bytes_eq t u.name) s.list
 
@@ -70,6 +76,7 @@ tasks_had Ended = []
 tasks_had AnyTask = []
 tasks_had (OneOf names tasks) = tasks
 
+-- how many memberships those of the list have in all
 abbrev pub memberships_in : TraceState → ℕ
 memberships_in s = sum_by (λ u. length u.phases + length (tasks_had u.condition)) s.list
 
@@ -85,6 +92,7 @@ said_faults t u (Waits p n) = []
 said_faults t u Ends = []
 said_faults t u Stands = []
 
+-- the task goes on
 abbrev pub is_go : Announcement → Bool
 is_go (Joins p n) = false
 is_go (Arrives p) = false
@@ -94,6 +102,7 @@ is_go Goes = true
 is_go Ends = false
 is_go Stands = false
 
+-- somebody becomes a member
 abbrev pub is_join : Announcement → Bool
 is_join (Joins p n) = true
 is_join (Arrives p) = false

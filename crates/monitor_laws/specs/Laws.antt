@@ -37,6 +37,7 @@ TrueAndOrderedLasts = (h : List TraceLine) → HasTrueGoes h → HasOrderedJoins
 abbrev pub unnumbered : Participant → Participant
 unnumbered u = record u { number = 0 }
 
+-- those of the list with a name, apart from their numbers
 abbrev pub own_list : TraceState → List ℕ → List Participant
 own_list s t = map unnumbered (filter (λ u. bytes_eq t u.name) s.list)
 

@@ -34,6 +34,7 @@ IsLasting (l ∷ h) = IsLasting h × ((p : List ℕ) (n : ℕ) → WasPassed (l 
 abbrev pub SomebodyRuns : TraceState → Type 0
 SomebodyRuns s = (u : Participant) × Contains s.list u × (u.condition ≡ Running)
 
+-- no task waits
 abbrev pub NobodyWaits : TraceState → Type 0
 NobodyWaits s = (u : Participant) → Contains s.list u → (p : List ℕ) (n : ℕ) → WaitsForPhase u p n → ⊥
 
@@ -75,6 +76,7 @@ pub record IsHonestLine (s : TraceState) (l : TraceLine) : Type 0 where
       (u : Participant) × Contains s.list u × (u.condition ≡ Running) × MayPlay u w.condition
   pub comes : BringsTask s l → SomebodyRuns s ⊎ NobodyWaits s
 
+-- each line of the trace is honest where it comes
 abbrev pub IsHonest : List TraceLine → Type 0
 IsHonest [] = Unit {0}
 IsHonest (l ∷ h) = IsHonest h × IsHonestLine (after_lines h) l

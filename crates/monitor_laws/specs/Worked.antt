@@ -11,6 +11,7 @@ use Rattle.monitor_laws.specs.Laws.{unnumbered}
 abbrev pub says : List ℕ → Announcement → TraceLine
 says t what = Announces t what None
 
+-- a task or wildcard as it stands in a list
 abbrev pub listed : ℕ → List ℕ → List (List ℕ × ℕ) → Condition → Option (List ℕ) → Participant
 listed number name phases condition place = record { number = number; name = name; phases = phases; condition = condition; place = place }
 
@@ -168,5 +169,6 @@ LastingIsNeeded =
 abbrev pub TrueGoesAreNeeded : Type 0
 TrueGoesAreNeeded = ((h : List TraceLine) → IsLegalTrace h → HasOrderedJoins h → IsLasting h) → ⊥
 
+-- true goes alone do not make a trace lasting
 abbrev pub OrderedJoinsAreNeeded : Type 0
 OrderedJoinsAreNeeded = ((h : List TraceLine) → IsLegalTrace h → HasTrueGoes h → IsLasting h) → ⊥

@@ -16,6 +16,7 @@ use Rattle.monitor_laws.specs.Traces.{IsLasting, IsLegalTrace}
 abbrev pub Naming : Type 0
 Naming = ℕ → List ℕ
 
+-- a naming gives each number a name of its own
 abbrev pub TellsNumber : Naming → Type 0
 TellsNumber name = (number : List ℕ → ℕ) × ((k : ℕ) → number (name k) ≡ k)
 
@@ -24,6 +25,7 @@ abbrev pub wait_on : Naming → Option Event → Announcement
 wait_on phaser None = Stands
 wait_on phaser (Some e) = Waits (phaser e.p.0) e.n
 
+-- the line by which a member with this phase joins, where it has one
 abbrev pub join_with : List ℕ → Option ℕ → Announcement
 join_with p None = Stands
 join_with p (Some n) = Joins p n
@@ -62,6 +64,7 @@ pub record IsTraceOfRun (task phaser : Naming) (h : List Step) (g : List TraceLi
   pub same : IsSameState task phaser (after_lines g) (state_after h)
   pub stuck : (t : ℕ) → IsStuck (after_lines g) (participant_in (after_lines g) (task t)) ↔ IsDeadIn (state_after h) t
 
+-- a run of a checked plan is a legal and lasting trace that leads to the state of the run, and whoever is stuck in it is dead there
 abbrev pub RunsAreTraces : Type 0
 RunsAreTraces =
     (plan : Plan) (h : List Step) (task phaser : Naming) → IsCheckedPlan plan → TellsNumber task → TellsNumber phaser → IsLegalRun plan h →

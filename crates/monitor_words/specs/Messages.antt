@@ -47,6 +47,7 @@ resolved_words (u ∷ others) = message_line (codes "resolved: " ++ names_of (u 
 
 -- ---- reports and lists
 
+-- somebody of the list keeps the task waiting
 abbrev pub is_kept_waiting : TraceState → Participant → Bool
 is_kept_waiting s t = list_any (λ u. keeps_waiting u t) s.list
 

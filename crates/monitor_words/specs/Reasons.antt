@@ -10,6 +10,7 @@ pub data StuckBecause : Type 0 where
   StuckStops : (u : Participant) → StuckBecause
   SomebodyMissing : StuckBecause
 
+-- a task has ended, or a wildcard is gone
 abbrev pub has_ended : Condition → Bool
 has_ended condition = not (is_live_task condition || is_live_wildcard condition)
 
@@ -17,6 +18,7 @@ has_ended condition = not (is_live_task condition || is_live_wildcard condition)
 abbrev pub ended_keeps : Participant → Participant → Bool
 ended_keeps f u = has_ended u.condition && keeps_waiting u f
 
+-- no circle leads from f back to it
 abbrev pub HasNoCircle : TraceState → (ℕ → Bool) → Participant → Type 0
 HasNoCircle s stuck f = (others : List Participant) → IsCircle s stuck f others → ⊥
 

@@ -19,6 +19,7 @@ more_words (suc k) = codes " and " ++ decimal (suc k) ++ codes " more"
 abbrev pub names_words : List (List ℕ) → List ℕ
 names_words names = join_by (λ x. x) (codes ", ") (take 3 names) ++ more_words (length names - 3)
 
+-- the names of these
 abbrev pub names_of : List Participant → List ℕ
 names_of us = names_words (map (λ u. u.name) us)
 
@@ -49,6 +50,7 @@ condition_words stuck place Ended = codes "ended" ++ at_words (codes ", last see
 condition_words stuck place AnyTask = codes "any task"
 condition_words stuck place (OneOf names tasks) = (if length names == 1 then codes "only " else codes "one of ") ++ names_words names
 
+-- the words of the condition of who keeps others waiting
 abbrev pub keeper_words : (ℕ → Bool) → Participant → List ℕ
 keeper_words stuck u = condition_words (stuck u.number) u.place u.condition
 
@@ -81,9 +83,11 @@ group_words stuck p g =
     ++ keeper_words stuck g.0
     ++ codes ")"
 
+-- those who keep the task waiting, in list order
 abbrev pub keepers_of : TraceState → Participant → List Participant
 keepers_of s t = filter (λ u. keeps_waiting u t) s.list
 
+-- these in groups that read alike
 abbrev pub keeper_groups : TraceState → (ℕ → Bool) → Participant → List (Participant × List Participant)
 keeper_groups s stuck t = groups_by (keep_alike stuck (waited_event t).0) (keepers_of s t) (keepers_of s t)
 

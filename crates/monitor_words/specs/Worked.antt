@@ -17,6 +17,7 @@ says_at t what place = Announces t what (Some place)
 abbrev pub none_stuck : ℕ → Bool
 none_stuck k = false
 
+-- everybody is stuck
 abbrev pub all_stuck : ℕ → Bool
 all_stuck k = true
 
@@ -115,9 +116,11 @@ worker_ended =
 abbrev pub third_waits : TraceState
 third_waits = after_lines (says_at (codes "w3") (Waits (codes "b") 1) (codes "Job.java:9") ∷ says (codes "w3") (Arrives (codes "b")) ∷ worker_ended)
 
+-- only the first one is
 abbrev pub first_of_three : ℕ → Bool
 first_of_three k = nat_eq k 0
 
+-- the first and the third one are
 abbrev pub first_and_third : ℕ → Bool
 first_and_third k = nat_eq k 0 || nat_eq k 2
 
@@ -158,6 +161,7 @@ crosswise =
     ∷ PlaysAny (codes "?l")
     ∷ [])
 
+-- the three tasks at the two barriers are
 abbrev pub tasks_crosswise : ℕ → Bool
 tasks_crosswise k = nat_eq k 2 || (nat_eq k 3 || nat_eq k 4)
 

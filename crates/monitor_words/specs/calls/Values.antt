@@ -26,9 +26,11 @@ use Rattle.monitor_words.specs.declared.sentences.StuckSentence.{StuckSentence}
 abbrev pub first_names : List (List ℕ) → ShownNames
 first_names names = record { shown = take 3 names; left = length names - 3 }
 
+-- the names that are shown of these, and how many are left
 abbrev pub names_shown : List Participant → ShownNames
 names_shown us = first_names (map (λ u. u.name) us)
 
+-- a task with its place, as a value
 abbrev pub placed_task : Participant → PlacedTask
 placed_task u = record { name = u.name; place = u.place }
 
@@ -38,6 +40,7 @@ shown_circle others =
     if nat_le (length others) 7 then r.InCircle (map placed_task others) 0
     else r.InCircle (map placed_task (take 6 others)) (length others - 6)
 
+-- why f is stuck, as a value
 abbrev pub reason_shown : Participant → StuckBecause → StuckReason
 reason_shown f (InCircle others) = shown_circle others
 reason_shown f (EndedKeeps u) = r.EndedKeeps (placed_task u)
@@ -50,6 +53,7 @@ sentence_shown f because = record { task = placed_task f; reason = reason_shown 
 
 -- ---- rows
 
+-- the condition of who keeps others waiting, as a value
 abbrev pub condition_shown : Bool → Condition → KeeperCondition
 condition_shown stuck Running = c.Running
 condition_shown stuck (Waiting p n) = if stuck then c.Stuck else c.Waiting
@@ -57,6 +61,7 @@ condition_shown stuck Ended = c.Ended
 condition_shown stuck AnyTask = c.AnyTask
 condition_shown stuck (OneOf names tasks) = c.OneOf (first_names names)
 
+-- a group of them, as a value
 abbrev pub group_shown : (ℕ → Bool) → List ℕ → Participant × List Participant → KeeperGroup
 group_shown stuck p g =
     record {
@@ -90,6 +95,7 @@ told_rows_shown s was stuck f newly because =
 
 -- ---- reports and lists
 
+-- how many run, wait, are stuck and have ended
 abbrev pub state_counts : TraceState → (ℕ → Bool) → StateCounts
 state_counts s stuck =
     record {
@@ -100,5 +106,6 @@ state_counts s stuck =
       ended = count_by (λ u. has_ended u.condition) s.list;
     }
 
+-- how a waiting task stands
 abbrev pub wait_standing : TraceState → (ℕ → Bool) → Participant → WaitStanding
 wait_standing s stuck t = if stuck t.number then w.Stuck else if is_kept_waiting s t then w.Held else w.Free

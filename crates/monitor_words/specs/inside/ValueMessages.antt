@@ -11,6 +11,7 @@ use Rattle.monitor_words.specs.declared.sentences.StuckReason.{StuckReason}
 use Rattle.monitor_words.specs.declared.sentences.StuckReason.TheVariants as r
 use Rattle.monitor_words.specs.declared.sentences.StuckSentence.{StuckSentence}
 
+-- the word with which a message begins
 abbrev pub shown_verdict : StuckReason → List ℕ
 shown_verdict (r.InCircle others left) = codes "deadlock: "
 shown_verdict (r.EndedKeeps u) = codes "stuck: "
@@ -40,9 +41,11 @@ shown_tasks_line counts =
     ++ codes " ended "
     ++ decimal counts.ended)
 
+-- the bytes of a report from its values
 abbrev pub shown_report_words : StateCounts → ShownRows → List ℕ
 shown_report_words counts rows = shown_tasks_line counts ++ shown_rows_words rows
 
+-- the word for how a waiting task stands
 abbrev pub standing_word : WaitStanding → List ℕ
 standing_word w.Stuck = codes "stuck "
 standing_word w.Held = codes "held "

@@ -52,6 +52,7 @@ group_front g =
 abbrev pub group_end : KeeperGroup → List ℕ
 group_end g = keeper_condition_words g.condition ++ seen_words g.condition g.place ++ codes ")"
 
+-- the bytes of a group of keepers
 abbrev pub shown_group_words : KeeperGroup → List ℕ
 shown_group_words g = group_front g ++ group_end g
 
@@ -63,12 +64,15 @@ shown_keepers_words row = join_by shown_group_words (codes ", ") row.keepers ++ 
 abbrev pub row_tasks : WaitRow → List ℕ
 row_tasks row = codes "  " ++ shown_names_words row.tasks ++ at_words (codes " at ") row.place
 
+-- for what those of a row wait
 abbrev pub row_waited : WaitRow → List ℕ
 row_waited row = (if is_one row.tasks then codes " waits for " else codes " wait for ") ++ waited_words (row.phaser, row.phase)
 
+-- who keeps them waiting, up to the end of the line
 abbrev pub row_end : WaitRow → List ℕ
 row_end row = codes "; " ++ shown_keepers_words row ++ codes "\n"
 
+-- the bytes of a row
 abbrev pub shown_row_words : WaitRow → List ℕ
 shown_row_words row = (row_tasks row ++ row_waited row) ++ row_end row
 

@@ -5,6 +5,7 @@ use Rattle.std.specs.Str.Parse.{digits_value}
 use Rattle.monitor_laws.specs.Lines.{Announcement, Joins, Arrives, Leaves, Waits, Goes, Ends, Stands, TraceLine, SaysNothing, AsksReport, AsksList, AreGone, Announces, PlaysAny, PlaysOneOf}
 use Rattle.trace_lines.specs.Grammar.{is_participant_name, is_phaser_name, kept_byte, most_line_bytes}
 
+-- a space
 abbrev pub is_space : ℕ → Bool
 is_space b = b == 32
 
@@ -12,6 +13,7 @@ is_space b = b == 32
 abbrev pub word_before_space : List ℕ → List ℕ
 word_before_space bytes = before_first is_space bytes
 
+-- what stands behind the first space, if one is there
 abbrev pub behind_word : List ℕ → Option (List ℕ)
 behind_word bytes = if nat_lt (position_or_len is_space bytes) (length bytes) then Some (after_first is_space bytes) else None
 
@@ -19,6 +21,7 @@ behind_word bytes = if nat_lt (position_or_len is_space bytes) (length bytes) th
 abbrev pub are_digits : List ℕ → Bool
 are_digits bytes = list_all (λ b. nat_le 48 b && nat_le b 57) bytes
 
+-- digits without a zero in front, ten at most
 abbrev pub may_be_number : List ℕ → Bool
 may_be_number bytes = nat_le 1 (length bytes) && nat_le (length bytes) 10 && (length bytes == 1 || not (slice_index bytes 0 == 48)) && are_digits bytes
 
@@ -26,6 +29,7 @@ may_be_number bytes = nat_le 1 (length bytes) && nat_le (length bytes) 10 && (le
 abbrev pub is_phase_number : List ℕ → Bool
 is_phase_number bytes = may_be_number bytes && nat_lt (digits_value 10 bytes) (2 ^ 32)
 
+-- the phase that is spelled, if one is
 abbrev pub phase_number_at : List ℕ → Option ℕ
 phase_number_at bytes = if is_phase_number bytes then Some (digits_value 10 bytes) else None
 
@@ -43,6 +47,7 @@ abbrev pub number_before : Option (List ℕ) → Option ℕ → Part ℕ
 number_before rest None = None
 number_before rest (Some n) = Some (n, rest)
 
+-- the phase with which the rest begins, and what is behind it
 abbrev pub number_part : Option (List ℕ) → Part ℕ
 number_part None = None
 number_part (Some bytes) = number_before (behind_word bytes) (phase_number_at (word_before_space bytes))
@@ -52,10 +57,12 @@ abbrev pub joined_number : List ℕ → Part ℕ → Part (List ℕ × ℕ)
 joined_number p None = None
 joined_number p (Some part) = Some ((p, part.0), part.1)
 
+-- a phase behind a phaser
 abbrev pub phase_behind : Part (List ℕ) → Part (List ℕ × ℕ)
 phase_behind None = None
 phase_behind (Some part) = joined_number part.0 (number_part part.1)
 
+-- a phaser and a phase, and what is behind them
 abbrev pub phase_part : Option (List ℕ) → Part (List ℕ × ℕ)
 phase_part rest = phase_behind (phaser_part rest)
 
@@ -80,9 +87,11 @@ said_part verb rest =
 abbrev pub is_place : List ℕ → Bool
 is_place bytes = nat_le 2 (length bytes) && nat_le (length bytes) 257 && slice_index bytes 0 == 64
 
+-- a place as it is kept
 abbrev pub kept_place : List ℕ → List ℕ
 kept_place raw = map kept_byte raw
 
+-- the place that the rest is, or that there is none
 abbrev pub place_part : Option (List ℕ) → Option (Option (List ℕ))
 place_part None = Some None
 place_part (Some bytes) = if is_place bytes then Some (Some (drop 1 bytes)) else None
@@ -97,11 +106,13 @@ says_nothing Goes = false
 says_nothing Ends = false
 says_nothing Stands = true
 
+-- the line of what is said with or without a place
 abbrev pub placed_said : List ℕ → Announcement → Option (Option (List ℕ)) → Option TraceLine
 placed_said t what None = None
 placed_said t what (Some None) = if says_nothing what then None else Some (Announces t what None)
 placed_said t what (Some (Some raw)) = Some (Announces t what (Some (kept_place raw)))
 
+-- the line of what is announced, where nothing but a place stands behind it
 abbrev pub announced : List ℕ → Part Announcement → Option TraceLine
 announced t None = None
 announced t (Some part) = placed_said t part.0 (place_part part.1)
@@ -111,6 +122,7 @@ abbrev pub are_names : List (List ℕ) → Bool
 are_names [] = true
 are_names (t ∷ names) = is_participant_name t && not (list_any (bytes_eq t) names) && are_names names
 
+-- the words between spaces
 abbrev pub spaced_words : List ℕ → List (List ℕ)
 spaced_words bytes = slice_split is_space bytes
 
@@ -124,6 +136,7 @@ abbrev pub bytes_left : Option (List ℕ) → ℕ
 bytes_left None = 0
 bytes_left (Some bytes) = length bytes + 1
 
+-- the line by which a wildcard gets these players
 abbrev pub played_by : List ℕ → Option (List ℕ) → Option TraceLine
 played_by w None = None
 played_by w (Some bytes) = if are_names (spaced_words bytes) then Some (PlaysOneOf w (spaced_words bytes)) else None
@@ -133,6 +146,7 @@ abbrev pub any_line : List ℕ → Option (List ℕ) → Option TraceLine
 any_line w None = Some (PlaysAny w)
 any_line w (Some rest) = None
 
+-- the line that the verb behind a name says
 abbrev pub verb_line : List ℕ → List ℕ → Option (List ℕ) → Option TraceLine
 verb_line t verb rest =
     if bytes_eq verb (codes "any") then any_line t rest
@@ -143,10 +157,12 @@ verb_line t verb rest =
 abbrev pub is_one_word_verb : List ℕ → Bool
 is_one_word_verb verb = bytes_eq verb (codes "go") || bytes_eq verb (codes "end") || bytes_eq verb (codes "at")
 
+-- the line that somebody is gone, or one of a task of that name
 abbrev pub gone_line : List ℕ → Option (List ℕ) → Option TraceLine
 gone_line bytes None = if is_participant_name bytes then Some (AreGone bytes) else None
 gone_line bytes (Some rest) = if is_one_word_verb (word_before_space bytes) then None else verb_line (codes "gone") (word_before_space bytes) (Some rest)
 
+-- the line that begins with a name
 abbrev pub named_line : List ℕ → List ℕ → Option TraceLine
 named_line t bytes =
     if not (is_participant_name t) then None
@@ -160,6 +176,7 @@ short_line bytes =
     else if bytes_eq bytes (codes "list") then Some AsksList
     else None
 
+-- the line by its first word and the rest
 abbrev pub worded_line : List ℕ → Option (List ℕ) → Option TraceLine
 worded_line bytes None = short_line bytes
 worded_line bytes (Some rest) = named_line (word_before_space bytes) rest
