@@ -2,7 +2,7 @@
 use Rattle.std.specs.Prelude.{ℕ, List, Option, Some, None, map, ◌==◌}
 use Rattle.std.specs.Borrow.{Bor}
 use Rattle.std.specs.List.{slice_split}
-use Rattle.monitor_laws.specs.Lines.{Announcement as Said, TraceLine as Line, Joins as SaysJoins, Arrives as SaysArrives, Leaves as SaysLeaves, Waits as SaysWaits, Goes as SaysGoes, Ends as SaysEnds, Stands as SaysStands, SaysNothing as Silent, AsksReport as WantsReport, AsksList as WantsList, AreGone as Gone, Announces as Announced, PlaysAny as Any, PlaysOneOf as OneOf}
+use Rattle.monitor_laws.specs.Lines.{Announcement as Said, TraceLine as Line, Joins as SaysJoins, Arrives as SaysArrives, Leaves as SaysLeaves, Waits as SaysWaits, Goes as SaysGoes, Ends as SaysEnds, Stands as SaysStands, SaysNothing as Silent, AsksReport as WantsReport, AsksList as WantsList, AreGone as Gone, Announces as Announced, PlaysAny as AnyMayPlay, PlaysOneOf as OneOf}
 use Rattle.trace_lines.specs.declared.line.Announcement.{Announcement}
 use Rattle.trace_lines.specs.declared.line.Announcement.TheVariants.{Joins, Arrives, Leaves, Waits, Goes, Ends, Stands}
 use Rattle.trace_lines.specs.declared.line.TraceLine.{TraceLine}
@@ -31,5 +31,5 @@ line_value AsksReport = WantsReport
 line_value AsksList = WantsList
 line_value (AreGone beginning) = Gone beginning.now
 line_value (Announces t what place) = Announced t.now (said_value what) (place_value place)
-line_value (PlaysAny w) = Any w.now
+line_value (PlaysAny w) = AnyMayPlay w.now
 line_value (PlaysOneOf w names) = OneOf w.now (slice_split (λ b. b == 32) names.now)
