@@ -1,0 +1,76 @@
+// The stuck tasks of a state, as they are known.
+ghost use Rattle.std.specs.Prelude.{◌≡◌, []};
+ghost use Rattle.monitor_search.specs.Known.{has_stuck_number};
+
+use std::alloc::Global;
+use std::marker::Model;
+
+/// A stuck task as it is known: its number and its name.
+#[derive(Drop)]
+pub struct StuckTask {
+    number: u64,
+    name: Vec<u8>,
+}
+
+impl Model for StuckTask {
+    ghost use Rattle.std.specs.Prelude.{ℕ, List};
+
+    ghost Value = { ℕ × List ℕ };
+
+    ghost view = { λ t. (t.number, t.name.items) };
+}
+
+impl StuckTask {
+    /// How many were named before it.
+    pub fn number(&self) -> u64
+        ensures { result ≡ self.now.0 }
+    {
+        self.number
+    }
+
+    /// Its name.
+    pub fn name(&self) -> &[u8]
+        ensures { result.now ≡ self.now.1 }
+    {
+        &self.name
+    }
+}
+
+/// The stuck tasks of a state, in list order, as they are known.
+#[derive(Drop)]
+pub struct StuckTasks {
+    tasks: Vec<StuckTask>,
+}
+
+impl Model for StuckTasks {
+    ghost use Rattle.std.specs.Prelude.{ℕ, List};
+
+    ghost Value = { List (ℕ × List ℕ) };
+
+    ghost view = { λ s. s.tasks.items };
+}
+
+impl StuckTasks {
+    /// No task is stuck.
+    pub fn none(alloc: Global) -> StuckTasks
+        ensures { result ≡ [] }
+    {
+        StuckTasks {
+            tasks: Vec::new(alloc),
+        }
+    }
+
+    /// All of them.
+    pub fn as_slice(&self) -> &[StuckTask]
+        ensures { result.now ≡ self.now }
+    {
+        &self.tasks
+    }
+
+    /// Whether a task with this number is one of them.
+    pub fn has_number(&self, number: u64) -> bool
+        ensures { result ≡ has_stuck_number self.now number }
+    {
+        self.tasks.iter().any(|task| task.number() == number)
+    }
+}

@@ -1,0 +1,102 @@
+-- What a legal line may change.
+use Rattle.std.proofs.Common.{◌≡◌, ℕ, ◌<◌, ◌≤◌, ◌+◌, Bool, true, false, not, ◌&&◌, ◌||◌, Some, None, Option, List, [], ◌∷◌, ◌++◌, length, refl, sym, ◌∙◌, ap, inl, inr, ◌⊎◌, arith}
+use Rattle.std.specs.Prelude.{IfSome, bytes_eq, filter, if◌then◌else◌, is_some, nat_le, unwrap_or}
+use Rattle.std.proofs.lemmas.Bool.{cases_Bool, cond-true, cond-false, leb-false}
+use Rattle.std.proofs.lemmas.List.{length-append, length-map}
+use Rattle.monitor_laws.specs.Lines.{Announcement, Joins, Arrives, Leaves, Waits, Goes, Ends, Stands, Announces, TraceLine}
+use Rattle.monitor_laws.specs.States.{AnyTask, Participant, TraceState, announced_by, is_live_wildcard, placed_at}
+use Rattle.monitor_laws.specs.Faults.{NamesWildcard, StillWaits, IsMemberAlready, IsNoMember, IsAtLastPhase, TooManyListed, TooManyMemberships, fault_where, faults_of, first_fault, has_no_room, is_go, is_join, is_of_tasks, is_wildcard_in, last_phase, memberships_in, most_memberships, participant_in, phase_on, said_faults, waits_now}
+use Rattle.std.specs.Borrow.{Bor}
+use Rattle.armus_base.proofs.Lists.{none_first}
+use Rattle.trace_lines.specs.Values.{place_value}
+use Rattle.monitor_laws.proofs.Rows.{both_tables, no_row}
+use Rattle.monitor_state.specs.inside.Changes.{MayAnnounce, memberships_had}
+use Rattle.monitor_state.proofs.KeptStates.{HasRoom}
+
+no_phase : (o : Option ℕ) → is_some o ≡ false → o ≡ None
+no_phase None none = refl
+no_phase (Some m) none = absurd (let e : true ≡ false = none in cc)
+
+below_last : (o : Option ℕ) → not (is_some o) ≡ false → nat_le last_phase (unwrap_or o 0) ≡ false → IfSome o (λ m. m < last_phase)
+below_last None some below = absurd (let e : true ≡ false = some in cc)
+below_last (Some m) some below = leb-false last_phase m below
+
+-- what is said may be announced
+pub may_say : (t : List ℕ) (u : Participant) (what : Announcement) → said_faults t u what ≡ [] → MayAnnounce what u
+may_say t u (Joins p n) none = no_phase (phase_on u p) (no_row (is_some (phase_on u p)) (IsMemberAlready t p) none)
+may_say t u (Arrives p) none =
+    let rows = both_tables (fault_where (not (is_some (phase_on u p))) (IsNoMember t p)) (fault_where (nat_le last_phase (unwrap_or (phase_on u p) 0)) (IsAtLastPhase t p)) none in
+    below_last (phase_on u p) (no_row (not (is_some (phase_on u p))) (IsNoMember t p) rows.0) (no_row (nat_le last_phase (unwrap_or (phase_on u p) 0)) (IsAtLastPhase t p) rows.1)
+may_say t u (Leaves p) none = tt
+may_say t u (Waits p n) none = tt
+may_say t u Goes none = tt
+may_say t u Ends none = tt
+may_say t u Stands none = tt
+
+fewer : {A : Type 0} (test : A → Bool) (xs : List A) → length (filter test xs) ≤ length xs
+fewer test [] = omega arith
+fewer test (x ∷ xs) = by_test (fewer test xs) (cases_Bool (test x))
+  where
+    by_test : length (filter test xs) ≤ length xs → ((test x ≡ true) ⊎ (test x ≡ false)) → length (filter test (x ∷ xs)) ≤ length (x ∷ xs)
+    by_test rest (inl on) = let e = ap length (cond-true (test x) (x ∷ filter test xs) (filter test xs) on) in omega arith
+    by_test rest (inr off) = let e = ap length (cond-false (test x) (x ∷ filter test xs) (filter test xs) off) in omega arith
+
+none_or_all : {A : Type 0} (b : Bool) (xs : List A) → length (if b then [] else xs) ≤ length xs
+none_or_all true xs = omega arith
+none_or_all false xs = omega arith
+
+-- a join is one membership more, and nothing else is more
+announced_had : (what : Announcement) (u : Participant) → memberships_had (announced_by what u) ≤ memberships_had u + (if is_join what then 1 else 0)
+announced_had (Joins p n) u = let e = length-append u.phases ((p, n) ∷ []) in omega arith
+announced_had (Arrives p) u = let e = length-map u.phases (λ m. if bytes_eq p m.0 then (m.0, m.1 + 1) else m) in omega arith
+announced_had (Leaves p) u = let e = fewer (λ (m : List ℕ × ℕ). not (bytes_eq p m.0)) u.phases in omega arith
+announced_had (Waits p n) u = omega arith
+announced_had Goes u = omega arith
+announced_had Ends u = let e = none_or_all (is_live_wildcard u.condition) u.phases in omega arith
+announced_had Stands u = omega arith
+
+placed_had : (place : Option (List ℕ)) (u : Participant) → memberships_had (placed_at place u) ≡ memberships_had u
+placed_had None u = refl
+placed_had (Some place) u = refl
+
+one_more : (b : Bool) (sum most a c : ℕ) → sum ≤ most → (b ≡ true → sum < most) → c ≤ a + (if b then 1 else 0) → sum + c ≤ most + a
+one_more true sum most a c few joins le = let j = joins refl in omega arith
+one_more false sum most a c few joins le = omega arith
+
+-- a legal announcement may be made, and its memberships are few enough
+pub record IsAllowed (s : TraceState) (t : List ℕ) (what : Announcement) (place : Option (List ℕ)) : Type 0 where
+  pub may : MayAnnounce what (participant_in s t)
+  pub room : HasRoom s t (λ u. placed_at place (announced_by what u))
+
+pub allowed : (s : TraceState) (t : List ℕ) (what : Announcement) (place : Option (List ℕ)) → memberships_in s ≤ most_memberships → faults_of s (Announces t what place) ≡ [] → IsAllowed s t what place
+allowed s t what place few legal =
+    let u = participant_in s t in
+    let first = fault_where (is_wildcard_in s t && (is_of_tasks what || is_some place)) (NamesWildcard t) in
+    let second = fault_where (waits_now (participant_in s t).condition && not (is_go what)) (StillWaits t) in
+    let said = said_faults t (participant_in s t) what in
+    let listed = fault_where (has_no_room s t) TooManyListed in
+    let many = fault_where (is_join what && nat_le most_memberships (memberships_in s)) TooManyMemberships in
+    let most = both_tables (first ++ second ++ said ++ listed) many legal in
+    let listed_too = both_tables (first ++ second ++ said) listed most.0 in
+    let said_too = both_tables (first ++ second) said listed_too.0 in
+    let not_many = no_row (is_join what && nat_le most_memberships (memberships_in s)) TooManyMemberships most.1 in
+    let had = announced_had what u in
+    let placed = placed_had place (announced_by what u) in
+    record {
+      may = may_say t u what said_too.1;
+      room =
+          one_more (is_join what) (memberships_in s) most_memberships (memberships_had u) (memberships_had (placed_at place (announced_by what u))) few
+          (λ joins. leb-false most_memberships (memberships_in s) (sym (ap (λ b. b && nat_le most_memberships (memberships_in s)) joins) ∙ not_many)) (omega arith);
+    }
+
+-- a wildcard that any task may play has no more memberships than before
+pub any_room : (s : TraceState) (w : List ℕ) → memberships_in s ≤ most_memberships → HasRoom s w (λ u. record u { condition = AnyTask })
+any_room s w few = omega arith
+
+-- a line without a first fault has none
+pub no_fault : (s : TraceState) (l : TraceLine) → first_fault s (Some l) ≡ None → faults_of s l ≡ []
+no_fault s l none = none_first (faults_of s l) none
+
+pub place_is_there : (place : Option (Bor (List ℕ))) → is_some (place_value place) ≡ is_some place
+place_is_there None = refl
+place_is_there (Some raw) = refl

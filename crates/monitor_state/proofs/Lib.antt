@@ -1,0 +1,10 @@
+pub mod OnePassing
+pub mod OnePhaser
+pub mod Ascending
+pub mod ListChanges
+pub mod Counting
+pub mod KeptStates
+pub mod LegalLines
+pub mod TableRows
+pub mod GoneOnes
+pub mod EachWord

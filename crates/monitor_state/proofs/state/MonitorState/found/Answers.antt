@@ -1,0 +1,18 @@
+use Rattle.std.proofs.Common.{Some, sym, ◌∙◌, ap, subst}
+use Rattle.std.specs.Prelude.{find}
+use Rattle.std.specs.List.{list_any}
+use Rattle.monitor_laws.specs.States.{Participant, TraceState, is_there_as}
+use Rattle.monitor_state.specs.inside.FirstPlaces.{IsFirstAt}
+use Rattle.monitor_state.proofs.OnePassing.{found_first, found_none}
+use Rattle.monitor_state.proofs.state.MonitorState.found.Goals as goal
+
+pub returns-in-None : goal.returns-in-None
+returns-in-None c =
+    sym (found_none (is_there_as c.args.t.now) c.self.inside.list.items (ap (list_any (is_there_as c.args.t.now)) (sym c.deref.ensures.value) ∙ c.in-None.ensures.none))
+    ∙ ap (λ (s : TraceState). find (is_there_as c.args.t.now) s.list) c.self.view_is
+
+pub returns-in-Some : goal.returns-in-Some
+returns-in-Some c =
+    let first : IsFirstAt (is_there_as c.args.t.now) c.self.inside.list.items c.in-Some.at = subst (λ l. IsFirstAt (is_there_as c.args.t.now) l c.in-Some.at) c.deref.ensures.value c.in-Some.ensures.at in
+    ap (λ (u : Participant). Some u) c.index.ensures ∙ sym (found_first (is_there_as c.args.t.now) c.self.inside.list.items c.in-Some.at c.index.result.now first)
+    ∙ ap (λ (s : TraceState). find (is_there_as c.args.t.now) s.list) c.self.view_is

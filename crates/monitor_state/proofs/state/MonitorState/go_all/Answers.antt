@@ -1,0 +1,27 @@
+use Rattle.std.proofs.Common.{◌≡◌, List, map, sym, ◌∙◌, ap, subst, arith}
+use Rattle.std.specs.Prelude.{filter, sum_by}
+use Rattle.monitor_laws.specs.Lines.{AreGone}
+use Rattle.monitor_laws.specs.States.{Participant, TraceState, after_line, gone_by, stays_listed}
+use Rattle.monitor_state.specs.inside.Changes.{memberships_had}
+use Rattle.monitor_state.specs.inside.States.{IsMonitorState}
+use Rattle.monitor_state.proofs.GoneOnes.{gone_few, kept_gone}
+use Rattle.monitor_state.proofs.state.MonitorState.go_all.Goals as goal
+
+pub memberships_of-self-inside-requires : goal.memberships_of-self-inside-requires
+memberships_of-self-inside-requires c =
+    let list : c.deref.result.now ≡ filter stays_listed (map (gone_by c.args.beginning.now) c.self.inside.list.items) = c.deref.ensures.value ∙ c.keep_listed.ensures ∙ ap (filter stays_listed) c.end_all.ensures in
+    let few = gone_few _ c.self.inside.memberships c.args.beginning.now c.self.invariant in
+    let same = ap (sum_by memberships_had) list in
+    omega arith
+
+pub invariant_of-self : goal.invariant_of-self
+invariant_of-self c =
+    let list : c.keep_listed.new.list.items ≡ filter stays_listed (map (gone_by c.args.beginning.now) c.self.inside.list.items) = c.keep_listed.ensures ∙ ap (filter stays_listed) c.end_all.ensures in
+    let count = c.memberships_of-self-inside.ensures ∙ ap (sum_by memberships_had) (c.deref.ensures.value ∙ list) in
+    subst (λ (l : List Participant). IsMonitorState (record { list = l; named = c.self.inside.named }) c.memberships_of-self-inside.result) (sym list)
+    (kept_gone _ c.self.inside.memberships c.memberships_of-self-inside.result c.args.beginning.now c.self.invariant count)
+
+pub returns : goal.returns
+returns c =
+    let list : c.keep_listed.new.list.items ≡ filter stays_listed (map (gone_by c.args.beginning.now) c.self.inside.list.items) = c.keep_listed.ensures ∙ ap (filter stays_listed) c.end_all.ensures in
+    ap (λ (l : List Participant). record { list = l; named = c.self.inside.named }) list ∙ ap (λ (s : TraceState). after_line s (AreGone c.args.beginning.now)) c.self.view_is

@@ -1,0 +1,4 @@
+pub mod NumberedLists
+pub mod Taking
+pub mod Values
+pub mod inside

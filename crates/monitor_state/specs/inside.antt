@@ -1,0 +1,6 @@
+pub mod Changes
+pub mod FirstFaults
+pub mod FirstPlaces
+pub mod PhaserLists
+pub mod Players
+pub mod States

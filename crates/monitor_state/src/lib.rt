@@ -1,0 +1,25 @@
+//! The state of a monitor: the list of tasks and wildcards, with their memberships and waits, and what each line of a trace makes of it, or its first fault.
+//! It stands on monitor_laws for what lines mean, and on trace_lines for lines as they are read.
+//! The tests of the monitor stand in the gallery.
+#![tactic(auto)]
+
+mod change;
+mod condition;
+mod faults;
+mod goes;
+mod line_fault;
+mod listing;
+mod memberships;
+mod participant;
+mod phaser_membership;
+mod places;
+mod players;
+mod state;
+mod words;
+
+pub use condition::ListedCondition;
+pub use line_fault::FaultOfLine;
+pub use memberships::Memberships;
+pub use participant::ListedParticipant;
+pub use phaser_membership::PhaserMembership;
+pub use state::MonitorState;

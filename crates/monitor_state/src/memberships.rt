@@ -1,0 +1,113 @@
+// The memberships of one task or wildcard.
+ghost use Rattle.std.specs.Prelude.{◌≡◌, false, ◌<◌, ◌≤◌, ◌+◌, ◌++◌, ◌∷◌, [], None, Some, IfSome, IfNone, OnOk, OnErr, length, bytes_eq, map, filter, not, if◌then◌else◌};
+ghost use Rattle.std.specs.Map.{lookup};
+ghost use Rattle.std.specs.List.{list_any};
+ghost use Rattle.monitor_laws.specs.Faults.{last_phase};
+ghost use Rattle.monitor_state.specs.inside.FirstPlaces.{IsFirstAt};
+ghost use Rattle.monitor_state.specs.inside.PhaserLists.{is_of_phaser, risen_on, without_phaser};
+
+use crate::PhaserMembership;
+use armus_base::NoMemory;
+use std::alloc::Global;
+use std::marker::Model;
+
+/// The phasers of which a task or wildcard is a member, in the order in which it joined them, each with its phase there.
+#[derive(Drop)]
+pub struct Memberships {
+    items: Vec<PhaserMembership>,
+}
+
+impl Model for Memberships {
+    ghost use Rattle.std.specs.Prelude.{ℕ, List};
+    ghost use Rattle.monitor_state.specs.inside.PhaserLists.{HasNoPhaserTwice};
+
+    ghost Value = { List (List ℕ × ℕ) };
+
+    ghost view = { λ m. m.items.items };
+
+    ghost invariant = { λ m. HasNoPhaserTwice m.items.items };
+}
+
+// Where the membership of phaser p stands.
+fn position_of(items: &[PhaserMembership], p: &[u8]) -> Option<usize>
+    ensures at { IfSome result (IsFirstAt (is_of_phaser p.now) items.now) }
+    ensures none { IfNone result (list_any (is_of_phaser p.now) items.now ≡ false) }
+{
+    for (at, membership) in items.iter().enumerate() {
+        if membership.phaser() == p {
+            return Some(at);
+        }
+    }
+    None
+}
+
+impl Memberships {
+    /// None.
+    pub(crate) fn new(alloc: Global) -> Memberships
+        ensures { result ≡ [] }
+    {
+        Memberships {
+            items: Vec::new(alloc),
+        }
+    }
+
+    /// All of them.
+    pub fn as_slice(&self) -> &[PhaserMembership]
+        ensures { result.now ≡ self.now }
+    {
+        &self.items
+    }
+
+    /// How many they are.
+    pub fn len(&self) -> usize
+        ensures { result ≡ length self.now }
+    {
+        self.items.len()
+    }
+
+    /// The phase on phaser p, if it is one.
+    pub fn phase_on(&self, p: &[u8]) -> Option<u32>
+        ensures { result ≡ lookup (bytes_eq p.now) self.now }
+    {
+        let at = position_of(&self.items, p)?;
+        Some(self.items[at].phase())
+    }
+
+    /// Becomes a member of phaser p with phase n.
+    pub(crate) fn join(&mut self, alloc: Global, p: &[u8], n: u32) -> Result<(), NoMemory>
+        requires { lookup (bytes_eq p.now) self.old ≡ None }
+        ensures joined { OnOk result (self.new ≡ self.old ++ (p.now, n) ∷ []) }
+        ensures kept { OnErr result (self.new ≡ self.old) }
+    {
+        let phaser = Vec::from_slice(alloc, p)?;
+        self.items.push(PhaserMembership { phaser, phase: n })?;
+        Ok(())
+    }
+
+    /// The phase on phaser p rises by one.
+    pub(crate) fn arrive(&mut self, p: &[u8])
+        requires { IfSome (lookup (bytes_eq p.now) self.old) (λ m. m < last_phase) }
+        ensures { self.new ≡ risen_on p.now self.old }
+    {
+        if let Some(at) = position_of(&self.items, p) {
+            let membership = &mut self.items[at];
+            membership.phase += 1;
+        }
+    }
+
+    /// Is no member of phaser p any more.
+    pub(crate) fn leave(&mut self, p: &[u8])
+        ensures { self.new ≡ without_phaser p.now self.old }
+    {
+        if let Some(at) = position_of(&self.items, p) {
+            self.items.remove(at);
+        }
+    }
+
+    /// Is a member of nothing any more.
+    pub(crate) fn clear(&mut self)
+        ensures { self.new ≡ [] }
+    {
+        self.items.clear();
+    }
+}
