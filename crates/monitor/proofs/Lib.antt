@@ -1,0 +1,5 @@
+pub mod Bytes
+pub mod Logs
+pub mod Pieces
+pub mod Endings
+pub mod Calls

@@ -1,0 +1,8 @@
+//! The monitor line by line: what it knows behind the lines that came, and the message of each.
+//! It stands on monitor_state, monitor_search, monitor_reasons and monitor_rows for what a line makes of the state, and on monitor_words for what is written of it.
+//! The tests of the monitor stand in the gallery.
+#![tactic(auto)]
+
+mod monitor;
+
+pub use monitor::Monitor;
