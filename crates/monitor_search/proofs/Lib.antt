@@ -1,0 +1,3 @@
+pub mod Filtered
+pub mod Parted
+pub mod References

@@ -16,3 +16,7 @@ has_stuck_number known k = list_any (λ t. t.0 == k) known
 pub record AreStuckTasks (s : TraceState) (known : List (ℕ × List ℕ)) : Type 0 where
   pub tells : TellsStuck s (has_stuck_number known)
   pub ordered : known ≡ map known_task (filter (λ u. has_stuck_number known u.number) s.list)
+
+-- the stuck tasks of a state are known in one way
+abbrev pub OneKnown : Type 0
+OneKnown = (s : TraceState) (known more : List (ℕ × List ℕ)) → AreStuckTasks s known → AreStuckTasks s more → known ≡ more

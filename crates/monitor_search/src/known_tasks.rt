@@ -1,7 +1,9 @@
 // The stuck tasks of a state, as they are known.
-ghost use Rattle.std.specs.Prelude.{◌≡◌, []};
-ghost use Rattle.monitor_search.specs.Known.{has_stuck_number};
+ghost use Rattle.std.specs.Prelude.{◌≡◌, ◌++◌, ◌∷◌, [], OnOk};
+ghost use Rattle.monitor_search.specs.Known.{has_stuck_number, known_task};
 
+use armus_base::NoMemory;
+use monitor_state::ListedParticipant;
 use std::alloc::Global;
 use std::marker::Model;
 
@@ -58,6 +60,18 @@ impl StuckTasks {
         StuckTasks {
             tasks: Vec::new(alloc),
         }
+    }
+
+    /// One more, behind the others.
+    pub(crate) fn push(&mut self, alloc: Global, task: &ListedParticipant) -> Result<(), NoMemory>
+        ensures { OnOk result (self.new ≡ self.old ++ known_task task.now ∷ []) }
+    {
+        let name = Vec::from_slice(alloc, task.name())?;
+        self.tasks.push(StuckTask {
+            number: task.number(),
+            name,
+        })?;
+        Ok(())
     }
 
     /// All of them.
