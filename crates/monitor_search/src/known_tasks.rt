@@ -1,6 +1,7 @@
 // The stuck tasks of a state, as they are known.
 ghost use Rattle.std.specs.Prelude.{◌≡◌, ◌++◌, ◌∷◌, [], OnOk};
 ghost use Rattle.monitor_search.specs.Known.{has_stuck_number, known_task};
+ghost use Rattle.monitor_search.specs.inside.Leaving.{is_nobody};
 
 use armus_base::NoMemory;
 use monitor_state::ListedParticipant;
@@ -79,6 +80,13 @@ impl StuckTasks {
         ensures { result.now ≡ self.now }
     {
         &self.tasks
+    }
+
+    /// Whether there is none.
+    pub(crate) fn is_empty(&self) -> bool
+        ensures { result ≡ is_nobody self.now }
+    {
+        self.tasks.is_empty()
     }
 
     /// Whether a task with this number is one of them.

@@ -5,9 +5,10 @@
 
 mod known_tasks;
 mod laws;
+mod leaving;
 mod parting;
 mod stuck;
 
 pub use known_tasks::{StuckTask, StuckTasks};
 pub use laws::one_known;
-pub use stuck::stuck_tasks;
+pub use stuck::{stuck_after, stuck_tasks};

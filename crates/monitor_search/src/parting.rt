@@ -20,8 +20,8 @@ pub(crate) struct Parting<'a> {
     pub(crate) outside: Vec<&'a ListedParticipant>,
 }
 
-// Whether u is a member of phaser p with a phase below n.
-fn has_phase_below(u: &ListedParticipant, p: &[u8], n: u32) -> bool
+/// Whether u is a member of phaser p with a phase below n.
+pub(crate) fn has_phase_below(u: &ListedParticipant, p: &[u8], n: u32) -> bool
     ensures { result ≡ has_phase_below u.now p.now n }
 {
     match u.phase_on(p) {
@@ -30,8 +30,8 @@ fn has_phase_below(u: &ListedParticipant, p: &[u8], n: u32) -> bool
     }
 }
 
-// Whether the number is one of these.
-fn is_among(tasks: &[u64], number: u64) -> bool
+/// Whether the number is one of these.
+pub(crate) fn is_among(tasks: &[u64], number: u64) -> bool
     ensures { result ≡ list_any (λ k. k == number) tasks.now }
 {
     tasks.iter().any(|k| *k == number)
