@@ -1,7 +1,10 @@
 -- What it means that the stuck tasks of a state are known.
-use Rattle.std.specs.Prelude.{◌≡◌, ℕ, Bool, ◌==◌, List, filter, map}
+use Rattle.std.specs.Prelude.{◌≡◌, ℕ, Bool, ◌==◌, List, [], filter, map}
 use Rattle.std.specs.List.{list_any}
-use Rattle.monitor_laws.specs.States.{Participant, TraceState}
+use Rattle.monitor_laws.specs.Lines.{TraceLine}
+use Rattle.monitor_laws.specs.States.{Participant, TraceState, after_line}
+use Rattle.monitor_laws.specs.Faults.{faults_of}
+use Rattle.monitor_laws.proofs.Lawful.{IsLawfulState}
 use Rattle.monitor_words.specs.Stops.{TellsStuck}
 
 -- a task as it is known: its number and its name
@@ -16,3 +19,12 @@ has_stuck_number known k = list_any (λ t. t.0 == k) known
 pub record AreStuckTasks (s : TraceState) (known : List (ℕ × List ℕ)) : Type 0 where
   pub tells : TellsStuck s (has_stuck_number known)
   pub ordered : known ≡ map known_task (filter (λ u. has_stuck_number known u.number) s.list)
+
+-- the stuck tasks of a state are known in one way
+abbrev pub OneKnown : Type 0
+OneKnown = (s : TraceState) (known more : List (ℕ × List ℕ)) → AreStuckTasks s known → AreStuckTasks s more → known ≡ more
+
+-- after this line, which is legal, the same are stuck as in the state before it
+abbrev pub KeepsStuck : TraceState → TraceLine → List (ℕ × List ℕ) → Type 0
+KeepsStuck after l known =
+    (s : TraceState) → IsLawfulState s → after ≡ after_line s l → faults_of s l ≡ [] → AreStuckTasks s known → AreStuckTasks after known

@@ -3,6 +3,12 @@
 //! The tests of the monitor stand in the gallery.
 #![tactic(auto)]
 
-mod stuck_tasks;
+mod known_tasks;
+mod laws;
+mod leaving;
+mod parting;
+mod stuck;
 
-pub use stuck_tasks::{StuckTask, StuckTasks};
+pub use known_tasks::{StuckTask, StuckTasks};
+pub use laws::one_known;
+pub use stuck::{stuck_after, stuck_tasks};

@@ -1,7 +1,10 @@
 // The stuck tasks of a state, as they are known.
-ghost use Rattle.std.specs.Prelude.{◌≡◌, []};
-ghost use Rattle.monitor_search.specs.Known.{has_stuck_number};
+ghost use Rattle.std.specs.Prelude.{◌≡◌, ◌++◌, ◌∷◌, [], OnOk};
+ghost use Rattle.monitor_search.specs.Known.{has_stuck_number, known_task};
+ghost use Rattle.monitor_search.specs.inside.Leaving.{is_nobody};
 
+use armus_base::NoMemory;
+use monitor_state::ListedParticipant;
 use std::alloc::Global;
 use std::marker::Model;
 
@@ -60,11 +63,30 @@ impl StuckTasks {
         }
     }
 
+    /// One more, behind the others.
+    pub(crate) fn push(&mut self, alloc: Global, task: &ListedParticipant) -> Result<(), NoMemory>
+        ensures { OnOk result (self.new ≡ self.old ++ known_task task.now ∷ []) }
+    {
+        let name = Vec::from_slice(alloc, task.name())?;
+        self.tasks.push(StuckTask {
+            number: task.number(),
+            name,
+        })?;
+        Ok(())
+    }
+
     /// All of them.
     pub fn as_slice(&self) -> &[StuckTask]
         ensures { result.now ≡ self.now }
     {
         &self.tasks
+    }
+
+    /// Whether there is none.
+    pub(crate) fn is_empty(&self) -> bool
+        ensures { result ≡ is_nobody self.now }
+    {
+        self.tasks.is_empty()
     }
 
     /// Whether a task with this number is one of them.

@@ -1,0 +1,404 @@
+-- Lines by which nobody becomes stuck and nobody is stuck no longer.
+use Rattle.std.proofs.Common.{◌≡◌, ℕ, ◌<◌, Bool, true, false, ◌&&◌, ◌||◌, not, Option, List, [], ◌∷◌, length, map, refl, sym, ◌∙◌, ap, subst, ◌⊎◌, inl, inr, arith, ltb-true}
+use Rattle.std.specs.Prelude.{Contains, filter, is_some, nat_lt}
+use Rattle.std.specs.List.{list_any}
+use Rattle.std.proofs.lemmas.Bool.{and_from, and_parts, cases_Bool, or_cases, or_left}
+use Rattle.monitor_laws.specs.Lines.{Announcement, Joins, Arrives, Leaves, Waits, Goes, Ends, Stands, Announces, PlaysAny, PlaysOneOf}
+use Rattle.monitor_laws.specs.States.{Condition, Running, Waiting, Ended, AnyTask, OneOf, Participant, TraceState, announced_by, changed_at, is_live_task, is_live_wildcard, is_there_as, new_participant, placed_at, task_numbers}
+use Rattle.monitor_laws.specs.Faults.{NamesTask, TooManyListed, fault_where, faults_of, has_no_room, is_of_tasks, is_task_in, is_wildcard_in}
+use Rattle.monitor_laws.specs.Stuck.{IsClosedSet, IsKeptIn, IsStuck}
+use Rattle.monitor_laws.proofs.Filters.{any_from, any_is}
+use Rattle.monitor_laws.proofs.Lawful.{IsLawfulState, announced_number, lawful_after, placed_condition, placed_number}
+use Rattle.monitor_laws.proofs.Rows.{both_tables, has_no_fault, is_task, is_wildcard, no_row, no_task_row, task_or_wildcard}
+use Rattle.monitor_search.specs.Known.{AreStuckTasks, KeepsStuck, has_stuck_number, known_task}
+use Rattle.monitor_search.specs.inside.Leaving.{HasNoPhase, LeavesStuckBy, is_for_any, is_freed, is_nobody, is_surely_out, leaves_stuck}
+use Rattle.monitor_search.proofs.Carried.{IsApart, IsCarried, LivesIn, apart_idle, apart_outside, still_stuck}
+use Rattle.monitor_search.proofs.OneChanged.{WasThere, had_number, new_number, none_after, one_there, others_are, others_were, same_number, same_passed, was_there}
+use Rattle.monitor_search.proofs.SurelyOut.{freed_out, runs_is, surely_out}
+
+-- a condition is of a task or of a wildcard
+wild_not_live : (c : Condition) → is_live_wildcard c ≡ true → is_live_task c ≡ true → ⊥
+wild_not_live Running wild live = absurd (cc)
+wild_not_live (Waiting p n) wild live = absurd (cc)
+wild_not_live Ended wild live = absurd (cc)
+wild_not_live AnyTask wild live = absurd (cc)
+wild_not_live (OneOf names tasks) wild live = absurd (cc)
+
+wild_freed : (list : List Participant) (c : Condition) → is_live_wildcard c ≡ true → is_surely_out list c ≡ true → is_freed list c ≡ true
+wild_freed list Running wild on = absurd (cc)
+wild_freed list (Waiting p n) wild on = absurd (cc)
+wild_freed list Ended wild on = absurd (cc)
+wild_freed list AnyTask wild on = on
+wild_freed list (OneOf names tasks) wild on = on
+
+from_not : (b : Bool) → not b ≡ true → b ≡ false
+from_not true e = absurd (cc)
+from_not false e = refl
+
+nobody_is : (known : List (ℕ × List ℕ)) → is_nobody known ≡ true → known ≡ []
+nobody_is [] e = refl
+nobody_is (t ∷ known) e = absurd (cc)
+
+module _ (s : TraceState) (lawful : IsLawfulState s) (t : List ℕ) (change : Participant → Participant) (number : (u : Participant) → (change u).number ≡ u.number)
+    (lawful_too : IsLawfulState (changed_at t change s)) (known : List (ℕ × List ℕ)) (is : AreStuckTasks s known)
+    (u : Participant) (within : Contains (changed_at t change s).list u) (there : is_there_as t u ≡ true) where
+  abbrev after : TraceState
+  after = changed_at t change s
+
+  abbrev old : WasThere s lawful t change number u
+  old = was_there s lawful t change number u within there
+
+  has_number_after : (x : Participant) → Contains after.list x → x.number ≡ u.number → x ≡ u
+  has_number_after x listed same = lawful_too.one_number x u listed within same
+
+  had : (x : Participant) → Contains s.list x → x.number ≡ u.number → x ≡ old.was
+  had = had_number s lawful t change number u old
+
+  stuck_is_known : (x : Participant) → IsStuck s x → has_stuck_number known x.number ≡ true
+  stuck_is_known x stuck = (is.tells x.number).1 (x, stuck, refl)
+
+  module _ (new : has_stuck_number known u.number ≡ false) where
+    -- who is known has another number
+    known_differs : (x : Participant) → has_stuck_number known x.number ≡ true → x.number ≡ u.number → ⊥
+    known_differs x on same = let e = ap (has_stuck_number known) same in absurd (cc)
+
+    keeps : (IsStuck after u → ⊥) → IsApart s u.number → IsApart after u.number → (IsCarried s after u.number ⊎ (known ≡ [])) → IsCarried after s u.number → AreStuckTasks after known
+    keeps not_stuck apart apart_after onward backward =
+        record {
+          tells = λ k. (λ on. stays k on onward, λ told. came k told);
+          ordered = is.ordered ∙ ap (map known_task) (sym same_filter);
+        }
+      where
+        stays : (k : ℕ) → has_stuck_number known k ≡ true → (IsCarried s after u.number ⊎ (known ≡ [])) → (x : Participant) × IsStuck after x × (x.number ≡ k)
+        stays k on (inl carried) =
+            let x = (is.tells k).0 on in
+            (x.0, still_stuck s after u.number carried apart x.0 x.1 (known_differs x.0 (stuck_is_known x.0 x.1)), x.2)
+        stays k on (inr none) = absurd (let e = ap (λ l. has_stuck_number l k) none in cc)
+
+        came : (k : ℕ) → ((x : Participant) × IsStuck after x × (x.number ≡ k)) → has_stuck_number known k ≡ true
+        came k (x, stuck, same) =
+            (is.tells k).1 (x, still_stuck after s u.number backward apart_after x stuck (λ e. not_stuck (subst (IsStuck after) (has_number_after x stuck.listed e) stuck)), same)
+
+        clean : (x : Participant) → Contains s.list x → has_stuck_number known x.number ≡ true → (is_there_as t x ≡ false)
+        clean x listed on = elim (cases_Bool (is_there_as t x)) [
+          | inr off ↦ off
+          | inl on_t ↦ absurd (known_differs x on (ap (λ (y : Participant). y.number) (one_there s lawful t change number u old x (inl listed) on_t) ∙ sym (same_number s lawful t change number u old)))
+        ]
+
+        none_new : has_stuck_number known s.named ≡ false
+        none_new = elim (cases_Bool (has_stuck_number known s.named)) [
+          | inr off ↦ off
+          | inl on ↦ absurd (let x = (is.tells s.named).0 on in let n = lawful.numbers x.0 x.1.listed in let e = x.2 in omega arith)
+        ]
+
+        same_filter : filter (λ x. has_stuck_number known x.number) after.list ≡ filter (λ x. has_stuck_number known x.number) s.list
+        same_filter =
+            same_passed s lawful t change number (λ x. has_stuck_number known x.number) (λ x. ap (has_stuck_number known) (number x)) none_new
+            (λ x listed on. (clean x listed on, lawful.stays x listed))
+
+    module _ (out : is_surely_out after.list u.condition ≡ true) where
+      not_stuck_out : IsStuck after u → ⊥
+      not_stuck_out stuck = surely_out after u.condition out stuck.set stuck.closed (stuck.closed u within stuck.inside)
+
+      apart_out : IsApart after u.number
+      apart_out =
+          apart_outside after u.number
+          (λ set closed x listed same inside. surely_out after u.condition out set closed (closed u within (subst (λ (y : Participant). set y.number ≡ true) (has_number_after x listed same) inside)))
+
+      -- of a task
+      module _ (live : is_live_task u.condition ≡ true) (was_live : Contains s.list old.was → is_live_task old.was.condition ≡ true) where
+        stuck_or_out : (c : Condition) → old.was.condition ≡ c → is_live_task c ≡ true → Contains s.list old.was → (set : ℕ → Bool) → IsClosedSet s set → set old.was.number ≡ true → ⊥
+        stuck_or_out Running same alive listed set closed inside = subst (IsKeptIn s set) same (closed old.was listed inside)
+        stuck_or_out (Waiting p n) same alive listed set closed inside =
+            known_differs old.was (stuck_is_known old.was (record { listed = listed; waits = (p, n, same); set = set; closed = closed; inside = inside }))
+            (sym (same_number s lawful t change number u old))
+        stuck_or_out Ended same alive listed set closed inside = absurd (cc)
+        stuck_or_out AnyTask same alive listed set closed inside = absurd (cc)
+        stuck_or_out (OneOf names tasks) same alive listed set closed inside = absurd (cc)
+
+        apart_task : IsApart s u.number
+        apart_task =
+            apart_outside s u.number
+            (λ set closed x listed same inside.
+            let e = had x listed same in
+            let in_s = subst (Contains s.list) e listed in
+            stuck_or_out old.was.condition refl (was_live in_s) in_s set closed (subst (λ (y : Participant). set y.number ≡ true) e inside))
+
+        task_back : IsCarried after s u.number
+        task_back =
+            record {
+              back = others_are s lawful t change number u old;
+              onward = others_were s lawful t change number u old;
+              lives = λ lived. inl (u, within, refl, live);
+            }
+
+        task_onward :
+            ((((is_live_wildcard u.condition ≡ true) ⊎ (is_nobody known ≡ true)) ⊎ (list_any (λ v. is_for_any v.condition) after.list ≡ false)) ⊎ ((v : Participant) × Contains after.list v × (u.number < v.number))) →
+            IsCarried s after u.number ⊎ (known ≡ [])
+        task_onward (inl (inl (inl wild))) = absurd (wild_not_live u.condition wild live)
+        task_onward (inl (inl (inr none))) = inr (nobody_is known none)
+        task_onward (inl (inr none)) =
+            inl (record {
+              back = others_were s lawful t change number u old;
+              onward = others_are s lawful t change number u old;
+              lives = λ lived. by_from old.from;
+            })
+          where
+            by_from : (Contains s.list old.was ⊎ ((list_any (is_there_as t) s.list ≡ false) × (old.was ≡ new_participant s.named t))) →
+                LivesIn s u.number
+                ⊎ (((w : Participant) → Contains s.list w → w.condition ≡ AnyTask → ⊥)
+                × ((w : Participant) (names : List (List ℕ)) (tasks : List ℕ) → Contains s.list w → w.condition ≡ OneOf names tasks → Contains tasks u.number → ⊥))
+            by_from (inl listed) = inl (old.was, listed, sym (same_number s lawful t change number u old), was_live listed)
+            by_from (inr fresh) =
+                let last = new_number s lawful t change number u old fresh.1 in
+                inr (
+                  λ w listed any.
+                      let in_after = others_are s lawful t change number u old w listed (λ e. let n = lawful.numbers w listed in absurd (omega arith)) in
+                      let some = any_from (λ v. is_for_any v.condition) after.list w in_after (ap is_for_any any) in
+                      absurd (cc),
+                  λ w names tasks listed one has. let n = lawful.tasks w names tasks listed one u.number has in absurd (omega arith),
+                )
+        task_onward (inr (v, listed, more)) =
+            inl (record {
+              back = others_were s lawful t change number u old;
+              onward = others_are s lawful t change number u old;
+              lives = λ lived. by_from old.from;
+            })
+          where
+            by_from : (Contains s.list old.was ⊎ ((list_any (is_there_as t) s.list ≡ false) × (old.was ≡ new_participant s.named t))) →
+                LivesIn s u.number
+                ⊎ (((w : Participant) → Contains s.list w → w.condition ≡ AnyTask → ⊥)
+                × ((w : Participant) (names : List (List ℕ)) (tasks : List ℕ) → Contains s.list w → w.condition ≡ OneOf names tasks → Contains tasks u.number → ⊥))
+            by_from (inl listed_s) = inl (old.was, listed_s, sym (same_number s lawful t change number u old), was_live listed_s)
+            by_from (inr fresh) = absurd (none_after s lawful t change number u old v listed more (new_number s lawful t change number u old fresh.1))
+
+      -- of a wildcard that stays what it is
+      module _ (wild : is_live_wildcard u.condition ≡ true) (same_condition : old.was.condition ≡ u.condition) where
+        apart_wild : IsApart s u.number
+        apart_wild =
+            apart_outside s u.number
+            (λ set closed x listed same inside.
+            let e = had x listed same in
+            freed_out s after.list
+            (λ v in_after runs. others_were s lawful t change number u old v in_after
+            (λ differs. let f = ap (λ (y : Participant). is_live_wildcard y.condition) (has_number_after v in_after differs) in let g = ap is_live_wildcard (runs_is v.condition runs) in absurd (cc)))
+            set closed u.condition (wild_freed after.list u.condition wild out)
+            (subst (IsKeptIn s set) (ap (λ (y : Participant). y.condition) e ∙ same_condition) (closed x listed inside)))
+
+        wild_back : IsCarried after s u.number
+        wild_back =
+            record {
+              back = others_are s lawful t change number u old;
+              onward = others_were s lawful t change number u old;
+              lives = λ (x, listed, same, lived). absurd (wild_not_live u.condition wild (subst (λ c. is_live_task c ≡ true) (ap (λ (y : Participant). y.condition) (had x listed same) ∙ same_condition) lived));
+            }
+
+        wild_onward : IsCarried s after u.number
+        wild_onward =
+            record {
+              back = others_were s lawful t change number u old;
+              onward = others_are s lawful t change number u old;
+              lives = λ (x, listed, same, lived). absurd (wild_not_live u.condition wild (subst (λ (y : Participant). is_live_task y.condition ≡ true) (has_number_after x listed same) lived));
+            }
+
+  -- of a wildcard that is a member of nothing
+  module _ (wild : is_live_wildcard u.condition ≡ true) (none : u.phases ≡ []) (had_none : old.was.phases ≡ []) (not_task : Contains s.list old.was → is_live_task old.was.condition ≡ false) where
+    not_live : is_live_task u.condition ≡ false
+    not_live = elim (cases_Bool (is_live_task u.condition)) [ inl live ↦ absurd (wild_not_live u.condition wild live) | inr off ↦ off ]
+
+    was_idle : (x : Participant) → Contains s.list x → x.number ≡ u.number → (is_live_task x.condition ≡ false) × (x.phases ≡ [])
+    was_idle x listed same =
+        let e = had x listed same in
+        (ap (λ (y : Participant). is_live_task y.condition) e ∙ not_task (subst (Contains s.list) e listed), ap (λ (y : Participant). y.phases) e ∙ had_none)
+
+    is_idle : (x : Participant) → Contains after.list x → x.number ≡ u.number → (is_live_task x.condition ≡ false) × (x.phases ≡ [])
+    is_idle x listed same =
+        let e = has_number_after x listed same in
+        (ap (λ (y : Participant). is_live_task y.condition) e ∙ not_live, ap (λ (y : Participant). y.phases) e ∙ none)
+
+    waits_lives : (x : Participant) (p : List ℕ) (n : ℕ) → x.condition ≡ Waiting p n → is_live_task x.condition ≡ true
+    waits_lives x p n waits = ap is_live_task waits
+
+    new_idle : has_stuck_number known u.number ≡ false
+    new_idle = elim (cases_Bool (has_stuck_number known u.number)) [
+      | inr off ↦ off
+      | inl on ↦
+          absurd (let (x, stuck, same) = (is.tells u.number).0 on in
+          let (p, n, waits) = stuck.waits in
+          let live = waits_lives x p n waits in
+          let idle = (was_idle x stuck.listed same).0 in
+          cc)
+    ]
+
+    keeps_idle : AreStuckTasks after known
+    keeps_idle =
+        keeps new_idle
+        (λ stuck. let (p, n, waits) = stuck.waits in let live = waits_lives u p n waits in let e = not_live in absurd (cc))
+        (apart_idle s u.number was_idle)
+        (apart_idle after u.number is_idle)
+        (inl (record {
+          back = others_were s lawful t change number u old;
+          onward = others_are s lawful t change number u old;
+          lives = λ (x, listed, same, lived). let e = (is_idle x listed same).0 in absurd (cc);
+        }))
+        (record {
+          back = others_are s lawful t change number u old;
+          onward = others_were s lawful t change number u old;
+          lives = λ (x, listed, same, lived). let e = (was_idle x listed same).0 in absurd (cc);
+        })
+
+-- after what a task or wildcard announces
+module _ (s : TraceState) (lawful : IsLawfulState s) (t : List ℕ) (what : Announcement) (place : Option (List ℕ)) (legal : faults_of s (Announces t what place) ≡ []) where
+  change : Participant → Participant
+  change u = placed_at place (announced_by what u)
+
+  number : (u : Participant) → (change u).number ≡ u.number
+  unfolding change
+  number u = placed_number place (announced_by what u) ∙ announced_number what u
+
+  condition : (u : Participant) → (change u).condition ≡ (announced_by what u).condition
+  unfolding change
+  condition u = placed_condition place (announced_by what u)
+
+  -- what tasks alone say no wildcard says
+  said_of_wildcard : (u : Participant) → Contains s.list u → is_there_as t u ≡ true → is_live_wildcard u.condition ≡ true → is_of_tasks what ≡ false
+  said_of_wildcard u within there wild = elim (cases_Bool (is_of_tasks what)) [
+    | inr off ↦ off
+    | inl on ↦
+        absurd (let w = is_wildcard s t u within there wild in
+        let both = and_from (is_wildcard_in s t) (is_of_tasks what || is_some place) w (or_left (is_of_tasks what) (is_some place) on) in
+        let none = (has_no_fault s t what place legal).no_wildcard in
+        cc)
+  ]
+
+  task_was : (u : Participant) → Contains s.list u → is_there_as t u ≡ true → is_live_task (change u).condition ≡ true → is_live_task u.condition ≡ true
+  task_was u within there live = elim (task_or_wildcard t u there) [
+    | inl task ↦ task
+    | inr wild ↦ absurd (by_said what (said_of_wildcard u within there wild) wild (subst (λ c. is_live_task c ≡ true) (condition u) live))
+  ]
+    where
+      by_said : (x : Announcement) → is_of_tasks x ≡ false → is_live_wildcard u.condition ≡ true → is_live_task (announced_by x u).condition ≡ true → ⊥
+      by_said (Joins p n) of wild e = wild_not_live u.condition wild e
+      by_said (Arrives p) of wild e = wild_not_live u.condition wild e
+      by_said (Leaves p) of wild e = wild_not_live u.condition wild e
+      by_said (Waits p n) of wild e = absurd (cc)
+      by_said Goes of wild e = absurd (cc)
+      by_said Ends of wild e = absurd (cc)
+      by_said Stands of wild e = absurd (cc)
+
+  wild_was : (u : Participant) → is_live_wildcard (change u).condition ≡ true → u.condition ≡ (change u).condition
+  wild_was u wild = by_said what (subst (λ c. is_live_wildcard c ≡ true) (condition u) wild) ∙ sym (condition u)
+    where
+      by_said : (x : Announcement) → is_live_wildcard (announced_by x u).condition ≡ true → u.condition ≡ (announced_by x u).condition
+      by_said (Joins p n) e = refl
+      by_said (Arrives p) e = refl
+      by_said (Leaves p) e = refl
+      by_said (Waits p n) e = absurd (cc)
+      by_said Goes e = absurd (cc)
+      by_said Ends e = absurd (cc)
+      by_said Stands e = refl
+
+  abbrev later : TraceState
+  later = changed_at t change s
+
+  announced_leaves : IsLawfulState later → (known : List (ℕ × List ℕ)) → AreStuckTasks s known → (u : Participant) → Contains later.list u → is_there_as t u ≡ true →
+      leaves_stuck later.list known u ≡ true → AreStuckTasks later known
+  announced_leaves lawful_too known is u within there leaves = by_kind (task_or_wildcard t u there)
+    where
+      new_and_out : Bool
+      new_and_out = not (has_stuck_number known u.number) && is_surely_out later.list u.condition
+
+      kinds : Bool
+      kinds = (((is_live_wildcard u.condition || is_nobody known) || not (list_any (λ v. is_for_any v.condition) later.list)) || list_any (λ v. nat_lt u.number v.number) later.list)
+
+      parts : (new_and_out ≡ true) × (kinds ≡ true)
+      parts = and_parts new_and_out kinds leaves
+
+      first : (not (has_stuck_number known u.number) ≡ true) × (is_surely_out later.list u.condition ≡ true)
+      first = and_parts (not (has_stuck_number known u.number)) (is_surely_out later.list u.condition) parts.0
+
+      new : has_stuck_number known u.number ≡ false
+      new = from_not (has_stuck_number known u.number) first.0
+
+      kind : (((is_live_wildcard u.condition ≡ true) ⊎ (is_nobody known ≡ true)) ⊎ (list_any (λ v. is_for_any v.condition) later.list ≡ false)) ⊎ ((v : Participant) × Contains later.list v × (u.number < v.number))
+      kind = elim (or_cases ((is_live_wildcard u.condition || is_nobody known) || not (list_any (λ v. is_for_any v.condition) later.list)) (list_any (λ v. nat_lt u.number v.number) later.list) parts.1) [
+        | inl a ↦ elim (or_cases (is_live_wildcard u.condition || is_nobody known) (not (list_any (λ v. is_for_any v.condition) later.list)) a) [
+          | inl b ↦ inl (inl (or_cases (is_live_wildcard u.condition) (is_nobody known) b))
+          | inr none ↦ inl (inr (from_not (list_any (λ v. is_for_any v.condition) later.list) none))
+        ]
+        | inr more ↦ (let v = any_is (λ w. nat_lt u.number w.number) later.list more in inr (v.0, v.1, ltb-true u.number v.0.number v.2))
+      ]
+
+      was : WasThere s lawful t change number u
+      was = was_there s lawful t change number u within there
+
+      by_kind : (is_live_task u.condition ≡ true) ⊎ (is_live_wildcard u.condition ≡ true) → AreStuckTasks later known
+      by_kind (inl live) =
+          let lived : Contains s.list was.was → is_live_task was.was.condition ≡ true =
+          λ listed. task_was was.was listed was.there (subst (λ (x : Participant). is_live_task x.condition ≡ true) (sym was.is) live) in
+          keeps s lawful t change number lawful_too known is u within there new
+          (not_stuck_out s lawful t change number lawful_too known is u within there new first.1)
+          (apart_task s lawful t change number lawful_too known is u within there new first.1 live lived)
+          (apart_out s lawful t change number lawful_too known is u within there new first.1)
+          (task_onward s lawful t change number lawful_too known is u within there new first.1 live lived kind)
+          (task_back s lawful t change number lawful_too known is u within there new first.1 live lived)
+      by_kind (inr wild) =
+          let same : was.was.condition ≡ u.condition =
+          wild_was was.was (subst (λ (x : Participant). is_live_wildcard x.condition ≡ true) (sym was.is) wild) ∙ ap (λ (x : Participant). x.condition) was.is in
+          keeps s lawful t change number lawful_too known is u within there new
+          (not_stuck_out s lawful t change number lawful_too known is u within there new first.1)
+          (apart_wild s lawful t change number lawful_too known is u within there new first.1 wild same)
+          (apart_out s lawful t change number lawful_too known is u within there new first.1)
+          (inl (wild_onward s lawful t change number lawful_too known is u within there new first.1 wild same))
+          (wild_back s lawful t change number lawful_too known is u within there new first.1 wild same)
+
+-- after a line that says who may play a wildcard
+module _ (s : TraceState) (lawful : IsLawfulState s) (w : List ℕ) (c : Condition) (wild : is_live_wildcard c ≡ true) (none : is_task_in s w ≡ false) where
+  played : Participant → Participant
+  played u = record u { condition = c }
+
+  played_number : (u : Participant) → (played u).number ≡ u.number
+  unfolding played
+  played_number u = refl
+
+  played_leaves : IsLawfulState (changed_at w played s) → (known : List (ℕ × List ℕ)) → AreStuckTasks s known → (u : Participant) → Contains (changed_at w played s).list u →
+      is_there_as w u ≡ true → length u.phases ≡ 0 → AreStuckTasks (changed_at w played s) known
+  unfolding played
+  played_leaves lawful_too known is u within there short =
+      keeps_idle s lawful w played played_number lawful_too known is u within there
+      (subst (λ (x : Participant). is_live_wildcard x.condition ≡ true) was.is wild)
+      (no_items u.phases short)
+      (ap (λ (x : Participant). x.phases) was.is ∙ no_items u.phases short)
+      (λ listed. elim (cases_Bool (is_live_task was.was.condition)) [
+        | inr off ↦ off
+        | inl task ↦ absurd (let e = is_task s w was.was listed was.there task in cc)
+      ])
+    where
+      was : WasThere s lawful w played played_number u
+      was = was_there s lawful w played played_number u within there
+
+      no_items : (l : List (List ℕ × ℕ)) → length l ≡ 0 → l ≡ []
+      no_items [] e = refl
+      no_items (m ∷ l) e = absurd (omega arith)
+
+pub announces_keeps : (state : TraceState) (t : List ℕ) (what : Announcement) (place : Option (List ℕ)) (known : List (ℕ × List ℕ)) →
+    LeavesStuckBy state.list known t → KeepsStuck state (Announces t what place) known
+unfolding change
+announces_keeps state t what place known (u, within, there, leaves) s lawful same legal is =
+    subst (λ a. AreStuckTasks a known) (sym same)
+    (announced_leaves s lawful t what place legal (lawful_after s (Announces t what place) lawful) known is u
+    (subst (λ (a : TraceState). Contains a.list u) same within) there (subst (λ (a : TraceState). leaves_stuck a.list known u ≡ true) same leaves))
+
+pub any_keeps : (state : TraceState) (w : List ℕ) (known : List (ℕ × List ℕ)) → HasNoPhase state.list w → KeepsStuck state (PlaysAny w) known
+unfolding played
+any_keeps state w known (u, within, there, short) s lawful same legal is =
+    subst (λ a. AreStuckTasks a known) (sym same)
+    (played_leaves s lawful w AnyTask refl (no_row (is_task_in s w) (NamesTask w) (both_tables (fault_where (is_task_in s w) (NamesTask w)) (fault_where (has_no_room s w) TooManyListed) legal).0)
+    (lawful_after s (PlaysAny w) lawful) known is u (subst (λ (a : TraceState). Contains a.list u) same within) there short)
+
+pub one_of_keeps : (state : TraceState) (w : List ℕ) (names : List (List ℕ)) (known : List (ℕ × List ℕ)) → HasNoPhase state.list w → KeepsStuck state (PlaysOneOf w names) known
+unfolding played
+one_of_keeps state w names known (u, within, there, short) s lawful same legal is =
+    subst (λ a. AreStuckTasks a known) (sym same)
+    (played_leaves s lawful w (OneOf names (task_numbers s names)) refl (no_row (is_task_in s w) (NamesTask w) (no_task_row s w names legal))
+    (lawful_after s (PlaysOneOf w names) lawful) known is u (subst (λ (a : TraceState). Contains a.list u) same within) there short)

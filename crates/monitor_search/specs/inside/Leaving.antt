@@ -1,0 +1,65 @@
+-- Lines by which nobody becomes stuck and nobody is stuck no longer.
+use Rattle.std.specs.Prelude.{◌≡◌, ℕ, Bool, true, false, not, ◌&&◌, ◌||◌, ◌==◌, List, [], ◌∷◌, Contains, length, nat_lt}
+use Rattle.std.specs.List.{list_any}
+use Rattle.monitor_laws.specs.States.{Condition, Running, Waiting, Ended, AnyTask, OneOf, Participant, is_live_wildcard, is_there_as}
+use Rattle.monitor_laws.specs.Stuck.{has_phase_below}
+use Rattle.monitor_search.specs.Known.{has_stuck_number}
+
+-- a task runs in this condition
+abbrev pub runs_now : Condition → Bool
+runs_now Running = true
+runs_now (Waiting p n) = false
+runs_now Ended = false
+runs_now AnyTask = false
+runs_now (OneOf names tasks) = false
+
+-- any task may play a wildcard in this condition
+abbrev pub is_for_any : Condition → Bool
+is_for_any Running = false
+is_for_any (Waiting p n) = false
+is_for_any Ended = false
+is_for_any AnyTask = true
+is_for_any (OneOf names tasks) = false
+
+-- a task that runs and has one of these numbers
+abbrev pub runs_as_one_of : List ℕ → Participant → Bool
+runs_as_one_of tasks u = runs_now u.condition && list_any (λ k. k == u.number) tasks
+
+-- who is in this condition runs, or is a wildcard that somebody who runs may play
+abbrev pub is_freed : List Participant → Condition → Bool
+is_freed list Running = true
+is_freed list (Waiting p n) = false
+is_freed list Ended = false
+is_freed list AnyTask = list_any (λ u. runs_now u.condition) list
+is_freed list (OneOf names tasks) = list_any (runs_as_one_of tasks) list
+
+-- a member of p with a phase below n that is not freed
+abbrev pub is_unfreed_below : List Participant → List ℕ → ℕ → Participant → Bool
+is_unfreed_below list p n u = has_phase_below u p n && not (is_freed list u.condition)
+
+-- who is in this condition is freed, or waits and all who keep it waiting are freed
+abbrev pub is_surely_out : List Participant → Condition → Bool
+is_surely_out list Running = true
+is_surely_out list (Waiting p n) = not (list_any (is_unfreed_below list p n) list)
+is_surely_out list Ended = false
+is_surely_out list AnyTask = list_any (λ u. runs_now u.condition) list
+is_surely_out list (OneOf names tasks) = list_any (runs_as_one_of tasks) list
+
+-- nobody is known
+abbrev pub is_nobody : List (ℕ × List ℕ) → Bool
+is_nobody [] = true
+is_nobody (t ∷ known) = false
+
+-- u was not stuck and cannot be, and is no new task among stuck tasks and wildcards that any task may play
+abbrev pub leaves_stuck : List Participant → List (ℕ × List ℕ) → Participant → Bool
+leaves_stuck list known u =
+    (not (has_stuck_number known u.number) && is_surely_out list u.condition)
+    && (((is_live_wildcard u.condition || is_nobody known) || not (list_any (λ v. is_for_any v.condition) list)) || list_any (λ v. nat_lt u.number v.number) list)
+
+-- so does a line of who is there with the name t after it
+abbrev pub LeavesStuckBy : List Participant → List (ℕ × List ℕ) → List ℕ → Type 0
+LeavesStuckBy list known t = (u : Participant) × Contains list u × (is_there_as t u ≡ true) × (leaves_stuck list known u ≡ true)
+
+-- who is there with the name w is a member of nothing
+abbrev pub HasNoPhase : List Participant → List ℕ → Type 0
+HasNoPhase list w = (u : Participant) × Contains list u × (is_there_as w u ≡ true) × (length u.phases ≡ 0)

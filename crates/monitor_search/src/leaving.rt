@@ -1,0 +1,163 @@
+// Lines by which nobody becomes stuck and nobody is stuck no longer.
+ghost use Rattle.std.specs.Prelude.{◌≡◌, true, ◌&&◌, ◌<◌, not, nat_lt, Contains, IfSome};
+ghost use Rattle.std.specs.List.{list_any};
+ghost use Rattle.trace_lines.specs.Values.{line_value};
+ghost use Rattle.monitor_laws.specs.States.{is_there_as};
+ghost use Rattle.monitor_laws.specs.Stuck.{has_phase_below};
+ghost use Rattle.monitor_state.specs.Values.{condition_value};
+ghost use Rattle.monitor_search.specs.Known.{KeepsStuck};
+ghost use Rattle.monitor_search.specs.inside.Leaving.{HasNoPhase, LeavesStuckBy, is_for_any, is_freed, is_nobody, is_surely_out, is_unfreed_below, leaves_stuck, runs_as_one_of, runs_now};
+
+use crate::StuckTasks;
+use crate::parting::{has_phase_below, is_among};
+use monitor_state::{ListedCondition, ListedParticipant, MonitorState};
+use trace_lines::TraceLine;
+
+// Whether it is of a task that runs.
+fn runs_now(condition: &ListedCondition) -> bool
+    ensures { result ≡ runs_now (condition_value condition.now) }
+{
+    matches!(condition, ListedCondition::Running)
+}
+
+// Whether it is of a wildcard that any task may play.
+fn is_for_any(condition: &ListedCondition) -> bool
+    ensures { result ≡ is_for_any (condition_value condition.now) }
+{
+    matches!(condition, ListedCondition::AnyTask)
+}
+
+// Whether a task of the list runs.
+fn somebody_runs(list: &[ListedParticipant]) -> bool
+    ensures { result ≡ list_any (λ u. runs_now u.condition) list.now }
+{
+    list.iter().any(|u| runs_now(u.condition()))
+}
+
+// Whether u runs and has one of these numbers.
+fn runs_as_one_of(u: &ListedParticipant, tasks: &[u64]) -> bool
+    ensures { result ≡ runs_as_one_of tasks.now u.now }
+{
+    runs_now(u.condition()) && is_among(tasks, u.number())
+}
+
+// Whether a task of the list with one of these numbers runs.
+fn somebody_runs_of(list: &[ListedParticipant], tasks: &[u64]) -> bool
+    ensures { result ≡ list_any (runs_as_one_of tasks.now) list.now }
+{
+    list.iter().any(|u| runs_as_one_of(u, tasks))
+}
+
+// Whether who is in this condition runs, or is a wildcard that somebody who runs may play.
+#[tactic(auto, unfolding(crate::specs::inside::Leaving::is_freed))]
+fn is_freed(list: &[ListedParticipant], condition: &ListedCondition) -> bool
+    ensures { result ≡ is_freed list.now (condition_value condition.now) }
+{
+    match condition {
+        ListedCondition::Running => true,
+        ListedCondition::Waiting(_, _) | ListedCondition::Ended => false,
+        ListedCondition::AnyTask => somebody_runs(list),
+        ListedCondition::OneOf(_, tasks) => somebody_runs_of(list, tasks),
+    }
+}
+
+// Whether u is a member of phaser p with a phase below n, and not freed.
+fn is_unfreed_below(list: &[ListedParticipant], u: &ListedParticipant, p: &[u8], n: u32) -> bool
+    ensures { result ≡ is_unfreed_below list.now p.now n u.now }
+{
+    has_phase_below(u, p, n) && !is_freed(list, u.condition())
+}
+
+// Whether somebody who is not freed is a member of phaser p with a phase below n.
+fn some_unfreed_below(list: &[ListedParticipant], p: &[u8], n: u32) -> bool
+    ensures { result ≡ list_any (is_unfreed_below list.now p.now n) list.now }
+{
+    list.iter().any(|u| is_unfreed_below(list, u, p, n))
+}
+
+// Whether who is in this condition is freed, or waits and all who keep it waiting are freed.
+fn is_surely_out(list: &[ListedParticipant], condition: &ListedCondition) -> bool
+    ensures { result ≡ is_surely_out list.now (condition_value condition.now) }
+{
+    match condition {
+        ListedCondition::Running => true,
+        ListedCondition::Waiting(p, n) => !some_unfreed_below(list, p, *n),
+        ListedCondition::Ended => false,
+        ListedCondition::AnyTask => somebody_runs(list),
+        ListedCondition::OneOf(_, tasks) => somebody_runs_of(list, tasks),
+    }
+}
+
+// Whether any task may play a wildcard of the list.
+fn some_for_any(list: &[ListedParticipant]) -> bool
+    ensures { result ≡ list_any (λ u. is_for_any u.condition) list.now }
+{
+    list.iter().any(|u| is_for_any(u.condition()))
+}
+
+// Whether somebody of the list was named after so many.
+fn some_named_after(list: &[ListedParticipant], number: u64) -> bool
+    ensures { result ≡ list_any (λ v. nat_lt number v.number) list.now }
+{
+    list.iter().any(|v| number < v.number())
+}
+
+// Whether u was not stuck and cannot be, and is no new task among stuck tasks and wildcards that any task may play.
+fn leaves_stuck(list: &[ListedParticipant], was: &StuckTasks, u: &ListedParticipant) -> bool
+    ensures { result ≡ leaves_stuck list.now was.now u.now }
+{
+    if was.has_number(u.number()) || !is_surely_out(list, u.condition()) {
+        return false;
+    }
+    u.condition().is_live_wildcard()
+        || was.is_empty()
+        || !some_for_any(list)
+        || some_named_after(list, u.number())
+}
+
+// Who is there with the name t.
+fn found<'a>(list: &'a [ListedParticipant], t: &[u8]) -> Option<&'a ListedParticipant>
+    ensures listed { IfSome result (λ u. Contains list.now u.now) }
+    ensures there { IfSome result (λ u. is_there_as t.now u.now ≡ true) }
+{
+    for u in list {
+        if u.is_there_as(t) {
+            return Some(u);
+        }
+    }
+    None
+}
+
+// Whether after this line surely the same are stuck as before it: one of who is there with the name t now.
+fn leaves_stuck_by(list: &[ListedParticipant], was: &StuckTasks, t: &[u8]) -> bool
+    ensures { result ≡ true → LeavesStuckBy list.now was.now t.now }
+{
+    match found(list, t) {
+        None => false,
+        Some(u) => leaves_stuck(list, was, u),
+    }
+}
+
+// Whether who is there with the name w is a member of nothing.
+fn has_no_phase(list: &[ListedParticipant], w: &[u8]) -> bool
+    ensures { result ≡ true → HasNoPhase list.now w.now }
+{
+    match found(list, w) {
+        None => false,
+        Some(u) => u.memberships().len() == 0,
+    }
+}
+
+/// Whether after this line surely the same are stuck as before it.
+pub(crate) fn keeps_stuck(state: &MonitorState, line: &TraceLine, was: &StuckTasks) -> bool
+    ensures { result ≡ true → KeepsStuck state.now (line_value line.now) was.now }
+{
+    let list = state.participants();
+    match line {
+        TraceLine::SaysNothing | TraceLine::AsksReport | TraceLine::AsksList => true,
+        TraceLine::AreGone(_) => false,
+        TraceLine::Announces(t, _, _) => leaves_stuck_by(list, was, t),
+        TraceLine::PlaysAny(w) => has_no_phase(list, w),
+        TraceLine::PlaysOneOf(w, _) => has_no_phase(list, w),
+    }
+}

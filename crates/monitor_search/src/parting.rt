@@ -1,0 +1,144 @@
+// The list, parted into those who may still stand in a closed set and those who stand in none.
+ghost use Rattle.std.specs.Prelude.{◌≡◌, ◌==◌, ◌++◌, [], IfOk, filter, map, not};
+ghost use Rattle.std.specs.List.{list_any};
+ghost use Rattle.monitor_laws.specs.Faults.{waits_now};
+ghost use Rattle.monitor_laws.specs.States.{is_live_task};
+ghost use Rattle.monitor_laws.specs.Stuck.{has_phase_below};
+ghost use Rattle.monitor_state.specs.Values.{condition_value};
+ghost use Rattle.monitor_search.specs.Known.{known_task};
+ghost use Rattle.monitor_search.specs.inside.Partings.{AreAllKept, IsParting, is_kept_by, plays_one_of, referred};
+
+use crate::StuckTasks;
+use armus_base::NoMemory;
+use monitor_state::{ListedCondition, ListedParticipant, MonitorState};
+use std::alloc::Global;
+
+/// Those who may still stand in a closed set, in list order, and those who stand in none.
+#[derive(Drop)]
+pub(crate) struct Parting<'a> {
+    pub(crate) inside: Vec<&'a ListedParticipant>,
+    pub(crate) outside: Vec<&'a ListedParticipant>,
+}
+
+/// Whether u is a member of phaser p with a phase below n.
+pub(crate) fn has_phase_below(u: &ListedParticipant, p: &[u8], n: u32) -> bool
+    ensures { result ≡ has_phase_below u.now p.now n }
+{
+    match u.phase_on(p) {
+        None => false,
+        Some(m) => m < n,
+    }
+}
+
+/// Whether the number is one of these.
+pub(crate) fn is_among(tasks: &[u64], number: u64) -> bool
+    ensures { result ≡ list_any (λ k. k == number) tasks.now }
+{
+    tasks.iter().any(|k| *k == number)
+}
+
+// Whether u is a task that has not ended and has one of these numbers.
+fn plays_one_of(u: &ListedParticipant, tasks: &[u64]) -> bool
+    ensures { result ≡ plays_one_of tasks.now u.now }
+{
+    u.condition().is_live_task() && is_among(tasks, u.number())
+}
+
+// Whether one of these is a member of phaser p with a phase below n.
+fn some_below(these: &[&ListedParticipant], p: &[u8], n: u32) -> bool
+    ensures { result ≡ list_any (λ u. has_phase_below u.now p.now n) these.now }
+{
+    these.iter().any(|u| has_phase_below(u, p, n))
+}
+
+// Whether one of these is a task that has not ended.
+fn some_live(these: &[&ListedParticipant]) -> bool
+    ensures { result ≡ list_any (λ u. is_live_task u.now.condition) these.now }
+{
+    these.iter().any(|u| u.condition().is_live_task())
+}
+
+// Whether one of these is a task that has not ended and has one of these numbers.
+fn some_player(these: &[&ListedParticipant], tasks: &[u64]) -> bool
+    ensures { result ≡ list_any (λ u. plays_one_of tasks.now u.now) these.now }
+{
+    these.iter().any(|u| plays_one_of(u, tasks))
+}
+
+// Whether those inside keep whoever is in this condition, where the others stand outside.
+fn is_kept_by(
+    inside: &[&ListedParticipant],
+    outside: &[&ListedParticipant],
+    condition: &ListedCondition,
+) -> bool
+    ensures { result ≡ is_kept_by (referred inside.now) (referred outside.now) (condition_value condition.now) }
+{
+    match condition {
+        ListedCondition::Running => false,
+        ListedCondition::Waiting(p, n) => some_below(inside, p, *n),
+        ListedCondition::Ended => true,
+        ListedCondition::AnyTask => !some_live(outside),
+        ListedCondition::OneOf(_, tasks) => !some_player(outside, tasks),
+    }
+}
+
+// Parts those inside anew: whoever is kept by them stays.
+fn part_anew<'a>(alloc: Global, parting: &Parting<'a>) -> Result<Parting<'a>, NoMemory>
+    ensures inside { IfOk result (λ next. referred next.inside.items ≡ filter (λ u. is_kept_by (referred parting.now.inside.items) (referred parting.now.outside.items) u.condition) (referred parting.now.inside.items)) }
+    ensures outside { IfOk result (λ next. referred next.outside.items ≡ referred parting.now.outside.items ++ filter (λ u. not (is_kept_by (referred parting.now.inside.items) (referred parting.now.outside.items) u.condition)) (referred parting.now.inside.items)) }
+{
+    let mut inside = Vec::new(alloc);
+    let mut outside = Vec::from_slice(alloc, &parting.outside)?;
+    for u in &parting.inside {
+        if is_kept_by(&parting.inside, &parting.outside, u.condition()) {
+            inside.push(*u)?;
+        } else {
+            outside.push(*u)?;
+        }
+    }
+    Ok(Parting { inside, outside })
+}
+
+// All of a list stand inside.
+fn all_inside(alloc: Global, list: &[ListedParticipant]) -> Result<Parting<'_>, NoMemory>
+    ensures inside { IfOk result (λ parting. referred parting.inside.items ≡ list.now) }
+    ensures outside { IfOk result (λ parting. referred parting.outside.items ≡ []) }
+{
+    let mut inside = Vec::new(alloc);
+    for u in list {
+        inside.push(u)?;
+    }
+    let outside = Vec::new(alloc);
+    Ok(Parting { inside, outside })
+}
+
+/// The list of a state, parted so that those inside keep each of them.
+pub(crate) fn closed_parting(alloc: Global, state: &MonitorState) -> Result<Parting<'_>, NoMemory>
+    ensures parting { IfOk result (λ parting. IsParting state.now (referred parting.inside.items) (referred parting.outside.items)) }
+    ensures closed { IfOk result (λ parting. AreAllKept (referred parting.inside.items) (referred parting.outside.items)) }
+{
+    let mut parting = all_inside(alloc, state.participants())?;
+    loop {
+        let next = part_anew(alloc, &parting)?;
+        if next.inside.len() == parting.inside.len() {
+            return Ok(parting);
+        }
+        parting = next;
+    }
+}
+
+/// The waiting tasks of these.
+pub(crate) fn waiting_of(
+    alloc: Global,
+    these: &[&ListedParticipant],
+) -> Result<StuckTasks, NoMemory>
+    ensures { IfOk result (λ known. known ≡ map known_task (filter (λ u. waits_now u.condition) (referred these.now))) }
+{
+    let mut known = StuckTasks::none(alloc);
+    for u in these {
+        if u.condition().waits() {
+            known.push(alloc, u)?;
+        }
+    }
+    Ok(known)
+}
