@@ -1,0 +1,2 @@
+pub mod LoneTasks
+pub mod FirstFound

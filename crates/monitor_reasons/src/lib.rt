@@ -1,0 +1,13 @@
+//! Why a stuck task of the monitor is stuck.
+//! It stands on monitor_state for the list of tasks and wildcards, on monitor_search for the stuck tasks that are known, and on monitor_words for what a reason is
+//! and for the sentence that tells it.
+//! The tests of the monitor stand in the gallery.
+#![tactic(auto)]
+
+mod found_reason;
+mod reasons;
+mod stopping;
+mod telling;
+
+pub use found_reason::FoundReason;
+pub use telling::tells_old;
