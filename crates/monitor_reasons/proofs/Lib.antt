@@ -1,2 +1,3 @@
 pub mod LoneTasks
 pub mod FirstFound
+pub mod AtPlaces

@@ -6,8 +6,10 @@
 
 mod found_reason;
 mod reasons;
+mod sentences;
 mod stopping;
 mod telling;
 
 pub use found_reason::FoundReason;
+pub use sentences::sentence_of;
 pub use telling::tells_old;

@@ -12,7 +12,7 @@ use monitor_state::{ListedParticipant, MonitorState};
 // Whether one of these places has a task that was stuck.
 fn is_any_old(list: &[ListedParticipant], was: &StuckTasks, places: &[usize]) -> bool
     requires { All (λ i. i < length list.now) places.now }
-    ensures { result ≡ list_any (λ u. has_stuck_number was.now u.number) (map (participant_at list.now) places.now) }
+    ensures { result ≡ list_any (λ i. has_stuck_number was.now (participant_at list.now i).number) places.now }
 {
     for place in places {
         if was.has_number(list[*place].number()) {
