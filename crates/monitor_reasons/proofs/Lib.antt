@@ -1,3 +1,4 @@
 pub mod LoneTasks
 pub mod FirstFound
 pub mod AtPlaces
+pub mod ShownCircles
