@@ -118,8 +118,17 @@ module _ (s : TraceState) (stuck : ℕ → Bool) (f : Participant) where
   ]
 
   -- so a circle is no longer than the list
-  pub circle_le : (l : List Participant) → IsCircle s stuck f l → length l ≤ length s.list
+  circle_le : (l : List Participant) → IsCircle s stuck f l → length l ≤ length s.list
   circle_le l (chain, different) = distinct_le l s.list different.1 (chain_within f l chain)
+
+  -- and where f is of the list it is shorter
+  pub circle_lt : Contains s.list f → (l : List Participant) → IsCircle s stuck f l → length l < length s.list
+  circle_lt listed l (chain, different) =
+      let le = distinct_le (f ∷ l) s.list different (λ x within. elim (Contains-cons_cases f l x within) [
+        | inl here ↦ subst (λ y. Contains s.list y) here listed
+        | inr there ↦ chain_within f l chain x there
+      ]) in
+      omega arith
 
   -- of chains from f back to it that are as long as the shortest, the one that comes first is the first circle
   pub first_by_length : (n : ℕ) → ((j : ℕ) → leads j f ≡ true → n ≤ j) → (k : List Participant) → IsChain s stuck f f k → length k ≡ n →
