@@ -11,6 +11,7 @@ use Rattle.monitor_words.proofs.Circles.{chain_leads, circle_lt, first_by_length
 use Rattle.monitor_state.specs.NumberedLists.{AreAscending}
 use Rattle.monitor_reasons.specs.Found.{participant_at}
 use Rattle.monitor_reasons.specs.inside.Distances.{AreDistances, IsDistance, IsNextPlace, IsWalk, any_below, distance_at, is_before, is_behind, is_distance, is_next, leads_at, stops_at}
+use Rattle.monitor_reasons.specs.inside.Listings.{listing}
 use Rattle.monitor_reasons.proofs.Levels.{exact, leads_less}
 
 -- who stands before another has the lower number
@@ -24,6 +25,11 @@ ascend_at (x ∷ us) up (suc i) (suc j) lt within = ascend_at us up.1 i j (omega
 distance_is : (o : Option ℕ) (n : ℕ) → is_distance o n ≡ true → o ≡ Some n
 distance_is None n is = absurd (true≢false (sym is))
 distance_is (Some m) n is = ap (λ (k : ℕ). Some k) (eqb-true m n is)
+
+-- in the state that has the list
+pub next_listed : (s : TraceState) (stuck : ℕ → Bool) (distances : List (Option ℕ)) (n t u : ℕ) (us : List Participant) → us ≡ s.list →
+    IsNextPlace (listing us) stuck distances n t u → IsNextPlace s stuck distances n t u
+next_listed s stuck distances n t u us same next = let m = subst (λ l. IsNextPlace (listing l) stuck distances n t u) same next in record { within = m.within; goes = m.goes; first = m.first }
 
 module _ (s : TraceState) (stuck : ℕ → Bool) (f d : ℕ) (distances : List (Option ℕ)) (known : AreDistances s stuck f d distances) where
   known_as : (t n : ℕ) → t < length s.list → distance_at distances t ≡ Some n → IsDistance s stuck f d t (Some n)

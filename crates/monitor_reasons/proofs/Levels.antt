@@ -1,5 +1,5 @@
 -- Distances level by level.
-use Rattle.std.proofs.Common.{◌≡◌, ℕ, zero, suc, ◌<◌, ◌≤◌, ◌-◌, ◌==◌, Bool, true, false, ◌&&◌, ◌||◌, Option, Some, None, List, [], ◌∷◌, length, refl, sym, ◌∙◌, ap, subst, inl, inr, ◌⊎◌, arith}
+use Rattle.std.proofs.Common.{◌≡◌, ℕ, zero, suc, ◌<◌, ◌≤◌, ◌+◌, ◌-◌, ◌==◌, Bool, true, false, ◌&&◌, ◌||◌, Option, Some, None, List, [], ◌∷◌, length, refl, sym, ◌∙◌, ap, subst, inl, inr, ◌⊎◌, arith, add-one}
 use Rattle.std.specs.Prelude.{nat_lt}
 use Rattle.std.proofs.lemmas.Bool.{and_from, and_parts, cases_Bool, cases_lt, eqb-true, lt-ltb, ltb-true, or_cases, true≢false}
 use Rattle.std.proofs.Common.{eq-eqb}
@@ -20,11 +20,11 @@ any_below_is p (suc n) some = elim (or_cases (any_below p n) (p n) some) [
   | inr here ↦ (n, omega arith, here)
 ]
 
-or_left : (a b : Bool) → a ≡ true → (a || b) ≡ true
+pub or_left : (a b : Bool) → a ≡ true → (a || b) ≡ true
 or_left true b on = refl
 or_left false b on = absurd (true≢false (sym on))
 
-or_right : (a b : Bool) → b ≡ true → (a || b) ≡ true
+pub or_right : (a b : Bool) → b ≡ true → (a || b) ≡ true
 or_right true b on = refl
 or_right false b on = on
 
@@ -34,6 +34,9 @@ any_below_from p (suc n) u lt is = elim (cases_lt u n) [
   | inl less ↦ or_left (any_below p n) (p n) (any_below_from p n u less is)
   | inr not_less ↦ or_right (any_below p n) (p n) (let e : u ≡ n = omega arith in subst (λ k. p k ≡ true) e is)
 ]
+
+pub any_below_more : (p : ℕ → Bool) (n : ℕ) → any_below p (n + 1) ≡ (any_below p n || p n)
+any_below_more p n = ap (any_below p) (add-one n)
 
 before_is : (o : Option ℕ) (d : ℕ) → is_before o (suc d) ≡ true → o ≡ Some d
 before_is None d is = absurd (true≢false (sym is))

@@ -5,3 +5,4 @@ pub mod ShownCircles
 pub mod Levels
 pub mod Fills
 pub mod FirstWalks
+pub mod Searched

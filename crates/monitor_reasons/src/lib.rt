@@ -4,6 +4,8 @@
 //! The tests of the monitor stand in the gallery.
 #![tactic(auto)]
 
+mod circles;
+mod distances;
 mod found_reason;
 mod reasons;
 mod sentences;
@@ -11,5 +13,6 @@ mod stopping;
 mod telling;
 
 pub use found_reason::FoundReason;
+pub use reasons::reason_of;
 pub use sentences::sentence_of;
 pub use telling::tells_old;

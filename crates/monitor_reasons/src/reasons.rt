@@ -1,5 +1,5 @@
-// The reasons that are no circle.
-ghost use Rattle.std.specs.Prelude.{◌≡◌, false, IfSome, IfNone, not, ◌||◌};
+// Why a task is stuck.
+ghost use Rattle.std.specs.Prelude.{◌≡◌, ◌<◌, false, IfOk, IfSome, IfNone, length};
 ghost use Rattle.std.specs.List.{list_any};
 ghost use Rattle.monitor_laws.specs.States.{TraceState};
 ghost use Rattle.monitor_words.specs.Reasons.{HasNoCircle, IsStuckBecause, ended_keeps, has_ended};
@@ -7,13 +7,16 @@ ghost use Rattle.monitor_words.specs.Stops.{stops};
 ghost use Rattle.monitor_state.specs.Values.{condition_value};
 ghost use Rattle.monitor_state.specs.inside.FirstPlaces.{IsFirstAt};
 ghost use Rattle.monitor_search.specs.Known.{has_stuck_number};
-ghost use Rattle.monitor_reasons.specs.Found.{ArePlaces, reason_value};
+ghost use Rattle.monitor_reasons.specs.Found.{ArePlaces, participant_at, reason_value};
 ghost use Rattle.monitor_reasons.specs.inside.Listings.{listing};
 
 use crate::FoundReason;
+use crate::circles::circle_of;
 use crate::stopping::{keeps_waiting, stops};
+use armus_base::NoMemory;
 use monitor_search::StuckTasks;
-use monitor_state::{ListedCondition, ListedParticipant};
+use monitor_state::{ListedCondition, ListedParticipant, MonitorState};
+use std::alloc::Global;
 
 // Whether a task has ended, or a wildcard is gone.
 fn has_ended(condition: &ListedCondition) -> bool
@@ -59,8 +62,8 @@ fn stopper(
     None
 }
 
-/// Why f is stuck, which stands in no circle.
-pub(crate) fn reason_without_circle(
+// Why f is stuck, which stands in no circle.
+fn reason_without_circle(
     list: &[ListedParticipant],
     stuck: &StuckTasks,
     f: &ListedParticipant,
@@ -74,5 +77,26 @@ pub(crate) fn reason_without_circle(
             Some(at) => FoundReason::StuckStops(at),
             None => FoundReason::SomebodyMissing,
         },
+    }
+}
+
+/// Why the task at a place is stuck, where these are the stuck tasks: the first of the four reasons that is so.
+pub fn reason_of(
+    alloc: Global,
+    state: &MonitorState,
+    stuck: &StuckTasks,
+    task: usize,
+) -> Result<FoundReason, NoMemory>
+    requires { task < length state.now.list }
+    ensures reason { IfOk result (λ found. IsStuckBecause state.now (has_stuck_number stuck.now) (participant_at state.now.list task) (reason_value state.now.list found)) }
+    ensures places { IfOk result (λ found. ArePlaces state.now.list found) }
+{
+    match circle_of(alloc, state, stuck, task)? {
+        Some(places) => Ok(FoundReason::InCircle(places)),
+        None => {
+            let list = state.participants();
+            let found = reason_without_circle(list, stuck, &list[task]);
+            Ok(found)
+        }
     }
 }

@@ -1,7 +1,9 @@
 -- How far tasks are from a task that stops them, by their places: a task has the distance n where the shortest chain from it to the task has n others.
-use Rattle.std.specs.Prelude.{◌≡◌, ℕ, zero, suc, ◌<◌, ◌-◌, ◌==◌, Bool, true, false, ◌&&◌, ◌||◌, if◌then◌else◌, Option, Some, None, List, [], ◌∷◌, length, nat_lt, slice_index_or}
+use Rattle.std.specs.Prelude.{◌≡◌, ℕ, zero, suc, ◌<◌, ◌-◌, ◌==◌, Bool, true, false, not, ◌&&◌, ◌||◌, if◌then◌else◌, All, Option, Some, None, List, [], ◌∷◌, is_some, length, map, nat_lt, slice_index_or}
+use Rattle.std.specs.Global.{Vec}
 use Rattle.monitor_laws.specs.States.{TraceState}
-use Rattle.monitor_words.specs.Stops.{stops}
+use Rattle.monitor_words.specs.Reasons.{HasNoCircle}
+use Rattle.monitor_words.specs.Stops.{IsFirstCircle, stops}
 use Rattle.monitor_words.proofs.Circles.{leads}
 use Rattle.monitor_reasons.specs.Found.{participant_at}
 
@@ -72,3 +74,19 @@ IsWalk s stuck distances zero t [] = Unit {0}
 IsWalk s stuck distances zero t (u ∷ us) = ⊥
 IsWalk s stuck distances (suc n) t [] = ⊥
 IsWalk s stuck distances (suc n) t (u ∷ us) = IsNextPlace s stuck distances n t u × IsWalk s stuck distances n u us
+
+-- distances are known as far as a circle of f needs them
+pub record AreSearched (s : TraceState) (stuck : ℕ → Bool) (f : ℕ) (distances : List (Option ℕ)) : Type 0 where
+  pub bound : ℕ
+  pub known : AreDistances s stuck f bound distances
+  pub none : distance_at distances f ≡ None → HasNoCircle s stuck (participant_at s.list f)
+
+-- the next level is to be looked at: f has no distance yet, and some place is behind the level
+abbrev pub goes_on : List (Option ℕ) → ℕ → ℕ → Bool
+goes_on distances f d = not (is_some (distance_at distances f)) && any_below (λ u. is_behind distances f d u) (length distances)
+
+-- the places of the first circle of f, or none where it has no circle
+abbrev pub IsFoundCircle : TraceState → (ℕ → Bool) → ℕ → Option (Vec ℕ) → Type 0
+IsFoundCircle s stuck f None = HasNoCircle s stuck (participant_at s.list f)
+IsFoundCircle s stuck f (Some places) =
+    IsFirstCircle s stuck (participant_at s.list f) (map (participant_at s.list) places.items) × All (λ i. i < length s.list) places.items
