@@ -1,16 +1,14 @@
 -- A walk along distances is the first of the shortest circles, and where no distance is known there is none.
-use Rattle.std.proofs.Common.{◌≡◌, ℕ, zero, suc, ◌<◌, ◌≤◌, ◌==◌, Bool, true, false, ◌&&◌, Option, Some, None, List, [], ◌∷◌, length, map, refl, sym, ◌∙◌, ap, subst, inl, inr, ◌⊎◌, arith, eq-eqb}
-use Rattle.std.specs.Prelude.{Contains, not}
-use Rattle.std.proofs.lemmas.Bool.{and_from, and_parts, cases_lt, eqb-true, or_cases, true≢false}
-use Rattle.std.proofs.lemmas.List.{get_or_read, length-map}
+use Rattle.std.proofs.Common.{◌≡◌, ℕ, zero, suc, ◌<◌, Bool, true, Option, Some, None, List, [], ◌∷◌, length, map, refl, sym, ◌∙◌, ap, subst, inl, inr, ◌⊎◌, arith, eq-eqb}
+use Rattle.std.proofs.lemmas.Bool.{and_from, and_parts, cases_lt, eqb-true, true≢false}
+use Rattle.std.proofs.lemmas.List.{get_or_read}
 use Rattle.std.proofs.lemmas.List.Elements.{Contains-get_or}
 use Rattle.monitor_laws.specs.States.{Participant, TraceState, new_participant}
-use Rattle.monitor_words.specs.Reasons.{HasNoCircle}
 use Rattle.monitor_words.specs.Stops.{ComesFirst, IsChain, IsFirstCircle, stops}
-use Rattle.monitor_words.proofs.Circles.{chain_leads, circle_lt, first_by_length, leads}
+use Rattle.monitor_words.proofs.Circles.{chain_leads, first_by_length}
 use Rattle.monitor_state.specs.NumberedLists.{AreAscending}
 use Rattle.monitor_reasons.specs.Found.{participant_at}
-use Rattle.monitor_reasons.specs.inside.Distances.{AreDistances, IsDistance, IsNextPlace, IsWalk, any_below, distance_at, is_before, is_behind, is_distance, is_next, leads_at, stops_at}
+use Rattle.monitor_reasons.specs.inside.Distances.{AreDistances, IsChainDistance, IsFirstNext, IsCircleWalk, distance_at, is_distance, is_next, leads_at, stops_at}
 use Rattle.monitor_reasons.specs.inside.Listings.{listing}
 use Rattle.monitor_reasons.proofs.Levels.{exact, leads_less}
 
@@ -28,12 +26,12 @@ distance_is (Some m) n is = ap (λ (k : ℕ). Some k) (eqb-true m n is)
 
 -- in the state that has the list
 pub next_listed : (s : TraceState) (stuck : ℕ → Bool) (distances : List (Option ℕ)) (n t u : ℕ) (us : List Participant) → us ≡ s.list →
-    IsNextPlace (listing us) stuck distances n t u → IsNextPlace s stuck distances n t u
-next_listed s stuck distances n t u us same next = let m = subst (λ l. IsNextPlace (listing l) stuck distances n t u) same next in record { within = m.within; goes = m.goes; first = m.first }
+    IsFirstNext (listing us) stuck distances n t u → IsFirstNext s stuck distances n t u
+next_listed s stuck distances n t u us same next = let m = subst (λ l. IsFirstNext (listing l) stuck distances n t u) same next in record { within = m.within; goes = m.goes; first = m.first }
 
 module _ (s : TraceState) (stuck : ℕ → Bool) (f d : ℕ) (distances : List (Option ℕ)) (known : AreDistances s stuck f d distances) where
-  known_as : (t n : ℕ) → t < length s.list → distance_at distances t ≡ Some n → IsDistance s stuck f d t (Some n)
-  known_as t n within is = subst (λ o. IsDistance s stuck f d t o) is (known.each t within)
+  known_as : (t n : ℕ) → t < length s.list → distance_at distances t ≡ Some n → IsChainDistance s stuck f d t (Some n)
+  known_as t n within is = subst (λ o. IsChainDistance s stuck f d t o) is (known.each t within)
 
   -- who stops t and leads to f by a chain that is shorter by one is one to go to
   is_next_from : (n t u : ℕ) → t < length s.list → distance_at distances t ≡ Some (suc n) → u < length s.list → stops_at s stuck u t ≡ true → leads_at s stuck f n u ≡ true →
@@ -60,20 +58,20 @@ module _ (s : TraceState) (stuck : ℕ → Bool) (f d : ℕ) (distances : List (
         × (length (map (participant_at s.list) places) ≡ n)
         × ((more : List Participant) → IsChain s stuck (participant_at s.list f) (participant_at s.list t) more → length more ≡ n → ComesFirst (map (participant_at s.list) places) more)
 
-    walk_is_first : (n t : ℕ) (places : List ℕ) → t < length s.list → distance_at distances t ≡ Some n → IsWalk s stuck distances n t places → IsFirstChain n t places
+    walk_is_first : (n t : ℕ) (places : List ℕ) → t < length s.list → distance_at distances t ≡ Some n → IsCircleWalk s stuck distances n t places → IsFirstChain n t places
     walk_is_first zero t [] within is walk = ((known_as t 0 within is).1, refl, λ more chain e. tt)
     walk_is_first zero t (u ∷ places) within is walk = absurd walk
     walk_is_first (suc n) t [] within is walk = absurd walk
     walk_is_first (suc n) t (u ∷ places) within is walk = joined walk.0 (walk_is_first n u places walk.0.within (next_is n t u walk.0.goes) walk.1)
       where
-        goes_first : IsNextPlace s stuck distances n t u → IsFirstChain n u places → (v : ℕ) → v < length s.list → stops_at s stuck v t ≡ true →
+        goes_first : IsFirstNext s stuck distances n t u → IsFirstChain n u places → (v : ℕ) → v < length s.list → stops_at s stuck v t ≡ true →
             (others : List Participant) → IsChain s stuck (participant_at s.list f) (participant_at s.list v) others → length others ≡ n →
             ((participant_at s.list u).number < (participant_at s.list v).number) ⊎ (((participant_at s.list u).number ≡ (participant_at s.list v).number) × ComesFirst (map (participant_at s.list) places) others)
         goes_first next rest v listed goes others chain long =
             let leads_on = subst (λ k. leads_at s stuck f k v ≡ true) long (chain_leads s stuck (participant_at s.list f) (participant_at s.list v) others chain) in
-            let goes_on = is_next_from n t v within is listed goes leads_on in
+            let next_passes = is_next_from n t v within is listed goes leads_on in
             elim (cases_lt v u) [
-              | inl before ↦ absurd (true≢false (sym goes_on ∙ next.first v before))
+              | inl before ↦ absurd (true≢false (sym next_passes ∙ next.first v before))
               | inr not_before ↦ elim (cases_lt u v) [
                 | inl behind ↦ inl (ascend_at s.list up u v behind listed)
                 | inr not_behind ↦
@@ -82,7 +80,7 @@ module _ (s : TraceState) (stuck : ℕ → Bool) (f d : ℕ) (distances : List (
               ]
             ]
 
-        joined : IsNextPlace s stuck distances n t u → IsFirstChain n u places → IsFirstChain (suc n) t (u ∷ places)
+        joined : IsFirstNext s stuck distances n t u → IsFirstChain n u places → IsFirstChain (suc n) t (u ∷ places)
         joined next rest = (
           (
             Contains-get_or s.list u (new_participant 0 []) next.within,
@@ -103,7 +101,7 @@ module _ (s : TraceState) (stuck : ℕ → Bool) (f d : ℕ) (distances : List (
                 (goes_first next rest v chain.0.1 (subst (λ y. stops s stuck y (participant_at s.list t) ≡ true) is_v chain.1) others
                 (subst (λ y. IsChain s stuck (participant_at s.list f) y others) is_v chain.2) (omega arith))
 
-    pub walk_is_first_circle : (n : ℕ) (places : List ℕ) → f < length s.list → distance_at distances f ≡ Some n → IsWalk s stuck distances n f places →
+    pub walk_is_first_circle : (n : ℕ) (places : List ℕ) → f < length s.list → distance_at distances f ≡ Some n → IsCircleWalk s stuck distances n f places →
         IsFirstCircle s stuck (participant_at s.list f) (map (participant_at s.list) places)
     walk_is_first_circle n places listed is walk =
         let far = known_as f n listed is in

@@ -1,15 +1,15 @@
 -- Distances level by level.
-use Rattle.std.proofs.Common.{◌≡◌, ℕ, zero, suc, ◌<◌, ◌≤◌, ◌+◌, ◌-◌, ◌==◌, Bool, true, false, ◌&&◌, ◌||◌, Option, Some, None, List, [], ◌∷◌, length, refl, sym, ◌∙◌, ap, subst, inl, inr, ◌⊎◌, arith, add-one}
+use Rattle.std.proofs.Common.{◌≡◌, ℕ, zero, suc, ◌<◌, ◌+◌, ◌-◌, ◌==◌, Bool, true, false, ◌&&◌, ◌||◌, Option, Some, None, List, [], length, refl, sym, ◌∙◌, ap, subst, inl, inr, arith, add-one}
 use Rattle.std.specs.Prelude.{nat_lt}
 use Rattle.std.proofs.lemmas.Bool.{and_from, and_parts, cases_Bool, cases_lt, eqb-true, lt-ltb, ltb-true, or_cases, true≢false}
 use Rattle.std.proofs.Common.{eq-eqb}
 use Rattle.std.proofs.lemmas.List.Folds.{list_any_at}
-use Rattle.monitor_laws.specs.States.{Participant, TraceState, new_participant}
+use Rattle.monitor_laws.specs.States.{TraceState, new_participant}
 use Rattle.monitor_words.specs.Stops.{stops}
 use Rattle.monitor_words.proofs.Circles.{leads}
 use Rattle.monitor_state.proofs.OnePassing.{first_place}
 use Rattle.monitor_reasons.specs.Found.{participant_at}
-use Rattle.monitor_reasons.specs.inside.Distances.{AreDistances, AreFilled, IsDistance, any_below, distance_at, filled, is_before, is_behind, leads_at, stops_at}
+use Rattle.monitor_reasons.specs.inside.Distances.{AreDistances, AreFilled, IsChainDistance, any_below, distance_at, filled, is_before, is_behind, leads_at, stops_at}
 
 -- ---- tests
 
@@ -84,7 +84,7 @@ module _ (s : TraceState) (stuck : ℕ → Bool) (f : ℕ) where
       (m.0, m.1.within, parts.0, parts.1)
 
   -- who stops t and leads on has the distance before that of t
-  pub exact : (d n u t : ℕ) (o : Option ℕ) → IsDistance s stuck f d u o → u < length s.list → n < d → leads_at s stuck f n u ≡ true → stops_at s stuck u t ≡ true →
+  pub exact : (d n u t : ℕ) (o : Option ℕ) → IsChainDistance s stuck f d u o → u < length s.list → n < d → leads_at s stuck f n u ≡ true → stops_at s stuck u t ≡ true →
       ((j : ℕ) → j < suc n → leads_at s stuck f j t ≡ false) → o ≡ Some n
   exact d n u t None far within lt leads_on goes none = absurd (true≢false (sym leads_on ∙ far n lt))
   exact d n u t (Some e) far within lt leads_on goes none = elim (cases_lt e n) [
@@ -95,8 +95,8 @@ module _ (s : TraceState) (stuck : ℕ → Bool) (f : ℕ) where
     ]
   ]
 
-  after_level : (d t : ℕ) (o : Option ℕ) (passes : Bool) → IsDistance s stuck f d t o → (passes ≡ true → leads_at s stuck f d t ≡ true) →
-      (o ≡ None → passes ≡ false → leads_at s stuck f d t ≡ false) → IsDistance s stuck f (suc d) t (filled o passes d)
+  after_level : (d t : ℕ) (o : Option ℕ) (passes : Bool) → IsChainDistance s stuck f d t o → (passes ≡ true → leads_at s stuck f d t ≡ true) →
+      (o ≡ None → passes ≡ false → leads_at s stuck f d t ≡ false) → IsChainDistance s stuck f (suc d) t (filled o passes d)
   after_level d t None true far on off = (omega arith, on refl, far)
   after_level d t None false far on off = λ j lt. elim (cases_lt j d) [
     | inl less ↦ far j less
@@ -116,7 +116,7 @@ module _ (s : TraceState) (stuck : ℕ → Bool) (f : ℕ) where
     behind_leads (suc d) t u known within is goes = elim (or_cases ((u == f) && (suc d == 0)) (is_before (distance_at distances u) (suc d)) is) [
       | inl here ↦ absurd (let e = eqb-true (suc d) 0 (and_parts (u == f) (suc d == 0) here).1 in omega arith)
       | inr there ↦
-          (let far = subst (λ o. IsDistance s stuck f (suc d) u o) (before_is (distance_at distances u) d there) (known.each u within) in
+          (let far = subst (λ o. IsChainDistance s stuck f (suc d) u o) (before_is (distance_at distances u) d there) (known.each u within) in
           leads_more d u t within goes far.1)
     ]
 
@@ -125,7 +125,7 @@ module _ (s : TraceState) (stuck : ℕ → Bool) (f : ℕ) where
     none_behind zero t known listed within unknown none leads_on = none f listed (or_left ((f == f) && (0 == 0)) (is_before (distance_at distances f) 0) (and_from (f == f) (0 == 0) (eq-eqb f f refl) refl)) leads_on
     none_behind (suc d) t known listed within unknown none leads_on =
         let m = leads_less d t leads_on in
-        let far = subst (λ o. IsDistance s stuck f (suc d) t o) unknown (known.each t within) in
+        let far = subst (λ o. IsChainDistance s stuck f (suc d) t o) unknown (known.each t within) in
         let e = exact (suc d) d m.0 t (distance_at distances m.0) (known.each m.0 m.1) m.1 (omega arith) m.3 m.2 far in
         none m.0 m.1 (or_right ((m.0 == f) && (suc d == 0)) (is_before (distance_at distances m.0) (suc d)) (ap (λ o. is_before o (suc d)) e ∙ before_from d)) m.2
 
@@ -134,11 +134,11 @@ module _ (s : TraceState) (stuck : ℕ → Bool) (f : ℕ) where
         AreFilled distances new d (λ t. any_below (λ u. is_behind distances f d u && stops_at s stuck u t) (length s.list)) → AreDistances s stuck f (suc d) new
     level_known d new listed known fills = record { long = fills.long ∙ known.long; each = λ t within. at_place t within }
       where
-        at_place : (t : ℕ) → t < length s.list → IsDistance s stuck f (suc d) t (distance_at new t)
+        at_place : (t : ℕ) → t < length s.list → IsChainDistance s stuck f (suc d) t (distance_at new t)
         at_place t within =
             let p : ℕ → Bool = λ u. is_behind distances f d u && stops_at s stuck u t in
             let shorter : t < length distances = (let e = known.long in omega arith) in
-            subst (λ o. IsDistance s stuck f (suc d) t o) (sym (fills.each t shorter))
+            subst (λ o. IsChainDistance s stuck f (suc d) t o) (sym (fills.each t shorter))
             (after_level d t (distance_at distances t) (any_below p (length s.list)) (known.each t within)
             (λ some.
             let m = any_below_is p (length s.list) some in
@@ -154,18 +154,18 @@ module _ (s : TraceState) (stuck : ℕ → Bool) (f : ℕ) where
     pub known_if_leads : (d : ℕ) → AreDistances s stuck f (suc d) distances → ((u : ℕ) → u < length s.list → is_before (distance_at distances u) (suc d) ≡ false) →
         (j t : ℕ) → t < length s.list → leads_at s stuck f j t ≡ true → distance_at distances t ≡ None → ⊥
     known_if_leads d known none zero t within leads_on unknown =
-        let far = subst (λ o. IsDistance s stuck f (suc d) t o) unknown (known.each t within) in
+        let far = subst (λ o. IsChainDistance s stuck f (suc d) t o) unknown (known.each t within) in
         true≢false (sym leads_on ∙ far 0 (omega arith))
     known_if_leads d known none (suc j) t within leads_on unknown =
         let m = leads_less j t leads_on in
-        let far = subst (λ o. IsDistance s stuck f (suc d) t o) unknown (known.each t within) in
+        let far = subst (λ o. IsChainDistance s stuck f (suc d) t o) unknown (known.each t within) in
         by_case m.0 m.1 m.2 far (known_if_leads d known none j m.0 m.1 m.3) (distance_at distances m.0) refl
       where
         by_case : (u : ℕ) → u < length s.list → stops_at s stuck u t ≡ true → ((i : ℕ) → i < suc d → leads_at s stuck f i t ≡ false) →
             (distance_at distances u ≡ None → ⊥) → (o : Option ℕ) → distance_at distances u ≡ o → ⊥
         by_case u lt goes far some None is = some is
         by_case u lt goes far some (Some n) is =
-            let near = subst (λ o. IsDistance s stuck f (suc d) u o) is (known.each u lt) in
+            let near = subst (λ o. IsChainDistance s stuck f (suc d) u o) is (known.each u lt) in
             elim (cases_lt n d) [
               | inl less ↦ true≢false (sym (leads_more n u t lt goes near.1) ∙ far (suc n) (omega arith))
               | inr not_less ↦

@@ -1,6 +1,6 @@
 -- The task of a wildcard whose last line has one name.
-use Rattle.std.proofs.Common.{◌≡◌, ℕ, ◌<◌, ◌+◌, ◌||◌, ◌==◌, Bool, true, false, List, [], ◌∷◌, length, refl, sym, ◌∙◌, ap, inl, inr, ◌⊎◌, arith}
-use Rattle.std.specs.Prelude.{All, count_by, not, slice_index_or}
+use Rattle.std.proofs.Common.{◌≡◌, ℕ, ◌<◌, ◌||◌, ◌==◌, Bool, true, false, List, [], ◌∷◌, length, refl, sym, ◌∙◌, ap, inl, inr, ◌⊎◌, arith}
+use Rattle.std.specs.Prelude.{count_by, not}
 use Rattle.std.specs.List.{list_any, onto_first, slice_split}
 use Rattle.std.proofs.lemmas.Bool.{cases_Bool, or_parts, true≢false}
 use Rattle.std.proofs.lemmas.List.Splits.{length-slice_split, slice_split-cons_no, slice_split-cons_yes}

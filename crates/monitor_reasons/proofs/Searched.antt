@@ -1,13 +1,13 @@
 -- Levels are filled place by place, until no circle can be missed.
-use Rattle.std.proofs.Common.{◌≡◌, ℕ, zero, suc, ◌<◌, ◌+◌, ◌==◌, Bool, true, false, ◌&&◌, ◌||◌, Option, Some, None, List, [], length, refl, sym, ◌∙◌, ap, subst, inl, inr, arith, eq-eqb}
+use Rattle.std.proofs.Common.{◌≡◌, ℕ, zero, suc, ◌<◌, ◌+◌, ◌==◌, Bool, false, ◌&&◌, ◌||◌, Option, None, List, [], length, refl, sym, ◌∙◌, ap, subst, inl, inr, arith, eq-eqb}
 use Rattle.std.specs.Prelude.{is_some, not}
 use Rattle.std.proofs.lemmas.Bool.{and_from, cases_Bool, true≢false}
 use Rattle.std.proofs.lemmas.List.Elements.{Contains-get_or}
-use Rattle.monitor_laws.specs.States.{Participant, TraceState, new_participant}
+use Rattle.monitor_laws.specs.States.{TraceState, new_participant}
 use Rattle.monitor_words.specs.Reasons.{HasNoCircle}
 use Rattle.monitor_words.proofs.Circles.{chain_leads, circle_lt}
 use Rattle.monitor_reasons.specs.Found.{participant_at}
-use Rattle.monitor_reasons.specs.inside.Distances.{AreDistances, AreFilled, AreSearched, IsDistance, any_below, distance_at, filled, goes_on, is_before, is_behind, leads_at}
+use Rattle.monitor_reasons.specs.inside.Distances.{AreDistances, AreFilled, AreSearched, IsChainDistance, any_below, distance_at, needs_level, is_before, is_behind, leads_at}
 use Rattle.monitor_reasons.proofs.Fills.{fills_more}
 use Rattle.monitor_reasons.proofs.Levels.{any_below_from, any_below_more, before_filled, known_if_leads, or_left, or_right}
 
@@ -27,7 +27,7 @@ level_more old mid new f d u p lt before here =
 module _ (s : TraceState) (stuck : ℕ → Bool) (f : ℕ) (distances : List (Option ℕ)) (listed : f < length s.list) where
   -- a circle is no longer than the list
   pub searched_all : AreDistances s stuck f (length s.list) distances → AreSearched s stuck f distances
-  searched_all known = record { bound = length s.list; known = known; none = λ unknown. no_circle (subst (λ o. IsDistance s stuck f (length s.list) f o) unknown (known.each f listed)) }
+  searched_all known = record { bound = length s.list; known = known; none = λ unknown. no_circle (subst (λ o. IsChainDistance s stuck f (length s.list) f o) unknown (known.each f listed)) }
     where
       no_circle : ((j : ℕ) → j < length s.list → leads_at s stuck f j f ≡ false) → HasNoCircle s stuck (participant_at s.list f)
       no_circle far others circle =
@@ -48,7 +48,7 @@ module _ (s : TraceState) (stuck : ℕ → Bool) (f : ℕ) (distances : List (Op
       ])
       (length others) f listed (chain_leads s stuck (participant_at s.list f) (participant_at s.list f) others circle.0) unknown
 
-  pub searched_stop : (d : ℕ) → AreDistances s stuck f d distances → goes_on distances f d ≡ false → AreSearched s stuck f distances
+  pub searched_stop : (d : ℕ) → AreDistances s stuck f d distances → needs_level distances f d ≡ false → AreSearched s stuck f distances
   searched_stop d known stops = record {
     bound = d;
     known = known;

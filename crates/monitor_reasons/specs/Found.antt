@@ -17,12 +17,12 @@ reason_value us (found.StuckStops i) = StuckStops (participant_at us i)
 reason_value us found.SomebodyMissing = SomebodyMissing
 
 -- its places
-abbrev pub places_of : FoundReason → List ℕ
-places_of (found.InCircle places) = places.items
-places_of (found.EndedKeeps i) = i ∷ []
-places_of (found.StuckStops i) = i ∷ []
-places_of found.SomebodyMissing = []
+abbrev pub found_places : FoundReason → List ℕ
+found_places (found.InCircle places) = places.items
+found_places (found.EndedKeeps i) = i ∷ []
+found_places (found.StuckStops i) = i ∷ []
+found_places found.SomebodyMissing = []
 
 -- its places are within the list
-abbrev pub ArePlaces : List Participant → FoundReason → Type 0
-ArePlaces us f = All (λ i. i < length us) (places_of f)
+abbrev pub ArePlacesOfList : List Participant → FoundReason → Type 0
+ArePlacesOfList us f = All (λ i. i < length us) (found_places f)

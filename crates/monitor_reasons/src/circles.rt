@@ -5,7 +5,7 @@ ghost use Rattle.monitor_words.specs.Stops.{IsFirstCircle};
 ghost use Rattle.monitor_search.specs.Known.{has_stuck_number};
 ghost use Rattle.monitor_reasons.specs.Found.{participant_at};
 ghost use Rattle.monitor_reasons.specs.inside.Listings.{listing};
-ghost use Rattle.monitor_reasons.specs.inside.Distances.{AreSearched, IsFoundCircle, IsNextPlace, IsWalk, distance_at, is_distance, is_next};
+ghost use Rattle.monitor_reasons.specs.inside.Distances.{AreSearched, IsFoundCircle, IsFirstNext, IsCircleWalk, distance_at, is_distance, is_next};
 
 use crate::distances::distances_to;
 use crate::stopping::stops;
@@ -51,7 +51,7 @@ fn next_place(
 ) -> Option<usize>
     requires long { length distances.now ≡ length list.now }
     requires from { t < length list.now }
-    ensures at { IfSome result (IsNextPlace (listing list.now) (has_stuck_number stuck.now) distances.now n t) }
+    ensures at { IfSome result (IsFirstNext (listing list.now) (has_stuck_number stuck.now) distances.now n t) }
     ensures none { IfNone result ((u : ℕ) → u < length list.now → is_next (listing list.now) (has_stuck_number stuck.now) distances.now n t u ≡ false) }
 {
     for u in 0..list.len() {

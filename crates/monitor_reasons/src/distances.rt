@@ -5,7 +5,7 @@ ghost use Rattle.monitor_words.specs.Stops.{keeps_waiting, stands_for};
 ghost use Rattle.monitor_search.specs.Known.{has_stuck_number};
 ghost use Rattle.monitor_reasons.specs.Found.{participant_at};
 ghost use Rattle.monitor_reasons.specs.inside.Listings.{listing};
-ghost use Rattle.monitor_reasons.specs.inside.Distances.{AreFilled, AreSearched, any_below, filled, goes_on, is_before, is_behind, stops_at};
+ghost use Rattle.monitor_reasons.specs.inside.Distances.{AreFilled, AreSearched, any_below, filled, needs_level, is_before, is_behind, stops_at};
 
 use crate::stopping::{keeps_waiting, stands_for};
 use armus_base::NoMemory;
@@ -124,9 +124,9 @@ fn is_any_behind(distances: &[Option<usize>], task: usize, d: usize) -> bool
 }
 
 // Whether the level is to be looked at.
-fn goes_on(distances: &[Option<usize>], task: usize, d: usize) -> bool
+fn needs_level(distances: &[Option<usize>], task: usize, d: usize) -> bool
     requires { task < length distances.now }
-    ensures { result ≡ goes_on distances.now task d }
+    ensures { result ≡ needs_level distances.now task d }
 {
     distances[task].is_none() && is_any_behind(distances, task, d)
 }
@@ -155,7 +155,7 @@ pub(crate) fn distances_to(
     let count = state.participants().len();
     let mut distances = none_known(alloc, count)?;
     for d in 0..count {
-        if !goes_on(&distances, task, d) {
+        if !needs_level(&distances, task, d) {
             return Ok(distances);
         }
         fill_level(state, stuck, task, d, &mut distances);

@@ -7,7 +7,7 @@ ghost use Rattle.monitor_words.specs.Stops.{stops};
 ghost use Rattle.monitor_state.specs.Values.{condition_value};
 ghost use Rattle.monitor_state.specs.inside.FirstPlaces.{IsFirstAt};
 ghost use Rattle.monitor_search.specs.Known.{has_stuck_number};
-ghost use Rattle.monitor_reasons.specs.Found.{ArePlaces, participant_at, reason_value};
+ghost use Rattle.monitor_reasons.specs.Found.{ArePlacesOfList, participant_at, reason_value};
 ghost use Rattle.monitor_reasons.specs.inside.Listings.{listing};
 
 use crate::FoundReason;
@@ -46,11 +46,7 @@ fn ended_keeper(list: &[ListedParticipant], f: &ListedParticipant) -> Option<usi
 }
 
 // Where the first task that stops f stands.
-fn stopper(
-    list: &[ListedParticipant],
-    stuck: &StuckTasks,
-    f: &ListedParticipant,
-) -> Option<usize>
+fn stopper(list: &[ListedParticipant], stuck: &StuckTasks, f: &ListedParticipant) -> Option<usize>
     ensures at { IfSome result (IsFirstAt (λ v. stops (listing list.now) (has_stuck_number stuck.now) v f.now) list.now) }
     ensures none { IfNone result (list_any (λ v. stops (listing list.now) (has_stuck_number stuck.now) v f.now) list.now ≡ false) }
 {
@@ -69,7 +65,7 @@ fn reason_without_circle(
     f: &ListedParticipant,
 ) -> FoundReason
     ensures reason { (s : TraceState) → s.list ≡ list.now → HasNoCircle s (has_stuck_number stuck.now) f.now → IsStuckBecause s (has_stuck_number stuck.now) f.now (reason_value s.list result) }
-    ensures places { ArePlaces list.now result }
+    ensures places { ArePlacesOfList list.now result }
 {
     match ended_keeper(list, f) {
         Some(at) => FoundReason::EndedKeeps(at),
@@ -89,7 +85,7 @@ pub fn reason_of(
 ) -> Result<FoundReason, NoMemory>
     requires { task < length state.now.list }
     ensures reason { IfOk result (λ found. IsStuckBecause state.now (has_stuck_number stuck.now) (participant_at state.now.list task) (reason_value state.now.list found)) }
-    ensures places { IfOk result (λ found. ArePlaces state.now.list found) }
+    ensures places { IfOk result (λ found. ArePlacesOfList state.now.list found) }
 {
     match circle_of(alloc, state, stuck, task)? {
         Some(places) => Ok(FoundReason::InCircle(places)),

@@ -5,7 +5,7 @@ ghost use Rattle.monitor_words.specs.Words.{waited_event};
 ghost use Rattle.monitor_words.specs.calls.Values.{placed_task, reason_shown, sentence_shown, shown_circle};
 ghost use Rattle.monitor_words.specs.Stops.{waited_for};
 ghost use Rattle.monitor_state.specs.Values.{condition_value};
-ghost use Rattle.monitor_reasons.specs.Found.{ArePlaces, participant_at, reason_value};
+ghost use Rattle.monitor_reasons.specs.Found.{ArePlacesOfList, participant_at, reason_value};
 ghost use Rattle.monitor_reasons.specs.inside.Listings.{missing_at, shown_places};
 
 use crate::FoundReason;
@@ -103,7 +103,7 @@ fn reason_shown(
     f: &ListedParticipant,
     found: &FoundReason,
 ) -> Result<StuckReason, NoMemory>
-    requires { ArePlaces list.now found.now }
+    requires { ArePlacesOfList list.now found.now }
     ensures { IfOk result (λ r. r ≡ reason_shown f.now (reason_value list.now found.now)) }
 {
     match found {
@@ -128,7 +128,7 @@ pub fn sentence_of(
     found: &FoundReason,
 ) -> Result<StuckSentence, NoMemory>
     requires task { task < length state.now.list }
-    requires places { ArePlaces state.now.list found.now }
+    requires places { ArePlacesOfList state.now.list found.now }
     ensures { IfOk result (λ s. s ≡ sentence_shown (participant_at state.now.list task) (reason_value state.now.list found.now)) }
 {
     let list = state.participants();

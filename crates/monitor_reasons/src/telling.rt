@@ -3,7 +3,7 @@ ghost use Rattle.std.specs.Prelude.{◌≡◌, All, ◌<◌, length, map};
 ghost use Rattle.std.specs.List.{list_any};
 ghost use Rattle.monitor_words.specs.Messages.{others_told};
 ghost use Rattle.monitor_search.specs.Known.{has_stuck_number};
-ghost use Rattle.monitor_reasons.specs.Found.{ArePlaces, participant_at, reason_value};
+ghost use Rattle.monitor_reasons.specs.Found.{ArePlacesOfList, participant_at, reason_value};
 
 use crate::FoundReason;
 use monitor_search::StuckTasks;
@@ -24,7 +24,7 @@ fn is_any_old(list: &[ListedParticipant], was: &StuckTasks, places: &[usize]) ->
 
 /// Whether another of the circle, or the stuck task that the reason names, was stuck before.
 pub fn tells_old(state: &MonitorState, was: &StuckTasks, found: &FoundReason) -> bool
-    requires { ArePlaces state.now.list found.now }
+    requires { ArePlacesOfList state.now.list found.now }
     ensures { result ≡ list_any (λ u. has_stuck_number was.now u.number) (others_told (reason_value state.now.list found.now)) }
 {
     let list = state.participants();

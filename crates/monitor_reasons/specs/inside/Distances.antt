@@ -20,14 +20,14 @@ abbrev pub distance_at : List (Option ℕ) → ℕ → Option ℕ
 distance_at distances t = slice_index_or distances t None
 
 -- of the distances below d: none is known where t has none of these
-abbrev pub IsDistance : TraceState → (ℕ → Bool) → ℕ → ℕ → ℕ → Option ℕ → Type 0
-IsDistance s stuck f d t None = (j : ℕ) → j < d → leads_at s stuck f j t ≡ false
-IsDistance s stuck f d t (Some n) = (n < d) × (leads_at s stuck f n t ≡ true) × ((j : ℕ) → j < n → leads_at s stuck f j t ≡ false)
+abbrev pub IsChainDistance : TraceState → (ℕ → Bool) → ℕ → ℕ → ℕ → Option ℕ → Type 0
+IsChainDistance s stuck f d t None = (j : ℕ) → j < d → leads_at s stuck f j t ≡ false
+IsChainDistance s stuck f d t (Some n) = (n < d) × (leads_at s stuck f n t ≡ true) × ((j : ℕ) → j < n → leads_at s stuck f j t ≡ false)
 
 -- each place has its distance, where that is below d
 pub record AreDistances (s : TraceState) (stuck : ℕ → Bool) (f d : ℕ) (distances : List (Option ℕ)) : Type 0 where
   pub long : length distances ≡ length s.list
-  pub each : (t : ℕ) → t < length s.list → IsDistance s stuck f d t (distance_at distances t)
+  pub each : (t : ℕ) → t < length s.list → IsChainDistance s stuck f d t (distance_at distances t)
 
 -- the distance d where none is known and the test passes
 abbrev pub filled : Option ℕ → Bool → ℕ → Option ℕ
@@ -63,17 +63,17 @@ abbrev pub is_next : TraceState → (ℕ → Bool) → List (Option ℕ) → ℕ
 is_next s stuck distances n t u = is_distance (distance_at distances u) n && stops_at s stuck u t
 
 -- the first place that does
-pub record IsNextPlace (s : TraceState) (stuck : ℕ → Bool) (distances : List (Option ℕ)) (n t u : ℕ) : Type 0 where
+pub record IsFirstNext (s : TraceState) (stuck : ℕ → Bool) (distances : List (Option ℕ)) (n t u : ℕ) : Type 0 where
   pub within : u < length s.list
   pub goes : is_next s stuck distances n t u ≡ true
   pub first : (k : ℕ) → k < u → is_next s stuck distances n t k ≡ false
 
 -- from t on each place is the first from which it goes on, and behind the last the distance is 0
-abbrev pub IsWalk : TraceState → (ℕ → Bool) → List (Option ℕ) → ℕ → ℕ → List ℕ → Type 0
-IsWalk s stuck distances zero t [] = Unit {0}
-IsWalk s stuck distances zero t (u ∷ us) = ⊥
-IsWalk s stuck distances (suc n) t [] = ⊥
-IsWalk s stuck distances (suc n) t (u ∷ us) = IsNextPlace s stuck distances n t u × IsWalk s stuck distances n u us
+abbrev pub IsCircleWalk : TraceState → (ℕ → Bool) → List (Option ℕ) → ℕ → ℕ → List ℕ → Type 0
+IsCircleWalk s stuck distances zero t [] = Unit {0}
+IsCircleWalk s stuck distances zero t (u ∷ us) = ⊥
+IsCircleWalk s stuck distances (suc n) t [] = ⊥
+IsCircleWalk s stuck distances (suc n) t (u ∷ us) = IsFirstNext s stuck distances n t u × IsCircleWalk s stuck distances n u us
 
 -- distances are known as far as a circle of f needs them
 pub record AreSearched (s : TraceState) (stuck : ℕ → Bool) (f : ℕ) (distances : List (Option ℕ)) : Type 0 where
@@ -82,8 +82,8 @@ pub record AreSearched (s : TraceState) (stuck : ℕ → Bool) (f : ℕ) (distan
   pub none : distance_at distances f ≡ None → HasNoCircle s stuck (participant_at s.list f)
 
 -- the next level is to be looked at: f has no distance yet, and some place is behind the level
-abbrev pub goes_on : List (Option ℕ) → ℕ → ℕ → Bool
-goes_on distances f d = not (is_some (distance_at distances f)) && any_below (λ u. is_behind distances f d u) (length distances)
+abbrev pub needs_level : List (Option ℕ) → ℕ → ℕ → Bool
+needs_level distances f d = not (is_some (distance_at distances f)) && any_below (λ u. is_behind distances f d u) (length distances)
 
 -- the places of the first circle of f, or none where it has no circle
 abbrev pub IsFoundCircle : TraceState → (ℕ → Bool) → ℕ → Option (Vec ℕ) → Type 0

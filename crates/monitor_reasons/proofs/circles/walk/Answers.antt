@@ -5,7 +5,7 @@ use Rattle.std.proofs.lemmas.List.{append-nil}
 use Rattle.std.proofs.lemmas.List.Elements.{All-push}
 use Rattle.monitor_laws.specs.States.{Participant}
 use Rattle.monitor_search.specs.Known.{has_stuck_number}
-use Rattle.monitor_reasons.specs.inside.Distances.{IsWalk, distance_at, is_next}
+use Rattle.monitor_reasons.specs.inside.Distances.{IsCircleWalk, is_next}
 use Rattle.monitor_reasons.specs.inside.Listings.{listing}
 use Rattle.monitor_reasons.proofs.FirstWalks.{has_next, next_is, next_listed, walk_is_first_circle}
 use Rattle.monitor_reasons.proofs.circles.walk.Goals as goal
@@ -37,10 +37,10 @@ loop-left-preserved c =
       next.within,
       next_is s stuck c.args.task c.requires.searched.bound distances c.requires.searched.known (left - 1) c.loop-left.last c.in-Some.next next.goes,
       λ behind walk.
-          subst (λ (l : List ℕ). IsWalk s stuck distances c.args.distance c.args.task l)
+          subst (λ (l : List ℕ). IsCircleWalk s stuck distances c.args.distance c.args.task l)
           (sym (append_assoc c.loop-left.places.items (c.in-Some.next ∷ []) behind) ∙ ap (λ (l : List ℕ). l ++ behind) (sym pushed))
           (c.loop-left.invariant.2 (c.in-Some.next ∷ behind)
-          (subst (λ k. IsWalk s stuck distances k c.loop-left.last (c.in-Some.next ∷ behind)) more (next, walk))),
+          (subst (λ k. IsCircleWalk s stuck distances k c.loop-left.last (c.in-Some.next ∷ behind)) more (next, walk))),
       subst (λ (l : List ℕ). All (λ i. i < length s.list) l) (sym pushed)
           (All-push (λ i. i < length s.list) c.loop-left.places.items c.in-Some.next c.loop-left.invariant.3 next.within),
     )
@@ -53,5 +53,5 @@ returns-clause-circle c =
     let done : 0 ≡ c.loop-left.left = omega (arith, c.loop-left-test.false) in
     walk_is_first_circle s stuck c.args.task c.requires.searched.bound distances c.requires.searched.known c.participants-list.ensures.ascending
     c.args.distance c.loop-left.places.items c.requires.place c.requires.distance
-    (subst (λ (l : List ℕ). IsWalk s stuck distances c.args.distance c.args.task l) (append-nil c.loop-left.places.items)
-    (c.loop-left.invariant.2 [] (subst (λ k. IsWalk s stuck distances k c.loop-left.last []) done tt)))
+    (subst (λ (l : List ℕ). IsCircleWalk s stuck distances c.args.distance c.args.task l) (append-nil c.loop-left.places.items)
+    (c.loop-left.invariant.2 [] (subst (λ k. IsCircleWalk s stuck distances k c.loop-left.last []) done tt)))

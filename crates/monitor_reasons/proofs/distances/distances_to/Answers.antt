@@ -1,15 +1,15 @@
 use Rattle.std.proofs.Common.{◌≡◌, ◌&&◌, ◌+◌, ℕ, Option, List, length, drop, sym, ◌∙◌, ap, subst, arith, add-one}
 use Rattle.std.proofs.lemmas.List.{take_at}
 use Rattle.monitor_search.specs.Known.{has_stuck_number}
-use Rattle.monitor_reasons.specs.inside.Distances.{AreDistances, AreFilled, any_below, goes_on, is_behind, stops_at}
+use Rattle.monitor_reasons.specs.inside.Distances.{AreDistances, AreFilled, any_below, needs_level, is_behind, stops_at}
 use Rattle.monitor_reasons.proofs.Levels.{level_known}
 use Rattle.monitor_reasons.proofs.Searched.{searched_all, searched_stop}
 use Rattle.monitor_reasons.proofs.distances.distances_to.Goals as goal
 
-pub returns-then-not-goes_on : goal.returns-then-not-goes_on
-returns-then-not-goes_on c =
+pub returns-then-not-needs_level : goal.returns-then-not-needs_level
+returns-then-not-needs_level c =
     searched_stop c.args.state.now (has_stuck_number c.args.stuck.now) c.args.task c.loop-d.distances.items c.requires c.loop-d.d c.loop-d.invariant
-    (ap (λ (l : List (Option ℕ)). goes_on l c.args.task c.loop-d.d) (sym c.deref.ensures.value) ∙ sym c.goes_on.ensures ∙ c.if-not-goes_on.true)
+    (ap (λ (l : List (Option ℕ)). needs_level l c.args.task c.loop-d.d) (sym c.deref.ensures.value) ∙ sym c.needs_level.ensures ∙ c.if-not-needs_level.true)
 
 pub loop-d-preserved : goal.loop-d-preserved
 loop-d-preserved c =

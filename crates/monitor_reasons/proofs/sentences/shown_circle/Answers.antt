@@ -1,7 +1,7 @@
-use Rattle.std.proofs.Common.{◌<◌, length, ℕ, ◌∙◌, ap, arith}
+use Rattle.std.proofs.Common.{◌<◌, length, ◌∙◌, ap}
 use Rattle.std.proofs.lemmas.List.Elements.{All-take}
 use Rattle.monitor_words.specs.declared.sentences.StuckReason.TheVariants.{InCircle}
-use Rattle.monitor_reasons.proofs.ShownCircles.{few_are_shown, many_are_shown}
+use Rattle.monitor_reasons.proofs.ShownCircles.{few_are_shown}
 use Rattle.monitor_reasons.proofs.sentences.shown_circle.Goals as goal
 
 pub returns-then-places-le7 : goal.returns-then-places-le7

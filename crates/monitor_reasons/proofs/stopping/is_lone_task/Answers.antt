@@ -1,6 +1,5 @@
 use Rattle.std.proofs.Common.{◌≡◌, ◌==◌, sym, ◌∙◌, ap, true, false, ℕ, List}
 use Rattle.std.specs.List.{list_any}
-use Rattle.monitor_laws.specs.States.{Condition}
 use Rattle.monitor_words.specs.Stops.{lone_task}
 use Rattle.monitor_state.specs.Values.{condition_value}
 use Rattle.monitor_reasons.specs.inside.Listings.{is_one_word}
