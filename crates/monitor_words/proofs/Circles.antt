@@ -72,40 +72,17 @@ least_below p (suc n) = elim (least_below p n) [
   ]
 ]
 
-module _ (s : TraceState) (stuck : ℕ → Bool) (f : Participant) (lawful : IsLawfulState s) (up : Ascends s.list) where
+module _ (s : TraceState) (stuck : ℕ → Bool) (f : Participant) where
   -- a chain of this length from t to f
-  abbrev leads : ℕ → Participant → Bool
+  abbrev pub leads : ℕ → Participant → Bool
   leads zero t = stops s stuck f t
   leads (suc n) t = list_any (λ u. stops s stuck u t && leads n u) s.list
 
-  chain_leads : (t : Participant) (l : List Participant) → IsChain s stuck f t l → leads (length l) t ≡ true
+  pub chain_leads : (t : Participant) (l : List Participant) → IsChain s stuck f t l → leads (length l) t ≡ true
   chain_leads t [] chain = chain
   chain_leads t (u ∷ l) chain =
       any_from (λ v. stops s stuck v t && leads (length l) v) s.list u chain.0
       (and_from (stops s stuck u t) (leads (length l) u) chain.1 (chain_leads u l chain.2))
-
-  -- the first chain of a length
-  first_chain : (n : ℕ) (t : Participant) → leads n t ≡ true →
-      (l : List Participant) × IsChain s stuck f t l × (length l ≡ n) × ((k : List Participant) → IsChain s stuck f t k → length k ≡ n → ComesFirst l k)
-  first_chain zero t is = ([], is, refl, λ k chain e. tt)
-  first_chain (suc n) t is =
-      let m = first_that (λ u. stops s stuck u t && leads n u) s.list up is in
-      let parts = and_parts (stops s stuck m.0 t) (leads n m.0) m.1.1 in
-      let rest = first_chain n m.0 parts.1 in
-      (m.0 ∷ rest.0, (m.1.0, parts.0, rest.1), ap suc rest.2, first m.0 m.1.2 rest.0 rest.3)
-    where
-      first : (c : Participant) →
-          ((y : Participant) → Contains s.list y → (stops s stuck y t && leads n y) ≡ true → (c.number < y.number) ⊎ (c ≡ y)) →
-          (l : List Participant) → ((k : List Participant) → IsChain s stuck f c k → length k ≡ n → ComesFirst l k) →
-          (k : List Participant) → IsChain s stuck f t k → length k ≡ suc n → ComesFirst (c ∷ l) k
-      first c low l later [] chain e = absurd (omega arith)
-      first c low l later (d ∷ k) chain e =
-          let same : length k ≡ n = omega arith in
-          let goes = subst (λ j. leads j d ≡ true) same (chain_leads d k chain.2) in
-          elim (low d chain.0 (and_from (stops s stuck d t) (leads n d) chain.1 goes)) [
-            | inl less ↦ inl less
-            | inr is_d ↦ inr (ap (λ (x : Participant). x.number) is_d, later k (subst (λ x. IsChain s stuck f x k) (sym is_d) chain.2) same)
-          ]
 
   -- no chain from t is shorter
   abbrev IsShortestChain : Participant → List Participant → Type 0
@@ -144,24 +121,55 @@ module _ (s : TraceState) (stuck : ℕ → Bool) (f : Participant) (lawful : IsL
   circle_le : (l : List Participant) → IsCircle s stuck f l → length l ≤ length s.list
   circle_le l (chain, different) = distinct_le l s.list different.1 (chain_within f l chain)
 
+  -- and where f is of the list it is shorter
+  pub circle_lt : Contains s.list f → (l : List Participant) → IsCircle s stuck f l → length l < length s.list
+  circle_lt listed l (chain, different) =
+      let le = distinct_le (f ∷ l) s.list different (λ x within. elim (Contains-cons_cases f l x within) [
+        | inl here ↦ subst (λ y. Contains s.list y) here listed
+        | inr there ↦ chain_within f l chain x there
+      ]) in
+      omega arith
+
+  -- of chains from f back to it that are as long as the shortest, the one that comes first is the first circle
+  pub first_by_length : (n : ℕ) → ((j : ℕ) → leads j f ≡ true → n ≤ j) → (k : List Participant) → IsChain s stuck f f k → length k ≡ n →
+      ((j : List Participant) → IsChain s stuck f f j → length j ≡ n → ComesFirst k j) → IsFirstCircle s stuck f k
+  first_by_length n least k chain long first =
+      let shortest : (j : List Participant) → IsChain s stuck f f j → length k ≤ length j =
+      λ j other. (let e = least (length j) (chain_leads f j other) in omega arith) in (
+        ((chain, all_different f k (chain, shortest)), λ j other. shortest j other.0),
+        λ j other. first j other.0.0 (let a = shortest j other.0.0 in let b = other.1 k (chain, all_different f k (chain, shortest)) in omega arith),
+      )
+
+module _ (s : TraceState) (stuck : ℕ → Bool) (f : Participant) (lawful : IsLawfulState s) (up : Ascends s.list) where
+  -- the first chain of a length
+  first_chain : (n : ℕ) (t : Participant) → leads s stuck f n t ≡ true →
+      (l : List Participant) × IsChain s stuck f t l × (length l ≡ n) × ((k : List Participant) → IsChain s stuck f t k → length k ≡ n → ComesFirst l k)
+  first_chain zero t is = ([], is, refl, λ k chain e. tt)
+  first_chain (suc n) t is =
+      let m = first_that (λ u. stops s stuck u t && leads s stuck f n u) s.list up is in
+      let parts = and_parts (stops s stuck m.0 t) (leads s stuck f n m.0) m.1.1 in
+      let rest = first_chain n m.0 parts.1 in
+      (m.0 ∷ rest.0, (m.1.0, parts.0, rest.1), ap suc rest.2, first m.0 m.1.2 rest.0 rest.3)
+    where
+      first : (c : Participant) →
+          ((y : Participant) → Contains s.list y → (stops s stuck y t && leads s stuck f n y) ≡ true → (c.number < y.number) ⊎ (c ≡ y)) →
+          (l : List Participant) → ((k : List Participant) → IsChain s stuck f c k → length k ≡ n → ComesFirst l k) →
+          (k : List Participant) → IsChain s stuck f t k → length k ≡ suc n → ComesFirst (c ∷ l) k
+      first c low l later [] chain e = absurd (omega arith)
+      first c low l later (d ∷ k) chain e =
+          let same : length k ≡ n = omega arith in
+          let goes = subst (λ j. leads s stuck f j d ≡ true) same (chain_leads s stuck f d k chain.2) in
+          elim (low d chain.0 (and_from (stops s stuck d t) (leads s stuck f n d) chain.1 goes)) [
+            | inl less ↦ inl less
+            | inr is_d ↦ inr (ap (λ (x : Participant). x.number) is_d, later k (subst (λ x. IsChain s stuck f x k) (sym is_d) chain.2) same)
+          ]
+
   -- there is a first circle, or no circle
   circle_or_none : ((k : List Participant) × IsFirstCircle s stuck f k) ⊎ ((l : List Participant) → IsCircle s stuck f l → ⊥)
-  circle_or_none = elim (least_below (λ n. leads n f) (suc (length s.list))) [
-    | inl found ↦ inl (let m = first_chain found.0 f found.1 in shown found.0 found.3 m.0 m.1 m.2 m.3)
-    | inr none ↦ inr (λ l circle. true≢false (sym (chain_leads f l circle.0) ∙ none (length l) (let e = circle_le l circle in omega arith)))
+  circle_or_none = elim (least_below (λ n. leads s stuck f n f) (suc (length s.list))) [
+    | inl found ↦ inl (let m = first_chain found.0 f found.1 in (m.0, first_by_length s stuck f found.0 found.3 m.0 m.1 m.2 m.3))
+    | inr none ↦ inr (λ l circle. true≢false (sym (chain_leads s stuck f f l circle.0) ∙ none (length l) (let e = circle_le s stuck f l circle in omega arith)))
   ]
-    where
-      shown : (n : ℕ) → ((j : ℕ) → leads j f ≡ true → n ≤ j) → (k : List Participant) → IsChain s stuck f f k → length k ≡ n →
-          ((j : List Participant) → IsChain s stuck f f j → length j ≡ n → ComesFirst k j) → (k : List Participant) × IsFirstCircle s stuck f k
-      shown n least k chain long first =
-          let shortest : (j : List Participant) → IsChain s stuck f f j → length k ≤ length j =
-          λ j other. (let e = least (length j) (chain_leads f j other) in omega arith) in (
-            k,
-            (
-              ((chain, all_different f k (chain, shortest)), λ j other. shortest j other.0),
-              λ j other. first j other.0.0 (let a = shortest j other.0.0 in let b = other.1 k (chain, all_different f k (chain, shortest)) in omega arith),
-            ),
-          )
 
   -- two chains of which each comes first are the same
   same_chain : (t u : Participant) (l k : List Participant) → IsChain s stuck f t l → IsChain s stuck f u k → length l ≡ length k → ComesFirst l k → ComesFirst k l → l ≡ k

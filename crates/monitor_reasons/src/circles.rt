@@ -1,0 +1,115 @@
+// The circle of a task.
+ghost use Rattle.std.specs.Prelude.{◌≡◌, ℕ, ◌<◌, All, None, Some, IfOk, IfSome, IfNone, MatchOption, false, length, map};
+ghost use Rattle.monitor_words.specs.Reasons.{HasNoCircle};
+ghost use Rattle.monitor_words.specs.Stops.{IsFirstCircle};
+ghost use Rattle.monitor_search.specs.Known.{has_stuck_number};
+ghost use Rattle.monitor_reasons.specs.Found.{participant_at};
+ghost use Rattle.monitor_reasons.specs.inside.Listings.{listing};
+ghost use Rattle.monitor_reasons.specs.inside.Distances.{AreSearched, IsFoundCircle, IsFirstNext, IsCircleWalk, distance_at, is_distance, is_next};
+
+use crate::distances::distances_to;
+use crate::stopping::stops;
+use armus_base::NoMemory;
+use monitor_search::StuckTasks;
+use monitor_state::{ListedParticipant, MonitorState};
+use std::alloc::Global;
+
+// Whether it is the distance n.
+fn is_distance(distance: Option<usize>, n: usize) -> bool
+    ensures { result ≡ is_distance distance n }
+{
+    match distance {
+        None => false,
+        Some(m) => m == n,
+    }
+}
+
+// Whether the task at u has the distance n and stops the one at t.
+fn is_next(
+    list: &[ListedParticipant],
+    stuck: &StuckTasks,
+    distances: &[Option<usize>],
+    n: usize,
+    t: usize,
+    u: usize,
+) -> bool
+    requires long { length distances.now ≡ length list.now }
+    requires from { t < length list.now }
+    requires to { u < length list.now }
+    ensures { result ≡ is_next (listing list.now) (has_stuck_number stuck.now) distances.now n t u }
+{
+    is_distance(distances[u], n) && stops(list, stuck, &list[u], &list[t])
+}
+
+// The first place that has the distance n and stops the task at t.
+fn next_place(
+    list: &[ListedParticipant],
+    stuck: &StuckTasks,
+    distances: &[Option<usize>],
+    n: usize,
+    t: usize,
+) -> Option<usize>
+    requires long { length distances.now ≡ length list.now }
+    requires from { t < length list.now }
+    ensures at { IfSome result (IsFirstNext (listing list.now) (has_stuck_number stuck.now) distances.now n t) }
+    ensures none { IfNone result ((u : ℕ) → u < length list.now → is_next (listing list.now) (has_stuck_number stuck.now) distances.now n t u ≡ false) }
+{
+    for u in 0..list.len() {
+        if is_next(list, stuck, distances, n, t, u) {
+            return Some(u);
+        }
+    }
+    None
+}
+
+// The places of the first circle of the task, which has this distance.
+fn walk(
+    alloc: Global,
+    state: &MonitorState,
+    stuck: &StuckTasks,
+    distances: &[Option<usize>],
+    task: usize,
+    distance: usize,
+) -> Result<Vec<usize>, NoMemory>
+    requires place { task < length state.now.list }
+    requires searched { AreSearched state.now (has_stuck_number stuck.now) task distances.now }
+    requires distance { distance_at distances.now task ≡ Some distance }
+    ensures circle { IfOk result (λ places. IsFirstCircle state.now (has_stuck_number stuck.now) (participant_at state.now.list task) (map (participant_at state.now.list) places.items)) }
+    ensures places { IfOk result (λ places. All (λ i. i < length state.now.list) places.items) }
+{
+    let list = state.participants();
+    let mut places = Vec::new(alloc);
+    let mut last = task;
+    let mut left = distance;
+    while left > 0 {
+        left -= 1;
+        match next_place(list, stuck, distances, left, last) {
+            None => unreachable!(),
+            Some(next) => {
+                places.push(next)?;
+                last = next;
+            }
+        }
+    }
+    Ok(places)
+}
+
+/// The places of the circle of the task at a place, or that it has none.
+pub(crate) fn circle_of(
+    alloc: Global,
+    state: &MonitorState,
+    stuck: &StuckTasks,
+    task: usize,
+) -> Result<Option<Vec<usize>>, NoMemory>
+    requires { task < length state.now.list }
+    ensures { IfOk result (IsFoundCircle state.now (has_stuck_number stuck.now) task) }
+{
+    let distances = distances_to(alloc, state, stuck, task)?;
+    match distances[task] {
+        None => Ok(None),
+        Some(distance) => {
+            let places = walk(alloc, state, stuck, &distances, task, distance)?;
+            Ok(Some(places))
+        }
+    }
+}
