@@ -1,0 +1,10 @@
+//! What the monitor says of a state, as values: names, groups of keepers, rows of waiting tasks, the counts of a report, and how a waiting task stands.
+//! It stands on monitor_state for the list of tasks and wildcards, on monitor_search for the stuck tasks that are known, and on monitor_words for what is written.
+//! The tests of the monitor stand in the gallery.
+#![tactic(auto)]
+
+mod counts;
+mod standing;
+
+pub use counts::state_counts;
+pub use standing::{is_kept_waiting, standing_of};
