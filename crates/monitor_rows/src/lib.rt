@@ -4,7 +4,12 @@
 #![tactic(auto)]
 
 mod counts;
+mod known_names;
+mod listing;
+mod names;
 mod standing;
 
 pub use counts::state_counts;
+pub use known_names::names_of_known;
+pub use listing::put_list;
 pub use standing::{is_kept_waiting, standing_of};
