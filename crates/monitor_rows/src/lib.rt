@@ -3,6 +3,7 @@
 //! The tests of the monitor stand in the gallery.
 #![tactic(auto)]
 
+mod conditions;
 mod counts;
 mod known_names;
 mod listing;
