@@ -5,6 +5,7 @@
 
 mod conditions;
 mod counts;
+mod keepers;
 mod known_names;
 mod listing;
 mod names;

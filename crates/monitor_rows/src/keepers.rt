@@ -1,0 +1,115 @@
+// Who keeps tasks waiting.
+ghost use Rattle.std.specs.Prelude.{◌≡◌, ◌==◌, ◌++◌, ℕ, IfOk, filter, map, not};
+ghost use Rattle.std.specs.Option.{option_copied, option_eq};
+ghost use Rattle.std.specs.Prelude.{bytes_eq};
+ghost use Rattle.monitor_laws.specs.States.{Participant as Listed};
+ghost use Rattle.monitor_words.specs.Stops.{keeps_waiting};
+ghost use Rattle.monitor_words.specs.Words.{keep_alike, keeper_words};
+ghost use Rattle.monitor_words.specs.calls.Values.{group_shown, names_shown};
+ghost use Rattle.monitor_search.specs.Known.{has_stuck_number};
+ghost use Rattle.monitor_rows.specs.inside.Lent.{lent_ones};
+ghost use Rattle.monitor_rows.specs.inside.Turns.{turn_groups, turns_leave};
+
+use crate::conditions::{keeper_words, own_place, shown_condition};
+use crate::names::{add_name, no_names};
+use crate::standing::keeps_waiting;
+use armus_base::{List, NoMemory};
+use monitor_search::StuckTasks;
+use monitor_state::ListedParticipant;
+use monitor_words::{KeeperGroup, ShownNames};
+use std::alloc::Global;
+
+/// Those of the list who keep t waiting.
+pub(crate) fn keepers_of<'a>(
+    alloc: Global,
+    list: &'a [ListedParticipant],
+    t: &ListedParticipant,
+) -> Result<Vec<&'a ListedParticipant>, NoMemory>
+    ensures { IfOk result (λ us. lent_ones us.items ≡ filter (λ u. keeps_waiting u t.now) list.now) }
+{
+    let mut keepers = Vec::new(alloc);
+    for u in list {
+        if keeps_waiting(u, t) {
+            keepers.push(u)?;
+        }
+    }
+    Ok(keepers)
+}
+
+/// Whether two have the same place, or none.
+pub(crate) fn is_same_place(one: Option<&[u8]>, other: Option<&[u8]>) -> bool
+    ensures { result ≡ option_eq bytes_eq (option_copied one.entry) (option_copied other.entry) }
+{
+    match one {
+        None => other.is_none(),
+        Some(place) => match other {
+            None => false,
+            Some(another) => place == another,
+        },
+    }
+}
+
+// Whether two have the same phase, or none.
+fn is_same_phase(one: Option<u32>, other: Option<u32>) -> bool
+    ensures { result ≡ option_eq (λ m k. m == k) one other }
+{
+    match one {
+        None => other.is_none(),
+        Some(phase) => match other {
+            None => false,
+            Some(another) => phase == another,
+        },
+    }
+}
+
+// Whether v stands in one group with first, which has these words, on phaser p.
+fn is_alike(
+    alloc: Global,
+    stuck: &StuckTasks,
+    p: &[u8],
+    first: &ListedParticipant,
+    words: &[u8],
+    v: &ListedParticipant,
+) -> Result<bool, NoMemory>
+    requires { words.now ≡ keeper_words (has_stuck_number stuck.now) first.now }
+    ensures { IfOk result (λ alike. alike ≡ keep_alike (has_stuck_number stuck.now) p.now first.now v.now) }
+{
+    if !is_same_phase(first.phase_on(p), v.phase_on(p)) {
+        return Ok(false);
+    }
+    if !is_same_place(first.place(), v.place()) {
+        return Ok(false);
+    }
+    let own = keeper_words(alloc, stuck, v)?;
+    Ok(words == own.as_slice())
+}
+
+// Keepers of whom those who stand in one group are told from the others.
+struct PartedKeepers<'a> {
+    names: ShownNames,
+    others: Vec<&'a ListedParticipant>,
+}
+
+// The names of those who stand in one group with first, and the others.
+fn part_keepers<'a>(
+    alloc: Global,
+    stuck: &StuckTasks,
+    p: &[u8],
+    first: &ListedParticipant,
+    keepers: &[&'a ListedParticipant],
+) -> Result<PartedKeepers<'a>, NoMemory>
+    ensures names { IfOk result (λ parted. parted.names ≡ names_shown (filter (keep_alike (has_stuck_number stuck.now) p.now first.now) (lent_ones keepers.now))) }
+    ensures others { IfOk result (λ parted. lent_ones parted.others.items ≡ filter (λ v. not (keep_alike (has_stuck_number stuck.now) p.now first.now v)) (lent_ones keepers.now)) }
+{
+    let words = keeper_words(alloc, stuck, first)?;
+    let mut names = no_names(alloc);
+    let mut others = Vec::new(alloc);
+    for v in keepers {
+        if is_alike(alloc, stuck, p, first, &words, v)? {
+            add_name(alloc, &mut names, v.name())?;
+        } else {
+            others.push(*v)?;
+        }
+    }
+    Ok(PartedKeepers { names, others })
+}
