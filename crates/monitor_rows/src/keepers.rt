@@ -1,5 +1,5 @@
 // Who keeps tasks waiting.
-ghost use Rattle.std.specs.Prelude.{◌≡◌, ◌==◌, ◌++◌, ℕ, IfOk, filter, map, not};
+ghost use Rattle.std.specs.Prelude.{◌≡◌, ◌==◌, ◌++◌, ℕ, suc, IfOk, List as Seq, filter, map, not};
 ghost use Rattle.std.specs.Option.{option_copied, option_eq};
 ghost use Rattle.std.specs.Prelude.{bytes_eq};
 ghost use Rattle.monitor_laws.specs.States.{Participant as Listed};
@@ -11,7 +11,7 @@ ghost use Rattle.monitor_rows.specs.inside.Lent.{lent_ones};
 ghost use Rattle.monitor_rows.specs.inside.Turns.{turn_groups, turns_leave};
 
 use crate::conditions::{keeper_words, own_place, shown_condition};
-use crate::names::{add_name, no_names};
+use crate::names::{add_name, count_left, no_names};
 use crate::standing::keeps_waiting;
 use armus_base::{List, NoMemory};
 use monitor_search::StuckTasks;
@@ -112,4 +112,68 @@ fn part_keepers<'a>(
         }
     }
     Ok(PartedKeepers { names, others })
+}
+
+// The group of first and those with these names, on phaser p.
+fn shown_group(
+    alloc: Global,
+    stuck: &StuckTasks,
+    p: &[u8],
+    first: &ListedParticipant,
+    names: ShownNames,
+) -> Result<KeeperGroup, NoMemory>
+    ensures { IfOk result (λ group. (us : Seq Listed) → names ≡ names_shown us → group ≡ group_shown (has_stuck_number stuck.now) p.now (first.now, us)) }
+{
+    Ok(KeeperGroup {
+        names,
+        phase: first.phase_on(p).unwrap_or(0),
+        condition: shown_condition(alloc, stuck, first)?,
+        place: own_place(alloc, first.place())?,
+    })
+}
+
+// Appends the group of the first of those who are left, if there are any, and gives the others.
+fn next_group<'a>(
+    alloc: Global,
+    stuck: &StuckTasks,
+    p: &[u8],
+    groups: &mut List<KeeperGroup>,
+    keepers: &[&'a ListedParticipant],
+) -> Result<Vec<&'a ListedParticipant>, NoMemory>
+    ensures groups { IfOk result (λ others. (k : ℕ) → groups.new ++ map (group_shown (has_stuck_number stuck.now) p.now) (turn_groups (keep_alike (has_stuck_number stuck.now) p.now) k (lent_ones others.items)) ≡ groups.old ++ map (group_shown (has_stuck_number stuck.now) p.now) (turn_groups (keep_alike (has_stuck_number stuck.now) p.now) (suc k) (lent_ones keepers.now))) }
+    ensures left { IfOk result (λ others. (k : ℕ) → turns_leave (keep_alike (has_stuck_number stuck.now) p.now) k (lent_ones others.items) ≡ turns_leave (keep_alike (has_stuck_number stuck.now) p.now) (suc k) (lent_ones keepers.now)) }
+{
+    match keepers {
+        [] => Ok(Vec::new(alloc)),
+        [first, ..] => {
+            let PartedKeepers { names, others } = part_keepers(alloc, stuck, p, first, keepers)?;
+            groups.push(shown_group(alloc, stuck, p, first, names)?)?;
+            Ok(others)
+        }
+    }
+}
+
+// Groups of keepers of which three at most are shown.
+struct ShownKeepers {
+    groups: List<KeeperGroup>,
+    left: u32,
+}
+
+// The first three groups of these on phaser p, and how many stand in none of them.
+fn group_keepers(
+    alloc: Global,
+    stuck: &StuckTasks,
+    p: &[u8],
+    keepers: Vec<&ListedParticipant>,
+) -> Result<ShownKeepers, NoMemory>
+    ensures groups { IfOk result (λ shown. shown.groups ≡ map (group_shown (has_stuck_number stuck.now) p.now) (turn_groups (keep_alike (has_stuck_number stuck.now) p.now) 3 (lent_ones keepers.entry.items))) }
+    ensures left { IfOk result (λ shown. shown.left ≡ turns_leave (keep_alike (has_stuck_number stuck.now) p.now) 3 (lent_ones keepers.entry.items)) }
+{
+    let mut groups = List::new(alloc);
+    let mut rest = keepers;
+    for _turn in 0..3_usize {
+        rest = next_group(alloc, stuck, p, &mut groups, &rest)?;
+    }
+    let left = count_left(rest.len())?;
+    Ok(ShownKeepers { groups, left })
 }

@@ -39,3 +39,10 @@ pub(crate) fn add_name(
     }
     Ok(())
 }
+
+/// How many are left, as a value shows it. More than 2^32 - 1 are as want of memory.
+pub(crate) fn count_left(count: usize) -> Result<u32, NoMemory>
+    ensures { IfOk result (λ left. left ≡ count) }
+{
+    u32::try_from(count).map_err(|_| NoMemory)
+}
