@@ -1,10 +1,9 @@
 // Who keeps tasks waiting.
-ghost use Rattle.std.specs.Prelude.{◌≡◌, ◌==◌, ◌++◌, ℕ, suc, IfOk, List as Seq, filter, map, not};
+ghost use Rattle.std.specs.Prelude.{◌≡◌, ◌==◌, ◌++◌, ℕ, suc, IfOk, List as Seq, bytes_eq, filter, map, not, take};
 ghost use Rattle.std.specs.Option.{option_copied, option_eq};
-ghost use Rattle.std.specs.Prelude.{bytes_eq};
 ghost use Rattle.monitor_laws.specs.States.{Participant as Listed};
 ghost use Rattle.monitor_words.specs.Stops.{keeps_waiting};
-ghost use Rattle.monitor_words.specs.Words.{keep_alike, keeper_words};
+ghost use Rattle.monitor_words.specs.Words.{count_behind, keep_alike, keeper_groups, keeper_words, waited_event};
 ghost use Rattle.monitor_words.specs.calls.Values.{group_shown, names_shown};
 ghost use Rattle.monitor_search.specs.Known.{has_stuck_number};
 ghost use Rattle.monitor_rows.specs.inside.Lent.{lent_ones};
@@ -15,12 +14,12 @@ use crate::names::{add_name, count_left, no_names};
 use crate::standing::keeps_waiting;
 use armus_base::{List, NoMemory};
 use monitor_search::StuckTasks;
-use monitor_state::ListedParticipant;
+use monitor_state::{ListedParticipant, MonitorState};
 use monitor_words::{KeeperGroup, ShownNames};
 use std::alloc::Global;
 
-/// Those of the list who keep t waiting.
-pub(crate) fn keepers_of<'a>(
+// Those of the list who keep t waiting.
+fn keepers_of<'a>(
     alloc: Global,
     list: &'a [ListedParticipant],
     t: &ListedParticipant,
@@ -153,10 +152,12 @@ fn next_group<'a>(
     }
 }
 
-// Groups of keepers of which three at most are shown.
-struct ShownKeepers {
-    groups: List<KeeperGroup>,
-    left: u32,
+/// Groups of keepers of which the first three at most are shown.
+pub(crate) struct ShownKeepers {
+    /// Those that are shown.
+    pub(crate) groups: List<KeeperGroup>,
+    /// How many keepers stand in no group that is shown.
+    pub(crate) left: u32,
 }
 
 // The first three groups of these on phaser p, and how many stand in none of them.
@@ -176,4 +177,21 @@ fn group_keepers(
     }
     let left = count_left(rest.len())?;
     Ok(ShownKeepers { groups, left })
+}
+
+/// The first three groups of those who keep t waiting, on the phaser p at which it waits, and how many stand in none of them.
+pub(crate) fn shown_keepers(
+    alloc: Global,
+    state: &MonitorState,
+    stuck: &StuckTasks,
+    p: &[u8],
+    t: &ListedParticipant,
+) -> Result<ShownKeepers, NoMemory>
+    requires { p.now ≡ (waited_event t.now).0 }
+    ensures groups { IfOk result (λ shown. shown.groups ≡ map (group_shown (has_stuck_number stuck.now) (waited_event t.now).0) (take 3 (keeper_groups state.now (has_stuck_number stuck.now) t.now))) }
+    ensures left { IfOk result (λ shown. shown.left ≡ count_behind 3 (keeper_groups state.now (has_stuck_number stuck.now) t.now)) }
+{
+    let keepers = keepers_of(alloc, state.participants(), t)?;
+    let shown = group_keepers(alloc, stuck, p, keepers)?;
+    Ok(shown)
 }
