@@ -1,33 +1,17 @@
 // In which condition somebody is, as it is shown.
 ghost use Rattle.std.specs.Prelude.{◌≡◌, IfOk, if◌then◌else◌};
-ghost use Rattle.std.specs.Option.{option_copied};
 ghost use Rattle.trace_lines.specs.inside.Reading.{spaced_words};
 ghost use Rattle.monitor_words.specs.Words.{keeper_words};
 ghost use Rattle.monitor_words.specs.calls.Values.{condition_shown, first_names};
 ghost use Rattle.monitor_search.specs.Known.{has_stuck_number};
 
 use crate::names::{add_name, no_names};
-use armus_base::{List, NoMemory};
+use crate::places::own_place;
+use armus_base::NoMemory;
 use monitor_search::StuckTasks;
 use monitor_state::{ListedCondition, ListedParticipant, split_word};
 use monitor_words::{KeeperCondition, ShownNames, put_condition};
 use std::alloc::Global;
-
-/// A place in memory of its own, if there is one.
-pub(crate) fn own_place(
-    alloc: Global,
-    place: Option<&[u8]>,
-) -> Result<Option<List<u8>>, NoMemory>
-    ensures { IfOk result (λ own. own ≡ option_copied place.entry) }
-{
-    match place {
-        None => Ok(None),
-        Some(place) => {
-            let bytes = Vec::from_slice(alloc, place)?;
-            Ok(Some(List::from_vec(bytes)))
-        }
-    }
-}
 
 // The names of who may play a wildcard; they stand one behind the other, a space between.
 fn player_names(alloc: Global, names: &[u8]) -> Result<ShownNames, NoMemory>

@@ -9,8 +9,9 @@ ghost use Rattle.monitor_search.specs.Known.{has_stuck_number};
 ghost use Rattle.monitor_rows.specs.inside.Lent.{lent_ones};
 ghost use Rattle.monitor_rows.specs.inside.Turns.{turn_groups, turns_leave};
 
-use crate::conditions::{keeper_words, own_place, shown_condition};
+use crate::conditions::{keeper_words, shown_condition};
 use crate::names::{add_name, count_left, no_names};
+use crate::places::{is_same_place, own_place};
 use crate::standing::keeps_waiting;
 use armus_base::{List, NoMemory};
 use monitor_search::StuckTasks;
@@ -33,19 +34,6 @@ fn keepers_of<'a>(
         }
     }
     Ok(keepers)
-}
-
-/// Whether two have the same place, or none.
-pub(crate) fn is_same_place(one: Option<&[u8]>, other: Option<&[u8]>) -> bool
-    ensures { result ≡ option_eq bytes_eq (option_copied one.entry) (option_copied other.entry) }
-{
-    match one {
-        None => other.is_none(),
-        Some(place) => match other {
-            None => false,
-            Some(another) => place == another,
-        },
-    }
 }
 
 // Whether two have the same phase, or none.

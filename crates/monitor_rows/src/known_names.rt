@@ -10,11 +10,7 @@ use monitor_words::ShownNames;
 use std::alloc::Global;
 
 // The names of those that were known and are not now.
-fn gone_names(
-    alloc: Global,
-    was: &StuckTasks,
-    now: &StuckTasks,
-) -> Result<ShownNames, NoMemory>
+fn gone_names(alloc: Global, was: &StuckTasks, now: &StuckTasks) -> Result<ShownNames, NoMemory>
     ensures { IfOk result (λ names. names ≡ first_names (map (λ t. t.1) (known_only_in was.now now.now))) }
 {
     let mut names = no_names(alloc);

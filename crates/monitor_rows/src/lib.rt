@@ -9,9 +9,13 @@ mod keepers;
 mod known_names;
 mod listing;
 mod names;
+mod places;
+mod rows;
 mod standing;
+mod waits;
 
 pub use counts::state_counts;
 pub use known_names::names_of_known;
 pub use listing::put_list;
+pub use rows::{report_rows, rows_of};
 pub use standing::{is_kept_waiting, standing_of};

@@ -16,8 +16,8 @@ pub(crate) fn no_names(alloc: Global) -> ShownNames
     }
 }
 
-// A name in memory of its own.
-fn own_name(alloc: Global, name: &[u8]) -> Result<List<u8>, NoMemory>
+/// A name in memory of its own.
+pub(crate) fn own_name(alloc: Global, name: &[u8]) -> Result<List<u8>, NoMemory>
     ensures { IfOk result (λ own. own ≡ name.now) }
 {
     let bytes = Vec::from_slice(alloc, name)?;
@@ -25,11 +25,7 @@ fn own_name(alloc: Global, name: &[u8]) -> Result<List<u8>, NoMemory>
 }
 
 /// One more name behind those that these are of. More than 2^32 are as want of memory.
-pub(crate) fn add_name(
-    alloc: Global,
-    names: &mut ShownNames,
-    name: &[u8],
-) -> Result<(), NoMemory>
+pub(crate) fn add_name(alloc: Global, names: &mut ShownNames, name: &[u8]) -> Result<(), NoMemory>
     ensures { OnOk result ((all : Seq (Seq ℕ)) → names.old ≡ first_names all → names.new ≡ first_names (all ++ name.now ∷ [])) }
 {
     if names.shown.as_slice().len() < 3 {

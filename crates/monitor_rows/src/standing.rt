@@ -32,11 +32,18 @@ pub(crate) fn keeps_waiting(u: &ListedParticipant, t: &ListedParticipant) -> boo
     }
 }
 
-/// Whether somebody of the list keeps t waiting.
-pub(crate) fn is_kept_by(list: &[ListedParticipant], t: &ListedParticipant) -> bool
+// Whether somebody of the list keeps t waiting.
+fn is_kept_by(list: &[ListedParticipant], t: &ListedParticipant) -> bool
     ensures { result ≡ list_any (λ u. keeps_waiting u t.now) list.now }
 {
     list.iter().any(|u| keeps_waiting(u, t))
+}
+
+/// Whether somebody of the state keeps t waiting.
+pub(crate) fn is_kept_in(state: &MonitorState, t: &ListedParticipant) -> bool
+    ensures { result ≡ is_kept_waiting state.now t.now }
+{
+    is_kept_by(state.participants(), t)
 }
 
 /// How t stands in the state, if it waits.
@@ -50,7 +57,7 @@ pub(crate) fn standing_in(
     if stuck.has_number(t.number()) {
         return WaitStanding::Stuck;
     }
-    if is_kept_by(state.participants(), t) {
+    if is_kept_in(state, t) {
         return WaitStanding::Held;
     }
     WaitStanding::Free
@@ -61,8 +68,7 @@ pub fn is_kept_waiting(state: &MonitorState, task: usize) -> bool
     requires { task < length state.now.list }
     ensures { (t : Listed) → t ≡ slice_index_or state.now.list task t → result ≡ is_kept_waiting state.now t }
 {
-    let list = state.participants();
-    is_kept_by(list, &list[task])
+    is_kept_in(state, &state.participants()[task])
 }
 
 /// How the task stands that waits at this place of the list.

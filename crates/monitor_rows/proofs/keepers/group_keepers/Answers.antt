@@ -15,12 +15,13 @@ loop-turn-preserved c =
     let alike = keep_alike stuck p in
     let k = 3 - (c.loop-turn._turn + 1) in
     let one : suc k ≡ 3 - c.loop-turn._turn = omega arith in
-    let before = c.loop-turn.groups in
-    (c.in_ok-rest.ensures.groups k
-    ∙ ap (λ (l : List (Bor Participant)). before ++ map (group_shown stuck p) (turn_groups alike (suc k) (lent_ones l))) c.deref.ensures.value
-    ∙ ap (λ (n : ℕ). before ++ map (group_shown stuck p) (turn_groups alike n (lent_ones c.loop-turn.rest.items))) one
-    ∙ c.loop-turn.invariant.0,
-    c.in_ok-rest.ensures.left k
-    ∙ ap (λ (l : List (Bor Participant)). turns_leave alike (suc k) (lent_ones l)) c.deref.ensures.value
-    ∙ ap (λ (n : ℕ). turns_leave alike n (lent_ones c.loop-turn.rest.items)) one
-    ∙ c.loop-turn.invariant.1)
+    let before = c.loop-turn.groups in (
+      c.in_ok-rest.ensures.groups k
+          ∙ ap (λ (l : List (Bor Participant)). before ++ map (group_shown stuck p) (turn_groups alike (suc k) (lent_ones l))) c.deref.ensures.value
+          ∙ ap (λ (n : ℕ). before ++ map (group_shown stuck p) (turn_groups alike n (lent_ones c.loop-turn.rest.items))) one
+          ∙ c.loop-turn.invariant.0,
+      c.in_ok-rest.ensures.left k
+          ∙ ap (λ (l : List (Bor Participant)). turns_leave alike (suc k) (lent_ones l)) c.deref.ensures.value
+          ∙ ap (λ (n : ℕ). turns_leave alike n (lent_ones c.loop-turn.rest.items)) one
+          ∙ c.loop-turn.invariant.1,
+    )
