@@ -1,6 +1,6 @@
 -- To keep others waiting alike, and to wait alike, are equivalences.
-use Rattle.std.proofs.Common.{◌≡◌, ℕ, Bool, true, ◌&&◌, List, refl, sym, ◌∙◌, ap}
-use Rattle.std.specs.Prelude.{◌==◌, Option, bytes_eq}
+use Rattle.std.proofs.Common.{ℕ, Bool, ◌&&◌, List, ◌∙◌, ap}
+use Rattle.std.specs.Prelude.{◌==◌, bytes_eq}
 use Rattle.std.specs.Cmp.{IsEquivalence}
 use Rattle.std.specs.Cmp.Lexicographic.{options_equiv}
 use Rattle.std.specs.Option.{option_eq}

@@ -2,7 +2,7 @@
 use Rattle.std.proofs.Common.{◌≡◌, ℕ, Bool, List, [], ◌∷◌, ◌++◌, map, sym, ◌∙◌, ap}
 use Rattle.std.specs.Prelude.{not, filter}
 use Rattle.monitor_laws.specs.States.{Participant, TraceState}
-use Rattle.monitor_words.specs.Words.{count_behind, groups_by, wait_alike}
+use Rattle.monitor_words.specs.Words.{groups_by, wait_alike}
 use Rattle.monitor_words.specs.calls.Values.{row_shown, rows_shown}
 use Rattle.monitor_words.specs.declared.rows.ShownRows.{ShownRows}
 use Rattle.monitor_words.specs.declared.rows.WaitRow.{WaitRow}

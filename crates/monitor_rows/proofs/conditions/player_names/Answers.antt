@@ -1,6 +1,6 @@
-use Rattle.std.proofs.Common.{◌≡◌, ℕ, List, Some, [], ◌∷◌, ◌++◌, sym, ◌∙◌, ap, append_assoc}
+use Rattle.std.proofs.Common.{◌≡◌, Some, [], ◌∷◌, ◌++◌, sym, ◌∙◌, ap, append_assoc}
 use Rattle.std.specs.Option.{option_copied}
-use Rattle.trace_lines.specs.inside.Reading.{behind_word, word_before_space, words_behind}
+use Rattle.trace_lines.specs.inside.Reading.{behind_word, words_behind}
 use Rattle.trace_lines.proofs.WordByWord.{words_are}
 use Rattle.monitor_rows.proofs.conditions.player_names.Goals as goal
 

@@ -1,9 +1,8 @@
-use Rattle.std.proofs.Common.{◌≡◌, ◌∷◌, List, drop, sym, ◌∙◌, ap}
-use Rattle.std.specs.Prelude.{filter, not}
+use Rattle.std.proofs.Common.{◌≡◌, ◌∷◌, drop, ap}
+use Rattle.std.specs.Prelude.{filter}
 use Rattle.armus_base.proofs.Lists.{headed}
-use Rattle.monitor_laws.specs.States.{Participant}
 use Rattle.monitor_words.specs.Words.{keep_alike}
-use Rattle.monitor_words.specs.calls.Values.{group_shown, names_shown}
+use Rattle.monitor_words.specs.calls.Values.{group_shown}
 use Rattle.monitor_search.specs.Known.{has_stuck_number}
 use Rattle.monitor_rows.specs.inside.Lent.{lent_ones}
 use Rattle.monitor_rows.proofs.Turning.{turned, turned_left}

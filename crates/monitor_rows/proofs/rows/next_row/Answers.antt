@@ -1,4 +1,4 @@
-use Rattle.std.proofs.Common.{◌≡◌, ◌∷◌, List, drop, refl, ap}
+use Rattle.std.proofs.Common.{◌≡◌, ◌∷◌, drop, refl, ap}
 use Rattle.std.specs.Prelude.{filter}
 use Rattle.armus_base.proofs.Lists.{headed}
 use Rattle.monitor_words.specs.Words.{wait_alike}
