@@ -15,9 +15,9 @@ mod rows;
 mod standing;
 mod waits;
 
-pub use counts::state_counts;
+pub use counts::counts_of_state;
 pub use known_names::names_of_known;
-pub use listing::put_list;
+pub use listing::put_wait_list;
 pub use reports::put_state_report;
-pub use rows::{report_rows, rows_of};
-pub use standing::{is_kept_waiting, standing_of};
+pub use rows::{report_rows, wait_rows_of};
+pub use standing::{is_task_kept_waiting, wait_standing_of};

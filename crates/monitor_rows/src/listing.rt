@@ -46,7 +46,7 @@ fn put_waiting(
 }
 
 /// Appends the list of a state: a line for each waiting task, in list order, and how many they are.
-pub fn put_list(
+pub fn put_wait_list(
     alloc: Global,
     out: &mut Vec<u8>,
     state: &MonitorState,

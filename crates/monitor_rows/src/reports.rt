@@ -3,7 +3,7 @@ ghost use Rattle.std.specs.Prelude.{◌≡◌, ◌++◌, OnOk};
 ghost use Rattle.monitor_words.specs.Messages.{report_words};
 ghost use Rattle.monitor_search.specs.Known.{has_stuck_number};
 
-use crate::counts::state_counts;
+use crate::counts::counts_of_state;
 use crate::rows::report_rows;
 use armus_base::NoMemory;
 use monitor_search::StuckTasks;
@@ -21,6 +21,6 @@ pub fn put_state_report(
     ensures { OnOk result (out.new.items ≡ out.old.items ++ report_words state.now (has_stuck_number stuck.now)) }
 {
     let rows = report_rows(alloc, state, stuck)?;
-    put_report(alloc, out, state_counts(state, stuck), &rows)?;
+    put_report(alloc, out, counts_of_state(state, stuck), &rows)?;
     Ok(())
 }

@@ -193,7 +193,7 @@ fn led_rows(
 
 /// The rows of the tasks that stand at these places of the list, ten at most, and how many tasks are left. The row of the task at the place first stands in front,
 /// where there is one; else they come in the order of the places.
-pub fn rows_of(
+pub fn wait_rows_of(
     alloc: Global,
     state: &MonitorState,
     stuck: &StuckTasks,

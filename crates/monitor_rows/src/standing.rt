@@ -64,7 +64,7 @@ pub(crate) fn standing_in(
 }
 
 /// Whether somebody keeps the task waiting that stands at this place of the list.
-pub fn is_kept_waiting(state: &MonitorState, task: usize) -> bool
+pub fn is_task_kept_waiting(state: &MonitorState, task: usize) -> bool
     requires { task < length state.now.list }
     ensures { (t : Listed) → t ≡ slice_index_or state.now.list task t → result ≡ is_kept_waiting state.now t }
 {
@@ -72,7 +72,7 @@ pub fn is_kept_waiting(state: &MonitorState, task: usize) -> bool
 }
 
 /// How the task stands that waits at this place of the list.
-pub fn standing_of(state: &MonitorState, stuck: &StuckTasks, task: usize) -> WaitStanding
+pub fn wait_standing_of(state: &MonitorState, stuck: &StuckTasks, task: usize) -> WaitStanding
     requires { task < length state.now.list }
     ensures { (t : Listed) → t ≡ slice_index_or state.now.list task t → result ≡ wait_standing state.now (has_stuck_number stuck.now) t }
 {

@@ -13,6 +13,6 @@ returns c =
     let stuck = has_stuck_number c.args.stuck.now in
     let before = c.args.out.now.items in
     c.in_ok-put_report.ensures
-    ∙ ap (λ (counts : StateCounts). before ++ shown_report_words counts c.in_ok-rows.rows) c.state_counts.ensures
+    ∙ ap (λ (counts : StateCounts). before ++ shown_report_words counts c.in_ok-rows.rows) c.counts_of_state.ensures
     ∙ ap (λ (rows : ShownRows). before ++ shown_report_words (state_counts s stuck) rows) c.in_ok-rows.ensures
     ∙ ap (λ l. before ++ l) (joins_report s stuck)
