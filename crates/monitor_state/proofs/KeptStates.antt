@@ -1,12 +1,12 @@
 -- What holds of a state that is kept holds after a line of one name.
-use Rattle.std.proofs.Common.{◌≡◌, ℕ, ◌≤◌, ◌+◌, ◌-◌, false, List, [], length, get_or, refl, sym, ◌∙◌, ap, subst, inl, inr, ◌⊎◌, true, arith}
-use Rattle.std.specs.Prelude.{unwrap_or}
-use Rattle.std.specs.List.{list_any}
-use Rattle.std.proofs.lemmas.Bool.{cases_Bool}
-use Rattle.std.proofs.lemmas.List.{get_or_default}
+use Rattle.std.proofs.Common.{◌≡◌, ℕ, zero, suc, Bool, ◌∷◌, ◌++◌, ◌<◌, ◌≤◌, ◌+◌, ◌-◌, false, List, [], length, get_or, refl, sym, ◌∙◌, ap, subst, inl, inr, ◌⊎◌, true, arith}
+use Rattle.std.specs.Prelude.{not, ◌&&◌, if◌then◌else◌, nat_le, slice_set as set, unwrap_or}
+use Rattle.std.specs.List.{list_any, remove}
+use Rattle.std.proofs.lemmas.Bool.{cases_Bool, leb-false}
+use Rattle.std.proofs.lemmas.List.{get_or_default, length-append, length-set}
 use Rattle.monitor_laws.specs.Lines.{PlaysOneOf}
-use Rattle.monitor_laws.specs.States.{OneOf, Participant, TraceState, after_line, changed_at, is_there_as, new_participant, nobody_named, task_numbers}
-use Rattle.monitor_laws.specs.Faults.{memberships_in, most_memberships, participant_in}
+use Rattle.monitor_laws.specs.States.{OneOf, Participant, TraceState, after_line, changed_at, is_there_as, new_participant, nobody_named, stays_listed, task_numbers}
+use Rattle.monitor_laws.specs.Faults.{has_no_room, memberships_in, most_listed, most_memberships, participant_in}
 use Rattle.monitor_laws.proofs.Lawful.{IsLawfulState, lawful_after, lawful_lines}
 use Rattle.monitor_state.specs.inside.FirstPlaces.{IsFirstAt}
 use Rattle.monitor_state.specs.NumberedLists.{AreAscending}
@@ -32,6 +32,33 @@ lawful_of_line s x m kept line = subst IsLawfulState line.1 (lawful_after s line
 ascending_of_line : (s x : TraceState) (m : ℕ) → IsMonitorState s m → IsOfLine s x → AreAscending x.list
 ascending_of_line s x m kept line = subst (λ (y : TraceState). AreAscending y.list) line.1 (ascending_after s line.0 kept.lawful kept.ascending)
 
+-- one who is taken out is one less
+removed_short : {A : Type 0} (xs : List A) (i : ℕ) → length (remove xs i) ≤ length xs
+removed_short [] zero = omega arith
+removed_short [] (suc i) = omega arith
+removed_short (x ∷ xs) zero = omega arith
+removed_short (x ∷ xs) (suc i) = let rest = removed_short xs i in omega arith
+
+-- the list is no longer than before
+put_at_short : (us : List Participant) (i : ℕ) (v : Participant) → length (put_at us i v) ≤ length us
+put_at_short us i v = by_test (stays_listed v)
+  where
+    by_test : (b : Bool) → length (if b then set us i v else remove us i) ≤ length us
+    by_test true = let e = length-set us i v in omega arith
+    by_test false = removed_short us i
+
+-- the list is longer by one at most
+put_behind_short : (us : List Participant) (v : Participant) → length (put_behind us v) ≤ length us + 1
+put_behind_short us v = by_test (stays_listed v)
+  where
+    by_test : (b : Bool) → length (if b then us ++ v ∷ [] else us) ≤ length us + 1
+    by_test true = let e = length-append us (v ∷ []) in omega arith
+    by_test false = omega arith
+
+-- where nobody is there with the name and there is room, the list is not full
+room_for_one : (s : TraceState) (t : List ℕ) → list_any (is_there_as t) s.list ≡ false → has_no_room s t ≡ false → length s.list < most_listed
+room_for_one s t none fits = leb-false most_listed (length s.list) (sym (ap (λ b. not b && nat_le most_listed (length s.list)) none) ∙ fits)
+
 pub kept_at :
     (s : TraceState) (m : ℕ) (t : List ℕ) (change : Participant → Participant) (i : ℕ) (u : Participant) → IsMonitorState s m → IsOfLine s (changed_at t change s) →
     IsFirstAt (is_there_as t) s.list i → u ≡ get_or s.list i u → memberships_in s + memberships_had (change u) ≤ most_memberships + memberships_had u →
@@ -41,30 +68,36 @@ kept_at s m t change i u kept line first read few =
     let sum : memberships_in (record { list = put_at s.list i (change u); named = s.named }) + memberships_had u ≡ memberships_in s + memberships_had (change u) = counted_at s.list i u (change u) first.within read in
     let part : memberships_had u ≤ memberships_in s = had_within s.list i u first.within read in
     let count = kept.counted in
+    let less = put_at_short s.list i (change u) in
+    let short = kept.short in
     record {
       lawful = subst IsLawfulState is (lawful_of_line s (changed_at t change s) m kept line);
       ascending = subst (λ (y : TraceState). AreAscending y.list) is (ascending_of_line s (changed_at t change s) m kept line);
       counted = omega arith;
       few = omega arith;
+      short = omega arith;
     }
 
 pub kept_behind :
     (s : TraceState) (m : ℕ) (t : List ℕ) (change : Participant → Participant) → IsMonitorState s m → IsOfLine s (changed_at t change s) →
-    list_any (is_there_as t) s.list ≡ false → memberships_in s + memberships_had (change (new_participant s.named t)) ≤ most_memberships →
+    list_any (is_there_as t) s.list ≡ false → has_no_room s t ≡ false → memberships_in s + memberships_had (change (new_participant s.named t)) ≤ most_memberships →
     IsMonitorState (record { list = put_behind s.list (change (new_participant s.named t)); named = s.named + 1 }) (m + memberships_had (change (new_participant s.named t)))
-kept_behind s m t change kept line none few =
+kept_behind s m t change kept line none fits few =
     let is = changed_behind t change s kept.lawful none in
     let sum : memberships_in (record { list = put_behind s.list (change (new_participant s.named t)); named = s.named + 1 }) ≡ memberships_in s + memberships_had (change (new_participant s.named t)) = counted_behind s.list (change (new_participant s.named t)) in
     let count = kept.counted in
+    let more = put_behind_short s.list (change (new_participant s.named t)) in
+    let one = room_for_one s t none fits in
     record {
       lawful = subst IsLawfulState is (lawful_of_line s (changed_at t change s) m kept line);
       ascending = subst (λ (y : TraceState). AreAscending y.list) is (ascending_of_line s (changed_at t change s) m kept line);
       counted = omega arith;
       few = omega arith;
+      short = omega arith;
     }
 
 pub kept_new : IsMonitorState nobody_named 0
-kept_new = record { lawful = lawful_lines []; ascending = tt; counted = refl; few = omega arith }
+kept_new = record { lawful = lawful_lines []; ascending = tt; counted = refl; few = omega arith; short = omega arith }
 
 -- the memberships stay few enough
 abbrev pub HasRoom : TraceState → List ℕ → (Participant → Participant) → Type 0
@@ -92,6 +125,7 @@ pub record IsStep (now : TraceState) (list : List Participant) (named m : ℕ) (
   pub kept : IsMonitorState (record { list = list; named = named }) m
   pub line : IsOfLine now (changed_at t change now)
   pub room : HasRoom now t change
+  pub fits : has_no_room now t ≡ false
 
 module _ (now : TraceState) (list : List Participant) (named m : ℕ) (t : List ℕ) (change : Participant → Participant) (step : IsStep now list named m t change) where
   room_in : HasRoom (record { list = list; named = named }) t change
@@ -126,6 +160,9 @@ module _ (now : TraceState) (list : List Participant) (named m : ℕ) (t : List 
         sym (changed_in_place t change (record { list = list; named = named }) i u step.kept.lawful step.kept.ascending first read)
         ∙ ap (changed_at t change) step.is
 
+  fits_in : has_no_room (record { list = list; named = named }) t ≡ false
+  fits_in = subst (λ (x : TraceState). has_no_room x t ≡ false) (sym step.is) step.fits
+
   module _ (none : list_any (is_there_as t) list ≡ false) where
     pub holds_new : (P : Participant → Type 0) → P (participant_in now t) → P (new_participant named t)
     holds_new P holds = subst P (ap (λ (x : TraceState). participant_in x t) (sym step.is) ∙ nobody_there (record { list = list; named = named }) t none) holds
@@ -137,7 +174,7 @@ module _ (now : TraceState) (list : List Participant) (named m : ℕ) (t : List 
     few_new = let all = all_new in omega arith
 
     pub kept_pushed : IsMonitorState (record { list = put_behind list (change (new_participant named t)); named = named + 1 }) (m + memberships_had (change (new_participant named t)))
-    kept_pushed = kept_behind (record { list = list; named = named }) m t change step.kept line_in none all_new
+    kept_pushed = kept_behind (record { list = list; named = named }) m t change step.kept line_in none fits_in all_new
 
     pub pushed_is : record { list = put_behind list (change (new_participant named t)); named = named + 1 } ≡ changed_at t change now
     pushed_is =

@@ -23,3 +23,4 @@ pub use memberships::Memberships;
 pub use participant::ListedParticipant;
 pub use phaser_membership::PhaserMembership;
 pub use state::MonitorState;
+pub use words::split_word;

@@ -17,9 +17,9 @@ fn space_at(bytes: &[u8]) -> usize
     bytes.len()
 }
 
-/// The first word, and what stands behind its space.
+/// The first of words that stand one behind the other, a space between, and what stands behind its space; none where there is no space.
 #[tactic(auto, unfolding(trace_lines::specs::inside::Reading::behind_word, trace_lines::specs::inside::Reading::word_before_space))]
-pub(crate) fn split_word(bytes: &[u8]) -> (&[u8], Option<&[u8]>)
+pub fn split_word(bytes: &[u8]) -> (&[u8], Option<&[u8]>)
     ensures word { result.0.now ≡ word_before_space bytes.now }
     ensures behind { option_copied result.1 ≡ behind_word bytes.now }
     ensures shorter { IfSome result.1 (λ rest. length rest.now < length bytes.now) }

@@ -46,7 +46,7 @@ one_of_them (x ∷ y ∷ z ∷ us) = sym (ne_eqb (length (x ∷ y ∷ z ∷ us))
 
 -- ---- keepers
 
-condition_joined : (stuck : Bool) (place : Option (List ℕ)) (c : Condition) →
+pub condition_joined : (stuck : Bool) (place : Option (List ℕ)) (c : Condition) →
     keeper_condition_words (condition_shown stuck c) ++ seen_words (condition_shown stuck c) place ≡ condition_words stuck place c
 condition_joined stuck place Running = refl
 condition_joined true place (Waiting p n) = refl

@@ -77,6 +77,19 @@ impl KeeperCondition {
     }
 }
 
+/// Appends the words of this condition of somebody who keeps tasks waiting and has this place or none: `running, last seen at Job.java:7`.
+pub fn put_condition(
+    alloc: Global,
+    out: &mut Vec<u8>,
+    condition: &KeeperCondition,
+    place: &Option<List<u8>>,
+) -> Result<(), NoMemory>
+    ensures { OnOk result (out.new.items ≡ out.old.items ++ (keeper_condition_words condition.now ++ seen_words condition.now place.now)) }
+{
+    condition.put(alloc, out)?;
+    condition.put_seen(out, place)
+}
+
 // The verb of keepers.
 fn keepers_verb(names: &ShownNames) -> &'static [u8]
     ensures { result.now ≡ (if is_one names.now then codes " has phase " else codes " have phase ") }
@@ -101,8 +114,7 @@ impl KeeperGroup {
     fn put_end(&self, alloc: Global, out: &mut Vec<u8>) -> Result<(), NoMemory>
         ensures { OnOk result (out.new.items ≡ out.old.items ++ group_end self.now) }
     {
-        self.condition.put(alloc, out)?;
-        self.condition.put_seen(out, &self.place)?;
+        put_condition(alloc, out, &self.condition, &self.place)?;
         put_words(out, b")")
     }
 

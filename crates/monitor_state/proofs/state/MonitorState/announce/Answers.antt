@@ -19,3 +19,9 @@ change-requires-clause-few c =
     let few = few_kept c.args.self.now _ c.self.inside.memberships c.self.view_is c.self.invariant in
     let may : IsAllowed c.args.self.now c.args.t.now (said_value c.args.what.now) (place_value c.args.place) = allowed c.args.self.now c.args.t.now (said_value c.args.what.now) (place_value c.args.place) few c.requires.legal in
     may.room
+
+pub change-requires-clause-fits : goal.change-requires-clause-fits
+change-requires-clause-fits c =
+    let few = few_kept c.args.self.now _ c.self.inside.memberships c.self.view_is c.self.invariant in
+    let may : IsAllowed c.args.self.now c.args.t.now (said_value c.args.what.now) (place_value c.args.place) = allowed c.args.self.now c.args.t.now (said_value c.args.what.now) (place_value c.args.place) few c.requires.legal in
+    may.fits

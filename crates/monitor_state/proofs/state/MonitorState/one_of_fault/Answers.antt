@@ -8,10 +8,12 @@ use Rattle.monitor_laws.proofs.Lawful.{IsLawfulState}
 use Rattle.trace_lines.specs.inside.Reading.{spaced_words}
 use Rattle.monitor_state.specs.inside.FirstFaults.{first_of_two, many_fault, one_of_fault}
 use Rattle.monitor_state.proofs.TableRows.{one_of_first}
+use Rattle.monitor_state.proofs.LegalLines.{one_of_fits}
+use Rattle.monitor_state.specs.Values.{fault_of_line}
 use Rattle.monitor_state.proofs.state.MonitorState.one_of_fault.Goals as goal
 
-pub returns : goal.returns
-returns c =
+pub returns-clause-fault : goal.returns-clause-fault
+returns-clause-fault c =
     let s = c.args.self.now in
     let w = c.args.w.now in
     let names = spaced_words c.args.names.now in
@@ -24,3 +26,14 @@ returns c =
     ∙ ap (λ (o : Option Participant). one_of_fault w o (option_copied c.first_misnamed.result) c.is_full.result) c.found.ensures
     ∙ ap (λ (o : Option (List ℕ)). one_of_fault w found o c.is_full.result) c.first_misnamed.ensures
     ∙ ap (λ (b : Bool). one_of_fault w found misnamed b) c.is_full.ensures))
+
+pub returns-clause-fits : goal.returns-clause-fits
+returns-clause-fits c =
+    let s = c.args.self.now in
+    let w = c.args.w.now in
+    let found = find (is_there_as w) s.list in
+    let misnamed = option_copied c.first_misnamed.result in
+    one_of_fits fault_of_line s w misnamed c.one_of_fault.result
+    (c.one_of_fault.ensures
+    ∙ ap (λ (o : Option Participant). one_of_fault w o misnamed c.is_full.result) c.found.ensures
+    ∙ ap (λ (b : Bool). one_of_fault w found misnamed b) c.is_full.ensures)

@@ -1,0 +1,3 @@
+pub mod KnownNames
+pub mod Places
+pub mod inside
