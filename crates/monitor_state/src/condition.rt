@@ -25,14 +25,20 @@ impl ListedCondition {
     pub fn is_live_task(&self) -> bool
         ensures { result ≡ is_live_task (condition_value self.now) }
     {
-        matches!(self, ListedCondition::Running | ListedCondition::Waiting(_, _))
+        matches!(
+            self,
+            ListedCondition::Running | ListedCondition::Waiting(_, _)
+        )
     }
 
     /// Whether it is of a wildcard that is not gone.
     pub fn is_live_wildcard(&self) -> bool
         ensures { result ≡ is_live_wildcard (condition_value self.now) }
     {
-        matches!(self, ListedCondition::AnyTask | ListedCondition::OneOf(_, _))
+        matches!(
+            self,
+            ListedCondition::AnyTask | ListedCondition::OneOf(_, _)
+        )
     }
 
     /// Whether it is of a task that waits.

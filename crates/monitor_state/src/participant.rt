@@ -44,7 +44,11 @@ impl Model for ListedParticipant {
 
 impl ListedParticipant {
     /// A task that runs, a member of nothing and without a place.
-    pub(crate) fn new(alloc: Global, number: u64, name: &[u8]) -> Result<ListedParticipant, NoMemory>
+    pub(crate) fn new(
+        alloc: Global,
+        number: u64,
+        name: &[u8],
+    ) -> Result<ListedParticipant, NoMemory>
         ensures { IfOk result (λ u. u ≡ new_participant number name.now) }
     {
         let name = Vec::from_slice(alloc, name)?;

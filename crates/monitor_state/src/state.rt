@@ -19,7 +19,7 @@ use crate::goes::{end_all, keep_listed, memberships_of};
 use crate::listing::{change_at, change_behind, place_of};
 use crate::players::task_numbers;
 use crate::words::split_word;
-use crate::{ListedCondition, FaultOfLine, ListedParticipant};
+use crate::{FaultOfLine, ListedCondition, ListedParticipant};
 use armus_base::NoMemory;
 use std::alloc::Global;
 use std::marker::Model;
@@ -260,7 +260,11 @@ impl MonitorState {
     {
         let _ = &self.memberships;
         let names = Vec::from_slice(alloc, names)?;
-        self.change(alloc, w, Change::Plays(ListedCondition::OneOf(names, numbers)))?;
+        self.change(
+            alloc,
+            w,
+            Change::Plays(ListedCondition::OneOf(names, numbers)),
+        )?;
         Ok(())
     }
 
