@@ -12,6 +12,7 @@ use Rattle.monitor_laws.proofs.Lawful.{lawful_after}
 use Rattle.monitor_state.specs.inside.Changes.{memberships_had}
 use Rattle.monitor_state.specs.inside.States.{IsMonitorState}
 use Rattle.monitor_state.proofs.Ascending.{ascending_after}
+use Rattle.monitor_state.proofs.LegalLines.{fewer}
 
 -- one more is changed
 pub one_more_mapped :
@@ -68,4 +69,5 @@ kept_gone s m k beginning kept count =
       ascending = ascending_after s (AreGone beginning) kept.lawful kept.ascending;
       counted = count;
       few = omega arith;
+      short = let short = kept.short in let same = length-map s.list (gone_by beginning) in let less = fewer stays_listed (map (gone_by beginning) s.list) in omega arith;
     }

@@ -1,12 +1,12 @@
 -- What holds of a state that is kept holds after a line of one name.
-use Rattle.std.proofs.Common.{◌≡◌, ℕ, ◌≤◌, ◌+◌, ◌-◌, false, List, [], length, get_or, refl, sym, ◌∙◌, ap, subst, inl, inr, ◌⊎◌, true, arith}
-use Rattle.std.specs.Prelude.{unwrap_or}
+use Rattle.std.proofs.Common.{◌≡◌, ℕ, ◌<◌, ◌≤◌, ◌+◌, ◌-◌, ◌&&◌, not, false, List, [], length, get_or, refl, sym, ◌∙◌, ap, subst, inl, inr, ◌⊎◌, true, arith}
+use Rattle.std.specs.Prelude.{nat_le, unwrap_or}
 use Rattle.std.specs.List.{list_any}
-use Rattle.std.proofs.lemmas.Bool.{cases_Bool}
+use Rattle.std.proofs.lemmas.Bool.{cases_Bool, leb-false}
 use Rattle.std.proofs.lemmas.List.{get_or_default}
 use Rattle.monitor_laws.specs.Lines.{PlaysOneOf}
 use Rattle.monitor_laws.specs.States.{OneOf, Participant, TraceState, after_line, changed_at, is_there_as, new_participant, nobody_named, task_numbers}
-use Rattle.monitor_laws.specs.Faults.{memberships_in, most_memberships, participant_in}
+use Rattle.monitor_laws.specs.Faults.{has_no_room, memberships_in, most_listed, most_memberships, participant_in}
 use Rattle.monitor_laws.proofs.Lawful.{IsLawfulState, lawful_after, lawful_lines}
 use Rattle.monitor_state.specs.inside.FirstPlaces.{IsFirstAt}
 use Rattle.monitor_state.specs.NumberedLists.{AreAscending}
@@ -15,7 +15,7 @@ use Rattle.monitor_state.specs.inside.States.{IsMonitorState}
 use Rattle.monitor_state.proofs.OnePassing.{first_place, found_first, found_none}
 use Rattle.monitor_state.proofs.Ascending.{ascending_after}
 use Rattle.monitor_state.proofs.ListChanges.{changed_behind, changed_in_place}
-use Rattle.monitor_state.proofs.Counting.{counted_at, counted_behind, had_within}
+use Rattle.monitor_state.proofs.Counting.{counted_at, counted_behind, had_within, put_longer, put_shorter}
 
 -- who is there stands at the first place
 pub there_at : (s : TraceState) (t : List ℕ) (i : ℕ) (u : Participant) → IsFirstAt (is_there_as t) s.list i → u ≡ get_or s.list i u → participant_in s t ≡ u
@@ -46,13 +46,18 @@ kept_at s m t change i u kept line first read few =
       ascending = subst (λ (y : TraceState). AreAscending y.list) is (ascending_of_line s (changed_at t change s) m kept line);
       counted = omega arith;
       few = omega arith;
+      short = let short = kept.short in let long = put_shorter s.list i (change u) first.within in omega arith;
     }
+
+-- where nobody is there with a name for which there is room, the list is not full
+not_full : (s : TraceState) (t : List ℕ) → list_any (is_there_as t) s.list ≡ false → has_no_room s t ≡ false → length s.list < most_listed
+not_full s t none space = leb-false most_listed (length s.list) (sym (ap (λ b. not b && nat_le most_listed (length s.list)) none) ∙ space)
 
 pub kept_behind :
     (s : TraceState) (m : ℕ) (t : List ℕ) (change : Participant → Participant) → IsMonitorState s m → IsOfLine s (changed_at t change s) →
-    list_any (is_there_as t) s.list ≡ false → memberships_in s + memberships_had (change (new_participant s.named t)) ≤ most_memberships →
+    list_any (is_there_as t) s.list ≡ false → has_no_room s t ≡ false → memberships_in s + memberships_had (change (new_participant s.named t)) ≤ most_memberships →
     IsMonitorState (record { list = put_behind s.list (change (new_participant s.named t)); named = s.named + 1 }) (m + memberships_had (change (new_participant s.named t)))
-kept_behind s m t change kept line none few =
+kept_behind s m t change kept line none space few =
     let is = changed_behind t change s kept.lawful none in
     let sum : memberships_in (record { list = put_behind s.list (change (new_participant s.named t)); named = s.named + 1 }) ≡ memberships_in s + memberships_had (change (new_participant s.named t)) = counted_behind s.list (change (new_participant s.named t)) in
     let count = kept.counted in
@@ -61,10 +66,11 @@ kept_behind s m t change kept line none few =
       ascending = subst (λ (y : TraceState). AreAscending y.list) is (ascending_of_line s (changed_at t change s) m kept line);
       counted = omega arith;
       few = omega arith;
+      short = let long = put_longer s.list (change (new_participant s.named t)) in let less = not_full s t none space in omega arith;
     }
 
 pub kept_new : IsMonitorState nobody_named 0
-kept_new = record { lawful = lawful_lines []; ascending = tt; counted = refl; few = omega arith }
+kept_new = record { lawful = lawful_lines []; ascending = tt; counted = refl; few = omega arith; short = omega arith }
 
 -- the memberships stay few enough
 abbrev pub HasRoom : TraceState → List ℕ → (Participant → Participant) → Type 0
@@ -92,6 +98,7 @@ pub record IsStep (now : TraceState) (list : List Participant) (named m : ℕ) (
   pub kept : IsMonitorState (record { list = list; named = named }) m
   pub line : IsOfLine now (changed_at t change now)
   pub room : HasRoom now t change
+  pub space : has_no_room now t ≡ false
 
 module _ (now : TraceState) (list : List Participant) (named m : ℕ) (t : List ℕ) (change : Participant → Participant) (step : IsStep now list named m t change) where
   room_in : HasRoom (record { list = list; named = named }) t change
@@ -99,6 +106,9 @@ module _ (now : TraceState) (list : List Participant) (named m : ℕ) (t : List 
 
   line_in : IsOfLine (record { list = list; named = named }) (changed_at t change (record { list = list; named = named }))
   line_in = subst (λ (x : TraceState). IsOfLine x (changed_at t change x)) (sym step.is) step.line
+
+  space_in : has_no_room (record { list = list; named = named }) t ≡ false
+  space_in = subst (λ (x : TraceState). has_no_room x t ≡ false) (sym step.is) step.space
 
   module _ (i : ℕ) (u : Participant) (first : IsFirstAt (is_there_as t) list i) (read : u ≡ get_or list i u) where
     pub holds_there : (P : Participant → Type 0) → P (participant_in now t) → P u
@@ -137,13 +147,16 @@ module _ (now : TraceState) (list : List Participant) (named m : ℕ) (t : List 
     few_new = let all = all_new in omega arith
 
     pub kept_pushed : IsMonitorState (record { list = put_behind list (change (new_participant named t)); named = named + 1 }) (m + memberships_had (change (new_participant named t)))
-    kept_pushed = kept_behind (record { list = list; named = named }) m t change step.kept line_in none all_new
+    kept_pushed = kept_behind (record { list = list; named = named }) m t change step.kept line_in none space_in all_new
 
     pub pushed_is : record { list = put_behind list (change (new_participant named t)); named = named + 1 } ≡ changed_at t change now
     pushed_is =
         sym (changed_behind t change (record { list = list; named = named }) step.kept.lawful none) ∙ ap (changed_at t change) step.is
 
 -- what is kept of a state holds of the state
+pub short_kept : (now s : TraceState) (m : ℕ) → s ≡ now → IsMonitorState s m → length now.list ≤ most_listed
+short_kept now s m is kept = subst (λ (x : TraceState). length x.list ≤ most_listed) is kept.short
+
 pub few_kept : (now s : TraceState) (m : ℕ) → s ≡ now → IsMonitorState s m → memberships_in now ≤ most_memberships
 few_kept now s m is kept =
     let few = kept.few in

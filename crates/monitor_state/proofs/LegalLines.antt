@@ -3,9 +3,9 @@ use Rattle.std.proofs.Common.{◌≡◌, ℕ, ◌<◌, ◌≤◌, ◌+◌, Bool,
 use Rattle.std.specs.Prelude.{IfSome, bytes_eq, filter, if◌then◌else◌, is_some, nat_le, unwrap_or}
 use Rattle.std.proofs.lemmas.Bool.{cases_Bool, cond-true, cond-false, leb-false}
 use Rattle.std.proofs.lemmas.List.{length-append, length-map}
-use Rattle.monitor_laws.specs.Lines.{Announcement, Joins, Arrives, Leaves, Waits, Goes, Ends, Stands, Announces, TraceLine}
+use Rattle.monitor_laws.specs.Lines.{Announcement, Joins, Arrives, Leaves, Waits, Goes, Ends, Stands, Announces, PlaysAny, TraceLine}
 use Rattle.monitor_laws.specs.States.{AnyTask, Participant, TraceState, announced_by, is_live_wildcard, placed_at}
-use Rattle.monitor_laws.specs.Faults.{NamesWildcard, StillWaits, IsMemberAlready, IsNoMember, IsAtLastPhase, TooManyListed, TooManyMemberships, fault_where, faults_of, first_fault, has_no_room, is_go, is_join, is_of_tasks, is_wildcard_in, last_phase, memberships_in, most_memberships, participant_in, phase_on, said_faults, waits_now}
+use Rattle.monitor_laws.specs.Faults.{NamesTask, NamesWildcard, StillWaits, IsMemberAlready, IsNoMember, IsAtLastPhase, TooManyListed, TooManyMemberships, fault_where, faults_of, first_fault, has_no_room, is_go, is_join, is_of_tasks, is_task_in, is_wildcard_in, last_phase, memberships_in, most_memberships, participant_in, phase_on, said_faults, waits_now}
 use Rattle.std.specs.Borrow.{Bor}
 use Rattle.armus_base.proofs.Lists.{none_first}
 use Rattle.trace_lines.specs.Values.{place_value}
@@ -33,7 +33,8 @@ may_say t u Goes none = tt
 may_say t u Ends none = tt
 may_say t u Stands none = tt
 
-fewer : {A : Type 0} (test : A → Bool) (xs : List A) → length (filter test xs) ≤ length xs
+-- a filter is not longer
+pub fewer : {A : Type 0} (test : A → Bool) (xs : List A) → length (filter test xs) ≤ length xs
 fewer test [] = omega arith
 fewer test (x ∷ xs) = by_test (fewer test xs) (cases_Bool (test x))
   where
@@ -67,6 +68,7 @@ one_more false sum most a c few joins le = omega arith
 pub record IsAllowed (s : TraceState) (t : List ℕ) (what : Announcement) (place : Option (List ℕ)) : Type 0 where
   pub may : MayAnnounce what (participant_in s t)
   pub room : HasRoom s t (λ u. placed_at place (announced_by what u))
+  pub space : has_no_room s t ≡ false
 
 pub allowed : (s : TraceState) (t : List ℕ) (what : Announcement) (place : Option (List ℕ)) → memberships_in s ≤ most_memberships → faults_of s (Announces t what place) ≡ [] → IsAllowed s t what place
 allowed s t what place few legal =
@@ -87,11 +89,17 @@ allowed s t what place few legal =
       room =
           one_more (is_join what) (memberships_in s) most_memberships (memberships_had u) (memberships_had (placed_at place (announced_by what u))) few
           (λ joins. leb-false most_memberships (memberships_in s) (sym (ap (λ b. b && nat_le most_memberships (memberships_in s)) joins) ∙ not_many)) (omega arith);
+      space = no_row (has_no_room s t) TooManyListed listed_too.1;
     }
 
 -- a wildcard that any task may play has no more memberships than before
 pub any_room : (s : TraceState) (w : List ℕ) → memberships_in s ≤ most_memberships → HasRoom s w (λ u. record u { condition = AnyTask })
 any_room s w few = omega arith
+
+pub any_space : (s : TraceState) (w : List ℕ) → faults_of s (PlaysAny w) ≡ [] → has_no_room s w ≡ false
+any_space s w legal =
+    let rows = both_tables (fault_where (is_task_in s w) (NamesTask w)) (fault_where (has_no_room s w) TooManyListed) legal in
+    no_row (has_no_room s w) TooManyListed rows.1
 
 -- a line without a first fault has none
 pub no_fault : (s : TraceState) (l : TraceLine) → first_fault s (Some l) ≡ None → faults_of s l ≡ []

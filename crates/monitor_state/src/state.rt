@@ -1,8 +1,8 @@
 // The state of a monitor.
-ghost use Rattle.std.specs.Prelude.{◌≡◌, ◌+◌, ◌≤◌, ℕ, IfOk, OnOk, OnErr, List, [], Some, Option, ◌||◌, bytes_eq, find, is_some, length, nat_le, nat_lt};
+ghost use Rattle.std.specs.Prelude.{◌≡◌, ◌+◌, ◌≤◌, ℕ, IfOk, IfNone, OnOk, OnErr, List, [], false, Some, Option, ◌||◌, bytes_eq, find, is_some, length, nat_le, nat_lt};
 ghost use Rattle.std.specs.Option.{option_copied, option_map};
 ghost use Rattle.monitor_laws.specs.Lines.{Announces, AreGone, PlaysAny, PlaysOneOf};
-ghost use Rattle.monitor_laws.specs.Faults.{faults_of, first_fault, is_wildcard_in, memberships_in, most_listed, most_memberships, participant_in};
+ghost use Rattle.monitor_laws.specs.Faults.{faults_of, first_fault, has_no_room, is_wildcard_in, memberships_in, most_listed, most_memberships, participant_in};
 ghost use Rattle.monitor_laws.specs.States.{after_line, changed_at, is_there_as, nobody_named, task_numbers};
 ghost use Rattle.trace_lines.specs.Values.{line_value, place_value, said_value};
 ghost use Rattle.monitor_laws.proofs.Lawful.{IsLawfulState};
@@ -67,6 +67,7 @@ impl MonitorState {
         ensures lawful { IsLawfulState self.now }
         ensures ascending { AreAscending self.now.list }
         ensures few { memberships_in self.now ≤ most_memberships }
+        ensures short { length self.now.list ≤ most_listed }
     {
         &self.list
     }
@@ -76,6 +77,7 @@ impl MonitorState {
     fn change(&mut self, alloc: Global, t: &[u8], change: Change) -> Result<(), NoMemory>
         requires line { IsOfLine self.old (changed_at t.now (changed_value change) self.old) }
         requires may { MayChange change (participant_in self.old t.now) }
+        requires space { has_no_room self.old t.now ≡ false }
         requires few { memberships_in self.old + memberships_had (changed_value change (participant_in self.old t.now)) ≤ most_memberships + memberships_had (participant_in self.old t.now) }
         ensures changed { OnOk result (self.new ≡ changed_at t.now (changed_value change.entry) self.old) }
         ensures kept { OnErr result (self.new ≡ self.old) }
@@ -216,7 +218,8 @@ impl MonitorState {
 
     // The first fault of a line by which one of these tasks may play the wildcard w, apart from its memberships.
     fn one_of_fault<'a>(&self, w: &'a [u8], names: &'a [u8]) -> Option<FaultOfLine<'a>>
-        ensures { first_fault self.now (Some (PlaysOneOf w.now (spaced_words names.now))) ≡ first_of_two (option_map fault_of_line result) (many_fault (nat_lt most_memberships (memberships_in (after_line self.now (PlaysOneOf w.now (spaced_words names.now)))))) }
+        ensures first { first_fault self.now (Some (PlaysOneOf w.now (spaced_words names.now))) ≡ first_of_two (option_map fault_of_line result) (many_fault (nat_lt most_memberships (memberships_in (after_line self.now (PlaysOneOf w.now (spaced_words names.now)))))) }
+        ensures space { IfNone result (has_no_room self.now w.now ≡ false) }
     {
         let _ = &self.memberships;
         one_of_fault(
@@ -255,6 +258,7 @@ impl MonitorState {
     ) -> Result<(), NoMemory>
         requires numbers { numbers.items ≡ task_numbers self.old (spaced_words names.now) }
         requires few { memberships_in (after_line self.old (PlaysOneOf w.now (spaced_words names.now))) ≤ most_memberships }
+        requires space { has_no_room self.old w.now ≡ false }
         ensures taken { OnOk result (self.new ≡ after_line self.old (PlaysOneOf w.now (spaced_words names.now))) }
         ensures kept { OnErr result (self.new ≡ self.old) }
     {
@@ -315,6 +319,7 @@ impl MonitorState {
         w: &[u8],
         names: &[u8],
     ) -> Result<Option<FaultOfLine<'a>>, NoMemory>
+        requires space { has_no_room self.old w.now ≡ false }
         ensures fault { IfOk result (λ fault. option_map fault_of_line fault ≡ many_fault (nat_lt most_memberships (memberships_in (after_line self.old (PlaysOneOf w.now (spaced_words names.now)))))) }
         ensures taken { IfOk result (λ fault. self.new ≡ taken_state self.old (PlaysOneOf w.now (spaced_words names.now)) (option_map fault_of_line fault)) }
         ensures kept { OnErr result (self.new ≡ self.old) }

@@ -14,7 +14,7 @@ index-requires c =
 
 pub memberships_had-before-requires : goal.memberships_had-before-requires
 memberships_had-before-requires c =
-    let step : IsStep c.args.self.now c.self.inside.list.items c.self.inside.named c.self.inside.memberships c.args.t.now (changed_value c.args.change) = record { is = c.self.view_is; kept = c.self.invariant; line = c.requires.line; room = c.requires.few } in
+    let step : IsStep c.args.self.now c.self.inside.list.items c.self.inside.named c.self.inside.memberships c.args.t.now (changed_value c.args.change) = record { is = c.self.view_is; kept = c.self.invariant; line = c.requires.line; room = c.requires.few; space = c.requires.space } in
     let first : IsFirstAt (is_there_as c.args.t.now) c.self.inside.list.items c.in-Some.at = subst (λ l. IsFirstAt (is_there_as c.args.t.now) l c.in-Some.at) c.deref.ensures.value c.in-Some.ensures.at in
     few_before c.args.self.now c.self.inside.list.items c.self.inside.named c.self.inside.memberships c.args.t.now (changed_value c.args.change) step c.in-Some.at c.index.result.now first c.index.ensures
 
@@ -25,13 +25,13 @@ change_at-requires-clause-place c =
 
 pub change_at-requires-clause-may : goal.change_at-requires-clause-may
 change_at-requires-clause-may c =
-    let step : IsStep c.args.self.now c.self.inside.list.items c.self.inside.named c.self.inside.memberships c.args.t.now (changed_value c.args.change) = record { is = c.self.view_is; kept = c.self.invariant; line = c.requires.line; room = c.requires.few } in
+    let step : IsStep c.args.self.now c.self.inside.list.items c.self.inside.named c.self.inside.memberships c.args.t.now (changed_value c.args.change) = record { is = c.self.view_is; kept = c.self.invariant; line = c.requires.line; room = c.requires.few; space = c.requires.space } in
     let first : IsFirstAt (is_there_as c.args.t.now) c.self.inside.list.items c.in-Some.at = subst (λ l. IsFirstAt (is_there_as c.args.t.now) l c.in-Some.at) c.deref.ensures.value c.in-Some.ensures.at in
     λ u read. holds_there c.args.self.now c.self.inside.list.items c.self.inside.named c.self.inside.memberships c.args.t.now (changed_value c.args.change) step c.in-Some.at u first read (MayChange c.args.change) c.requires.may
 
 pub change_at-requires-clause-few : goal.change_at-requires-clause-few
 change_at-requires-clause-few c =
-    let step : IsStep c.args.self.now c.self.inside.list.items c.self.inside.named c.self.inside.memberships c.args.t.now (changed_value c.args.change) = record { is = c.self.view_is; kept = c.self.invariant; line = c.requires.line; room = c.requires.few } in
+    let step : IsStep c.args.self.now c.self.inside.list.items c.self.inside.named c.self.inside.memberships c.args.t.now (changed_value c.args.change) = record { is = c.self.view_is; kept = c.self.invariant; line = c.requires.line; room = c.requires.few; space = c.requires.space } in
     let first : IsFirstAt (is_there_as c.args.t.now) c.self.inside.list.items c.in-Some.at = subst (λ l. IsFirstAt (is_there_as c.args.t.now) l c.in-Some.at) c.deref.ensures.value c.in-Some.ensures.at in
     λ u read. few_changed c.args.self.now c.self.inside.list.items c.self.inside.named c.self.inside.memberships c.args.t.now (changed_value c.args.change) step c.in-Some.at u first read
 
@@ -50,7 +50,7 @@ returns-in_err-after-in-Some-clause-kept c =
 
 pub overflow_sub-self : goal.overflow_sub-self
 overflow_sub-self c =
-    let step : IsStep c.args.self.now c.self.inside.list.items c.self.inside.named c.self.inside.memberships c.args.t.now (changed_value c.args.change) = record { is = c.self.view_is; kept = c.self.invariant; line = c.requires.line; room = c.requires.few } in
+    let step : IsStep c.args.self.now c.self.inside.list.items c.self.inside.named c.self.inside.memberships c.args.t.now (changed_value c.args.change) = record { is = c.self.view_is; kept = c.self.invariant; line = c.requires.line; room = c.requires.few; space = c.requires.space } in
     let first : IsFirstAt (is_there_as c.args.t.now) c.self.inside.list.items c.in-Some.at = subst (λ l. IsFirstAt (is_there_as c.args.t.now) l c.in-Some.at) c.deref.ensures.value c.in-Some.ensures.at in
     let part = had_before c.args.self.now c.self.inside.list.items c.self.inside.named c.self.inside.memberships c.args.t.now (changed_value c.args.change) step c.in-Some.at c.index.result.now first c.index.ensures in
     let before = c.memberships_had-before.ensures in
@@ -58,7 +58,7 @@ overflow_sub-self c =
 
 pub overflow_add-self : goal.overflow_add-self
 overflow_add-self c =
-    let step : IsStep c.args.self.now c.self.inside.list.items c.self.inside.named c.self.inside.memberships c.args.t.now (changed_value c.args.change) = record { is = c.self.view_is; kept = c.self.invariant; line = c.requires.line; room = c.requires.few } in
+    let step : IsStep c.args.self.now c.self.inside.list.items c.self.inside.named c.self.inside.memberships c.args.t.now (changed_value c.args.change) = record { is = c.self.view_is; kept = c.self.invariant; line = c.requires.line; room = c.requires.few; space = c.requires.space } in
     let first : IsFirstAt (is_there_as c.args.t.now) c.self.inside.list.items c.in-Some.at = subst (λ l. IsFirstAt (is_there_as c.args.t.now) l c.in-Some.at) c.deref.ensures.value c.in-Some.ensures.at in
     let before = c.memberships_had-before.ensures in
     let after = c.in_ok-after-in-Some.ensures.count c.index.result.now c.index.ensures in
@@ -68,7 +68,7 @@ overflow_add-self c =
 
 pub invariant_of-self-in-Some : goal.invariant_of-self-in-Some
 invariant_of-self-in-Some c =
-    let step : IsStep c.args.self.now c.self.inside.list.items c.self.inside.named c.self.inside.memberships c.args.t.now (changed_value c.args.change) = record { is = c.self.view_is; kept = c.self.invariant; line = c.requires.line; room = c.requires.few } in
+    let step : IsStep c.args.self.now c.self.inside.list.items c.self.inside.named c.self.inside.memberships c.args.t.now (changed_value c.args.change) = record { is = c.self.view_is; kept = c.self.invariant; line = c.requires.line; room = c.requires.few; space = c.requires.space } in
     let first : IsFirstAt (is_there_as c.args.t.now) c.self.inside.list.items c.in-Some.at = subst (λ l. IsFirstAt (is_there_as c.args.t.now) l c.in-Some.at) c.deref.ensures.value c.in-Some.ensures.at in
     let before = c.memberships_had-before.ensures in
     let after = c.in_ok-after-in-Some.ensures.count c.index.result.now c.index.ensures in
@@ -92,13 +92,13 @@ returns-in_err-named-in-None-clause-kept c =
 
 pub change_behind-requires-clause-may : goal.change_behind-requires-clause-may
 change_behind-requires-clause-may c =
-    let step : IsStep c.args.self.now c.self.inside.list.items c.self.inside.named c.self.inside.memberships c.args.t.now (changed_value c.args.change) = record { is = c.self.view_is; kept = c.self.invariant; line = c.requires.line; room = c.requires.few } in
+    let step : IsStep c.args.self.now c.self.inside.list.items c.self.inside.named c.self.inside.memberships c.args.t.now (changed_value c.args.change) = record { is = c.self.view_is; kept = c.self.invariant; line = c.requires.line; room = c.requires.few; space = c.requires.space } in
     let none : list_any (is_there_as c.args.t.now) c.self.inside.list.items ≡ false = ap (list_any (is_there_as c.args.t.now)) (sym c.deref.ensures.value) ∙ c.in-None.ensures.none in
     holds_new c.args.self.now c.self.inside.list.items c.self.inside.named c.self.inside.memberships c.args.t.now (changed_value c.args.change) step none (MayChange c.args.change) c.requires.may
 
 pub change_behind-requires-clause-few : goal.change_behind-requires-clause-few
 change_behind-requires-clause-few c =
-    let step : IsStep c.args.self.now c.self.inside.list.items c.self.inside.named c.self.inside.memberships c.args.t.now (changed_value c.args.change) = record { is = c.self.view_is; kept = c.self.invariant; line = c.requires.line; room = c.requires.few } in
+    let step : IsStep c.args.self.now c.self.inside.list.items c.self.inside.named c.self.inside.memberships c.args.t.now (changed_value c.args.change) = record { is = c.self.view_is; kept = c.self.invariant; line = c.requires.line; room = c.requires.few; space = c.requires.space } in
     let none : list_any (is_there_as c.args.t.now) c.self.inside.list.items ≡ false = ap (list_any (is_there_as c.args.t.now)) (sym c.deref.ensures.value) ∙ c.in-None.ensures.none in
     few_new c.args.self.now c.self.inside.list.items c.self.inside.named c.self.inside.memberships c.args.t.now (changed_value c.args.change) step none
 
@@ -117,7 +117,7 @@ returns-in_err-after-in-None-clause-kept c =
 
 pub overflow_add-self-in-None : goal.overflow_add-self-in-None
 overflow_add-self-in-None c =
-    let step : IsStep c.args.self.now c.self.inside.list.items c.self.inside.named c.self.inside.memberships c.args.t.now (changed_value c.args.change) = record { is = c.self.view_is; kept = c.self.invariant; line = c.requires.line; room = c.requires.few } in
+    let step : IsStep c.args.self.now c.self.inside.list.items c.self.inside.named c.self.inside.memberships c.args.t.now (changed_value c.args.change) = record { is = c.self.view_is; kept = c.self.invariant; line = c.requires.line; room = c.requires.few; space = c.requires.space } in
     let none : list_any (is_there_as c.args.t.now) c.self.inside.list.items ≡ false = ap (list_any (is_there_as c.args.t.now)) (sym c.deref.ensures.value) ∙ c.in-None.ensures.none in
     let after = c.in_ok-after-in-None.ensures.count in
     let kept = kept_pushed c.args.self.now c.self.inside.list.items c.self.inside.named c.self.inside.memberships c.args.t.now (changed_value c.args.change) step none in
@@ -126,7 +126,7 @@ overflow_add-self-in-None c =
 
 pub invariant_of-self-in-None : goal.invariant_of-self-in-None
 invariant_of-self-in-None c =
-    let step : IsStep c.args.self.now c.self.inside.list.items c.self.inside.named c.self.inside.memberships c.args.t.now (changed_value c.args.change) = record { is = c.self.view_is; kept = c.self.invariant; line = c.requires.line; room = c.requires.few } in
+    let step : IsStep c.args.self.now c.self.inside.list.items c.self.inside.named c.self.inside.memberships c.args.t.now (changed_value c.args.change) = record { is = c.self.view_is; kept = c.self.invariant; line = c.requires.line; room = c.requires.few; space = c.requires.space } in
     let none : list_any (is_there_as c.args.t.now) c.self.inside.list.items ≡ false = ap (list_any (is_there_as c.args.t.now)) (sym c.deref.ensures.value) ∙ c.in-None.ensures.none in
     let after = c.in_ok-after-in-None.ensures.count in
     let kept = kept_pushed c.args.self.now c.self.inside.list.items c.self.inside.named c.self.inside.memberships c.args.t.now (changed_value c.args.change) step none in
@@ -137,13 +137,13 @@ invariant_of-self-in-None c =
 
 pub returns-in_ok-after-in-Some-clause-changed : goal.returns-in_ok-after-in-Some-clause-changed
 returns-in_ok-after-in-Some-clause-changed c =
-    let step : IsStep c.args.self.now c.self.inside.list.items c.self.inside.named c.self.inside.memberships c.args.t.now (changed_value c.args.change) = record { is = c.self.view_is; kept = c.self.invariant; line = c.requires.line; room = c.requires.few } in
+    let step : IsStep c.args.self.now c.self.inside.list.items c.self.inside.named c.self.inside.memberships c.args.t.now (changed_value c.args.change) = record { is = c.self.view_is; kept = c.self.invariant; line = c.requires.line; room = c.requires.few; space = c.requires.space } in
     let first : IsFirstAt (is_there_as c.args.t.now) c.self.inside.list.items c.in-Some.at = subst (λ l. IsFirstAt (is_there_as c.args.t.now) l c.in-Some.at) c.deref.ensures.value c.in-Some.ensures.at in
     ap (λ l. record { list = l; named = c.self.inside.named }) (c.in_ok-after-in-Some.ensures.changed c.index.result.now c.index.ensures) ∙ changed_is c.args.self.now c.self.inside.list.items c.self.inside.named c.self.inside.memberships c.args.t.now (changed_value c.args.change) step c.in-Some.at c.index.result.now first c.index.ensures
 
 pub returns-in_ok-after-in-None-clause-changed : goal.returns-in_ok-after-in-None-clause-changed
 returns-in_ok-after-in-None-clause-changed c =
-    let step : IsStep c.args.self.now c.self.inside.list.items c.self.inside.named c.self.inside.memberships c.args.t.now (changed_value c.args.change) = record { is = c.self.view_is; kept = c.self.invariant; line = c.requires.line; room = c.requires.few } in
+    let step : IsStep c.args.self.now c.self.inside.list.items c.self.inside.named c.self.inside.memberships c.args.t.now (changed_value c.args.change) = record { is = c.self.view_is; kept = c.self.invariant; line = c.requires.line; room = c.requires.few; space = c.requires.space } in
     let none : list_any (is_there_as c.args.t.now) c.self.inside.list.items ≡ false = ap (list_any (is_there_as c.args.t.now)) (sym c.deref.ensures.value) ∙ c.in-None.ensures.none in
     let named : c.in_ok-named-in-None.named ≡ c.self.inside.named + 1 = search rules in
     ap (λ l. record { list = l; named = c.in_ok-named-in-None.named }) c.in_ok-after-in-None.ensures.changed
