@@ -15,8 +15,8 @@ ghost use Rattle.monitor_state.specs.inside.Changes.{IsOfLine, MayChange, change
 
 use crate::change::Change;
 use crate::faults::{announced_fault, any_fault, is_wildcard_there, one_of_fault};
-use crate::goes::{end_all, keep_listed, memberships_of};
-use crate::listing::{change_at, change_behind, place_of};
+use crate::goes::memberships_of;
+use crate::listing::Listing;
 use crate::players::task_numbers;
 use crate::words::split_word;
 use crate::{FaultOfLine, ListedCondition, ListedParticipant};
@@ -33,7 +33,7 @@ const MOST_MEMBERSHIPS: usize = 1048576;
 /// The list of tasks and wildcards, in the order in which they were first named, and how many were ever named.
 #[derive(Drop)]
 pub struct MonitorState {
-    list: Vec<ListedParticipant>,
+    listing: Listing,
     named: u64,
     memberships: usize,
 }
@@ -44,9 +44,9 @@ impl Model for MonitorState {
 
     ghost Value = { TraceState };
 
-    ghost view = { λ s. record { list = s.list.items; named = s.named } };
+    ghost view = { λ s. record { list = s.listing; named = s.named } };
 
-    ghost invariant = { λ s. IsMonitorState (record { list = s.list.items; named = s.named }) s.memberships };
+    ghost invariant = { λ s. IsMonitorState (record { list = s.listing; named = s.named }) s.memberships };
 }
 
 impl MonitorState {
@@ -55,7 +55,7 @@ impl MonitorState {
         ensures { result ≡ nobody_named }
     {
         MonitorState {
-            list: Vec::new(alloc),
+            listing: Listing::new(alloc),
             named: 0,
             memberships: 0,
         }
@@ -69,7 +69,7 @@ impl MonitorState {
         ensures few { memberships_in self.now ≤ most_memberships }
         ensures short { length self.now.list ≤ most_listed }
     {
-        &self.list
+        self.listing.as_slice()
     }
 
     #[tactic(none)]
@@ -82,16 +82,16 @@ impl MonitorState {
         ensures changed { OnOk result (self.new ≡ changed_at t.now (changed_value change.entry) self.old) }
         ensures kept { OnErr result (self.new ≡ self.old) }
     {
-        match place_of(&self.list, t) {
+        match self.listing.place_of(t) {
             Some(at) => {
-                let before = self.list[at].memberships_had();
-                let after = change_at(&mut self.list, at, alloc, change)?;
+                let before = self.listing.one_at(at).memberships_had();
+                let after = self.listing.change_at(at, alloc, t, change)?;
                 self.memberships = self.memberships - before + after;
                 Ok(())
             }
             None => {
                 let named = self.named.checked_add(1).ok_or(NoMemory)?;
-                let after = change_behind(&mut self.list, self.named, alloc, t, change)?;
+                let after = self.listing.change_behind(self.named, alloc, t, change)?;
                 self.named = named;
                 self.memberships += after;
                 Ok(())
@@ -103,7 +103,7 @@ impl MonitorState {
     fn is_full(&self) -> bool
         ensures { result ≡ nat_le most_listed (length self.now.list) }
     {
-        MOST_LISTED <= self.list.len()
+        MOST_LISTED <= self.listing.as_slice().len()
     }
 
     // Whether there are as many memberships as there may be.
@@ -117,9 +117,9 @@ impl MonitorState {
     fn found(&self, t: &[u8]) -> Option<&ListedParticipant>
         ensures { option_copied result ≡ find (is_there_as t.now) self.now.list }
     {
-        match place_of(&self.list, t) {
+        match self.listing.place_of(t) {
             None => None,
-            Some(at) => Some(&self.list[at]),
+            Some(at) => Some(self.listing.one_at(at)),
         }
     }
 
@@ -181,9 +181,8 @@ impl MonitorState {
     fn go_all(&mut self, beginning: &[u8])
         ensures { self.new ≡ after_line self.old (AreGone beginning.now) }
     {
-        end_all(&mut self.list, beginning);
-        keep_listed(&mut self.list);
-        self.memberships = memberships_of(&self.list);
+        self.listing.go_all(beginning);
+        self.memberships = memberships_of(self.listing.as_slice());
     }
 
     // Whether a wildcard is there with the name t.
@@ -238,10 +237,10 @@ impl MonitorState {
         if MOST_MEMBERSHIPS < count {
             return true;
         }
-        match place_of(&self.list, w) {
+        match self.listing.place_of(w) {
             None => MOST_MEMBERSHIPS < self.memberships + count,
             Some(at) => {
-                let u = &self.list[at];
+                let u = self.listing.one_at(at);
                 let others = self.memberships - u.memberships_had();
                 MOST_MEMBERSHIPS < others + u.memberships().len() + count
             }
@@ -324,7 +323,7 @@ impl MonitorState {
         ensures taken { IfOk result (λ fault. self.new ≡ taken_state self.old (PlaysOneOf w.now (spaced_words names.now)) (option_map fault_of_line fault)) }
         ensures kept { OnErr result (self.new ≡ self.old) }
     {
-        let numbers = task_numbers(&self.list, alloc, names)?;
+        let numbers = task_numbers(self.listing.as_slice(), alloc, names)?;
         if self.has_too_many(w, numbers.len()) {
             return Ok(Some(FaultOfLine::TooManyMemberships));
         }
