@@ -23,7 +23,7 @@ use Rattle.monitor_laws.specs.States.{announced_by}
 use Rattle.monitor_state.specs.NumberedLists.{AreAscending}
 use Rattle.monitor_state.specs.inside.Changes.{changed_value, put_at, put_behind}
 use Rattle.monitor_state.specs.inside.FirstPlaces.{IsFirstAt}
-use Rattle.monitor_state.specs.inside.Numbers.{HasNumbersOf, IsInOrder, number_by_name}
+use Rattle.monitor_state.specs.inside.Numbers.{HasNumbersOf, HasEachNameOnce, number_by_name}
 use Rattle.monitor_state.specs.inside.Players.{participant_number}
 use Rattle.monitor_state.proofs.ListChanges.{none_behind}
 use Rattle.monitor_state.proofs.OnePassing.{first_place, first_tail, found_first, found_none, none_at_places}
@@ -45,7 +45,7 @@ numbers_ascend (u ∷ us) zero (suc j) d up less within = up.0 (get_or us j d) (
 numbers_ascend (u ∷ us) (suc i) (suc j) d up less within = numbers_ascend us i j d up.1 (omega arith) (omega arith)
 
 -- who is there with a name has the number that a search looks for
-module _ (us : List Participant) (order : IsInOrder us) (numbers : BTreeMap (Vec ℕ) ℕ) (has : HasNumbersOf us numbers) (t : List ℕ) where
+module _ (us : List Participant) (order : HasEachNameOnce us) (numbers : BTreeMap (Vec ℕ) ℕ) (has : HasNumbersOf us numbers) (t : List ℕ) where
   pub nobody_by_name : number_by_name numbers t ≡ None → list_any (is_there_as t) us ≡ false
   nobody_by_name none = elim (cases_Bool (list_any (is_there_as t) us)) [
     | inr off ↦ off
@@ -159,7 +159,7 @@ stays_there t v there =
     ap (λ b. b || not (length v.phases == 0)) (and_parts (is_live_task v.condition || is_live_wildcard v.condition) (bytes_eq t v.name) there).0
 
 -- of who is there with the name t another is made in its place
-module _ (us : List Participant) (order : IsInOrder us) (t : List ℕ) (i : ℕ) (u v : Participant) (first : IsFirstAt (is_there_as t) us i) (read : u ≡ get_or us i u) (name : v.name ≡ u.name) where
+module _ (us : List Participant) (order : HasEachNameOnce us) (t : List ℕ) (i : ℕ) (u v : Participant) (first : IsFirstAt (is_there_as t) us i) (read : u ≡ get_or us i u) (name : v.name ≡ u.name) where
   there_before : is_there_as t u ≡ true
   there_before = ap (is_there_as t) read ∙ first.here u
 

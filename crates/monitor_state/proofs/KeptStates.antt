@@ -11,7 +11,7 @@ use Rattle.monitor_laws.proofs.Lawful.{IsLawfulState, lawful_after, lawful_lines
 use Rattle.monitor_state.specs.inside.FirstPlaces.{IsFirstAt}
 use Rattle.monitor_state.specs.NumberedLists.{AreAscending}
 use Rattle.monitor_state.specs.inside.Changes.{IsOfLine, memberships_had, put_at, put_behind}
-use Rattle.monitor_state.specs.inside.Numbers.{IsInOrder}
+use Rattle.monitor_state.specs.inside.Numbers.{HasEachNameOnce}
 use Rattle.monitor_state.specs.inside.States.{IsMonitorState}
 use Rattle.monitor_state.proofs.OnePassing.{first_place, found_first, found_none}
 use Rattle.monitor_state.proofs.Ascending.{ascending_after}
@@ -71,7 +71,7 @@ kept_behind s m t change kept line none space few =
     }
 
 -- what is kept is in order
-pub in_order : (s : TraceState) (m : ℕ) → IsMonitorState s m → IsInOrder s.list
+pub in_order : (s : TraceState) (m : ℕ) → IsMonitorState s m → HasEachNameOnce s.list
 in_order s m kept = record { ascending = kept.ascending; one_name = kept.lawful.one_name }
 
 pub kept_new : IsMonitorState nobody_named 0

@@ -5,7 +5,7 @@ ghost use Rattle.monitor_laws.specs.Faults.{most_memberships};
 ghost use Rattle.monitor_laws.specs.States.{Participant as Listed, gone_by, is_there_as, new_participant, stays_listed};
 ghost use Rattle.monitor_state.specs.inside.Changes.{MayChange, changed_value, memberships_had, put_at, put_behind};
 ghost use Rattle.monitor_state.specs.inside.FirstPlaces.{IsFirstAt};
-ghost use Rattle.monitor_state.specs.inside.Numbers.{IsInOrder};
+ghost use Rattle.monitor_state.specs.inside.Numbers.{HasEachNameOnce};
 
 use crate::ListedParticipant;
 use crate::change::Change;
@@ -113,7 +113,7 @@ impl Listing {
 
     /// Where who is there with the name t stands.
     pub(crate) fn place_of(&self, t: &[u8]) -> Option<usize>
-        requires { IsInOrder self.now }
+        requires { HasEachNameOnce self.now }
         ensures at { IfSome result (IsFirstAt (is_there_as t.now) self.now) }
         ensures none { IfNone result (list_any (is_there_as t.now) self.now ≡ false) }
     {
@@ -134,7 +134,7 @@ impl Listing {
         t: &[u8],
         change: Change,
     ) -> Result<usize, NoMemory>
-        requires order { IsInOrder self.old }
+        requires order { HasEachNameOnce self.old }
         requires first { IsFirstAt (is_there_as t.now) self.old at }
         requires may { (u : Listed) → u ≡ slice_index_or self.old at u → MayChange change u }
         requires few { (u : Listed) → u ≡ slice_index_or self.old at u → memberships_had (changed_value change u) ≤ most_memberships }

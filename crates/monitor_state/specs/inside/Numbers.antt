@@ -18,6 +18,6 @@ abbrev pub HasNumbersOf : List Participant → BTreeMap (Vec ℕ) ℕ → Type 0
 HasNumbersOf us numbers = (t : List ℕ) → number_by_name numbers t ≡ option_map participant_number (find (is_there_as t) us)
 
 -- numbers ascend, and no two who are there have one name
-pub record IsInOrder (us : List Participant) : Type 0 where
+pub record HasEachNameOnce (us : List Participant) : Type 0 where
   pub ascending : AreAscending us
   pub one_name : (t : List ℕ) (u v : Participant) → Contains us u → Contains us v → is_there_as t u ≡ true → is_there_as t v ≡ true → u ≡ v

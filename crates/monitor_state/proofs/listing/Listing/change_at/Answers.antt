@@ -6,7 +6,7 @@ use Rattle.std.proofs.lemmas.List.{get_or_default}
 use Rattle.monitor_laws.specs.States.{Participant, is_there_as, new_participant}
 use Rattle.monitor_state.specs.inside.Changes.{changed_value}
 use Rattle.monitor_state.specs.inside.FirstPlaces.{IsFirstAt}
-use Rattle.monitor_state.specs.inside.Numbers.{IsInOrder}
+use Rattle.monitor_state.specs.inside.Numbers.{HasEachNameOnce}
 use Rattle.monitor_state.specs.inside.Players.{participant_number}
 use Rattle.monitor_state.proofs.ByName.{changed_name, changed_number, number_lost, numbers_kept}
 use Rattle.monitor_state.proofs.listing.Listing.change_at.Goals as goal
@@ -15,7 +15,7 @@ pub invariant_of-self-then-not-after : goal.invariant_of-self-then-not-after
 invariant_of-self-then-not-after c =
     let us = c.self.inside.list.items in
     let t = c.args.t.now in
-    let order : IsInOrder us = subst IsInOrder (sym c.self.view_is) c.requires.order in
+    let order : HasEachNameOnce us = subst HasEachNameOnce (sym c.self.view_is) c.requires.order in
     let first : IsFirstAt (is_there_as t) us c.args.at = subst (λ l. IsFirstAt (is_there_as t) l c.args.at) (sym c.self.view_is) c.requires.first in
     let u = get_or us c.args.at (new_participant 0 t) in
     let read : u ≡ get_or us c.args.at u = get_or_default us c.args.at (new_participant 0 t) u first.within in
@@ -30,7 +30,7 @@ pub invariant_of-self-else-not-after : goal.invariant_of-self-else-not-after
 invariant_of-self-else-not-after c =
     let us = c.self.inside.list.items in
     let t = c.args.t.now in
-    let order : IsInOrder us = subst IsInOrder (sym c.self.view_is) c.requires.order in
+    let order : HasEachNameOnce us = subst HasEachNameOnce (sym c.self.view_is) c.requires.order in
     let first : IsFirstAt (is_there_as t) us c.args.at = subst (λ l. IsFirstAt (is_there_as t) l c.args.at) (sym c.self.view_is) c.requires.first in
     let u = get_or us c.args.at (new_participant 0 t) in
     let read : u ≡ get_or us c.args.at u = get_or_default us c.args.at (new_participant 0 t) u first.within in

@@ -6,19 +6,19 @@ use Rattle.std.specs.Ordering.{nat_cmp}
 use Rattle.std.proofs.lemmas.List.Sorted.{answers_always}
 use Rattle.monitor_laws.specs.States.{Participant, is_there_as}
 use Rattle.monitor_state.specs.inside.FirstPlaces.{IsFirstAt}
-use Rattle.monitor_state.specs.inside.Numbers.{IsInOrder}
+use Rattle.monitor_state.specs.inside.Numbers.{HasEachNameOnce}
 use Rattle.monitor_state.proofs.ByName.{never_none, nobody_by_name, ok_at, searched}
 use Rattle.monitor_state.proofs.listing.Listing.place_of.Goals as goal
 
 pub returns-in-None-clause-none : goal.returns-in-None-clause-none
 returns-in-None-clause-none c =
-    let order : IsInOrder c.self.inside.list.items = subst IsInOrder (sym c.self.view_is) c.requires in
+    let order : HasEachNameOnce c.self.inside.list.items = subst HasEachNameOnce (sym c.self.view_is) c.requires in
     subst (λ us. list_any (is_there_as c.args.t.now) us ≡ false) c.self.view_is
     (nobody_by_name c.self.inside.list.items order c.self.inside.numbers c.self.invariant c.args.t.now (sym c.number_by_name.ensures ∙ c.in-None.is))
 
 pub returns-in-Some-clause-at : goal.returns-in-Some-clause-at
 returns-in-Some-clause-at c =
-    let order : IsInOrder c.self.inside.list.items = subst IsInOrder (sym c.self.view_is) c.requires in
+    let order : HasEachNameOnce c.self.inside.list.items = subst HasEachNameOnce (sym c.self.view_is) c.requires in
     let facts = c.binary_search_by_key.ensures in
     let by_number = facts.position (λ u. u.number) (answers_always _ _ _ (λ f a r g called. search rules)) in
     let found =
@@ -30,7 +30,7 @@ returns-in-Some-clause-at c =
 
 pub returns-in-Some-clause-none : goal.returns-in-Some-clause-none
 returns-in-Some-clause-none c =
-    let order : IsInOrder c.self.inside.list.items = subst IsInOrder (sym c.self.view_is) c.requires in
+    let order : HasEachNameOnce c.self.inside.list.items = subst HasEachNameOnce (sym c.self.view_is) c.requires in
     let facts = c.binary_search_by_key.ensures in
     let by_number = facts.position (λ u. u.number) (answers_always _ _ _ (λ f a r g called. search rules)) in
     let found =
