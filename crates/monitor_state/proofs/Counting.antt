@@ -3,6 +3,8 @@ use Rattle.std.proofs.Common.{◌≡◌, ℕ, ◌<◌, ◌≤◌, ◌+◌, true,
 use Rattle.std.specs.Prelude.{not, ◌||◌, ◌==◌, sum_by}
 use Rattle.std.specs.List.{remove}
 use Rattle.std.proofs.lemmas.Bool.{cases_Bool, cond-true, cond-false, ne_eqb}
+use Rattle.std.proofs.lemmas.List.{length-append, length-set}
+use Rattle.std.proofs.lemmas.List.Edits.{length-remove}
 use Rattle.std.proofs.lemmas.List.Sums.{sum_by-remove, sum_by-set, sum_by_push}
 use Rattle.monitor_laws.specs.States.{Condition, Running, Waiting, Ended, AnyTask, OneOf, Participant, is_live_task, is_live_wildcard, stays_listed}
 use Rattle.monitor_laws.specs.Faults.{tasks_had}
@@ -53,4 +55,26 @@ counted_behind us v = elim (cases_Bool (stays_listed v)) [
       let put : sum_by memberships_had (put_behind us v) ≡ sum_by memberships_had us = ap (sum_by memberships_had) (cond-false (stays_listed v) (us ++ v ∷ []) us gone) in
       let none = gone_has_none v gone in
       omega arith)
+]
+
+-- the list is not longer, or longer by one
+pub put_shorter : (us : List Participant) (i : ℕ) (v : Participant) → i < length us → length (put_at us i v) ≤ length us
+put_shorter us i v within = elim (cases_Bool (stays_listed v)) [
+  | inl stays ↦ (
+      let put = ap length (cond-true (stays_listed v) (set us i v) (remove us i) stays) in
+      let same = length-set us i v in
+      omega arith)
+  | inr gone ↦ (
+      let put = ap length (cond-false (stays_listed v) (set us i v) (remove us i) gone) in
+      let less = length-remove us i within in
+      omega arith)
+]
+
+pub put_longer : (us : List Participant) (v : Participant) → length (put_behind us v) ≤ length us + 1
+put_longer us v = elim (cases_Bool (stays_listed v)) [
+  | inl stays ↦ (
+      let put = ap length (cond-true (stays_listed v) (us ++ v ∷ []) us stays) in
+      let more = length-append us (v ∷ []) in
+      omega arith)
+  | inr gone ↦ (let put = ap length (cond-false (stays_listed v) (us ++ v ∷ []) us gone) in omega arith)
 ]

@@ -1,17 +1,18 @@
 -- The list, where all whose names begin so have ended.
-use Rattle.std.proofs.Common.{◌≡◌, ℕ, ◌<◌, ◌≤◌, ◌+◌, Bool, true, false, List, [], ◌∷◌, ◌++◌, length, get_or, take, drop, set, map, sym, ◌∙◌, ap, inl, inr, ◌⊎◌, arith, append_assoc}
+use Rattle.std.proofs.Common.{◌≡◌, ℕ, ◌<◌, ◌≤◌, ◌+◌, true, false, List, [], ◌∷◌, ◌++◌, length, get_or, take, drop, set, map, sym, ◌∙◌, ap, inl, inr, ◌⊎◌, arith, append_assoc}
 use Rattle.std.specs.Prelude.{eqb, filter, sum_by}
 use Rattle.std.specs.List.{starts_with}
 use Rattle.std.proofs.lemmas.Bool.{cases_Bool, cond-true, cond-false}
 use Rattle.std.proofs.lemmas.List.{drop_more, get_or_at, length-map, length-take-le, map-append, set_at, take_more}
-use Rattle.std.proofs.lemmas.List.Sums.{count_by-le-length, length-filter, sum_by-cons}
+use Rattle.std.proofs.lemmas.List.Sums.{sum_by-cons}
 use Rattle.monitor_laws.specs.Lines.{AreGone}
 use Rattle.monitor_laws.specs.States.{Ended, Participant, TraceState, after_line, gone_by, stays_listed}
-use Rattle.monitor_laws.specs.Faults.{memberships_in, most_listed, most_memberships}
+use Rattle.monitor_laws.specs.Faults.{memberships_in, most_memberships}
 use Rattle.monitor_laws.proofs.Lawful.{lawful_after}
 use Rattle.monitor_state.specs.inside.Changes.{memberships_had}
 use Rattle.monitor_state.specs.inside.States.{IsMonitorState}
 use Rattle.monitor_state.proofs.Ascending.{ascending_after}
+use Rattle.monitor_state.proofs.LegalLines.{fewer}
 
 -- one more is changed
 pub one_more_mapped :
@@ -53,17 +54,6 @@ gone_sum beginning (u ∷ us) = by_test (gone_sum beginning us) (cases_Bool (sta
         let all = sum_by-cons memberships_had u us in
         omega arith
 
--- the list is no longer than before
-kept_short : {A : Type 0} (test : A → Bool) (xs : List A) → length (filter test xs) ≤ length xs
-kept_short test xs = let e = length-filter test xs in let le = count_by-le-length test xs in omega arith
-
-gone_short : (s : TraceState) (m : ℕ) (beginning : List ℕ) → IsMonitorState s m → length (after_line s (AreGone beginning)).list ≤ most_listed
-gone_short s m beginning kept =
-    let less = kept_short stays_listed (map (gone_by beginning) s.list) in
-    let same = length-map s.list (gone_by beginning) in
-    let short = kept.short in
-    omega arith
-
 pub gone_few : (s : TraceState) (m : ℕ) (beginning : List ℕ) → IsMonitorState s m → memberships_in (after_line s (AreGone beginning)) ≤ most_memberships
 gone_few s m beginning kept =
     let less : memberships_in (after_line s (AreGone beginning)) ≤ memberships_in s = gone_sum beginning s.list in
@@ -79,5 +69,5 @@ kept_gone s m k beginning kept count =
       ascending = ascending_after s (AreGone beginning) kept.lawful kept.ascending;
       counted = count;
       few = omega arith;
-      short = gone_short s m beginning kept;
+      short = let short = kept.short in let same = length-map s.list (gone_by beginning) in let less = fewer stays_listed (map (gone_by beginning) s.list) in omega arith;
     }

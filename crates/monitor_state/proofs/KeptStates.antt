@@ -1,21 +1,22 @@
 -- What holds of a state that is kept holds after a line of one name.
-use Rattle.std.proofs.Common.{◌≡◌, ℕ, zero, suc, Bool, ◌∷◌, ◌++◌, ◌<◌, ◌≤◌, ◌+◌, ◌-◌, false, List, [], length, get_or, refl, sym, ◌∙◌, ap, subst, inl, inr, ◌⊎◌, true, arith}
-use Rattle.std.specs.Prelude.{not, ◌&&◌, if◌then◌else◌, nat_le, slice_set as set, unwrap_or}
-use Rattle.std.specs.List.{list_any, remove}
+use Rattle.std.proofs.Common.{◌≡◌, ℕ, ◌<◌, ◌≤◌, ◌+◌, ◌-◌, ◌&&◌, not, false, List, [], length, get_or, refl, sym, ◌∙◌, ap, subst, inl, inr, ◌⊎◌, true, arith}
+use Rattle.std.specs.Prelude.{nat_le, unwrap_or}
+use Rattle.std.specs.List.{list_any}
 use Rattle.std.proofs.lemmas.Bool.{cases_Bool, leb-false}
-use Rattle.std.proofs.lemmas.List.{get_or_default, length-append, length-set}
+use Rattle.std.proofs.lemmas.List.{get_or_default}
 use Rattle.monitor_laws.specs.Lines.{PlaysOneOf}
-use Rattle.monitor_laws.specs.States.{OneOf, Participant, TraceState, after_line, changed_at, is_there_as, new_participant, nobody_named, stays_listed, task_numbers}
+use Rattle.monitor_laws.specs.States.{OneOf, Participant, TraceState, after_line, changed_at, is_there_as, new_participant, nobody_named, task_numbers}
 use Rattle.monitor_laws.specs.Faults.{has_no_room, memberships_in, most_listed, most_memberships, participant_in}
 use Rattle.monitor_laws.proofs.Lawful.{IsLawfulState, lawful_after, lawful_lines}
 use Rattle.monitor_state.specs.inside.FirstPlaces.{IsFirstAt}
 use Rattle.monitor_state.specs.NumberedLists.{AreAscending}
 use Rattle.monitor_state.specs.inside.Changes.{IsOfLine, memberships_had, put_at, put_behind}
+use Rattle.monitor_state.specs.inside.Numbers.{HasEachNameOnce}
 use Rattle.monitor_state.specs.inside.States.{IsMonitorState}
 use Rattle.monitor_state.proofs.OnePassing.{first_place, found_first, found_none}
 use Rattle.monitor_state.proofs.Ascending.{ascending_after}
 use Rattle.monitor_state.proofs.ListChanges.{changed_behind, changed_in_place}
-use Rattle.monitor_state.proofs.Counting.{counted_at, counted_behind, had_within}
+use Rattle.monitor_state.proofs.Counting.{counted_at, counted_behind, had_within, put_longer, put_shorter}
 
 -- who is there stands at the first place
 pub there_at : (s : TraceState) (t : List ℕ) (i : ℕ) (u : Participant) → IsFirstAt (is_there_as t) s.list i → u ≡ get_or s.list i u → participant_in s t ≡ u
@@ -32,33 +33,6 @@ lawful_of_line s x m kept line = subst IsLawfulState line.1 (lawful_after s line
 ascending_of_line : (s x : TraceState) (m : ℕ) → IsMonitorState s m → IsOfLine s x → AreAscending x.list
 ascending_of_line s x m kept line = subst (λ (y : TraceState). AreAscending y.list) line.1 (ascending_after s line.0 kept.lawful kept.ascending)
 
--- one who is taken out is one less
-removed_short : {A : Type 0} (xs : List A) (i : ℕ) → length (remove xs i) ≤ length xs
-removed_short [] zero = omega arith
-removed_short [] (suc i) = omega arith
-removed_short (x ∷ xs) zero = omega arith
-removed_short (x ∷ xs) (suc i) = let rest = removed_short xs i in omega arith
-
--- the list is no longer than before
-put_at_short : (us : List Participant) (i : ℕ) (v : Participant) → length (put_at us i v) ≤ length us
-put_at_short us i v = by_test (stays_listed v)
-  where
-    by_test : (b : Bool) → length (if b then set us i v else remove us i) ≤ length us
-    by_test true = let e = length-set us i v in omega arith
-    by_test false = removed_short us i
-
--- the list is longer by one at most
-put_behind_short : (us : List Participant) (v : Participant) → length (put_behind us v) ≤ length us + 1
-put_behind_short us v = by_test (stays_listed v)
-  where
-    by_test : (b : Bool) → length (if b then us ++ v ∷ [] else us) ≤ length us + 1
-    by_test true = let e = length-append us (v ∷ []) in omega arith
-    by_test false = omega arith
-
--- where nobody is there with the name and there is room, the list is not full
-room_for_one : (s : TraceState) (t : List ℕ) → list_any (is_there_as t) s.list ≡ false → has_no_room s t ≡ false → length s.list < most_listed
-room_for_one s t none fits = leb-false most_listed (length s.list) (sym (ap (λ b. not b && nat_le most_listed (length s.list)) none) ∙ fits)
-
 pub kept_at :
     (s : TraceState) (m : ℕ) (t : List ℕ) (change : Participant → Participant) (i : ℕ) (u : Participant) → IsMonitorState s m → IsOfLine s (changed_at t change s) →
     IsFirstAt (is_there_as t) s.list i → u ≡ get_or s.list i u → memberships_in s + memberships_had (change u) ≤ most_memberships + memberships_had u →
@@ -68,33 +42,37 @@ kept_at s m t change i u kept line first read few =
     let sum : memberships_in (record { list = put_at s.list i (change u); named = s.named }) + memberships_had u ≡ memberships_in s + memberships_had (change u) = counted_at s.list i u (change u) first.within read in
     let part : memberships_had u ≤ memberships_in s = had_within s.list i u first.within read in
     let count = kept.counted in
-    let less = put_at_short s.list i (change u) in
-    let short = kept.short in
     record {
       lawful = subst IsLawfulState is (lawful_of_line s (changed_at t change s) m kept line);
       ascending = subst (λ (y : TraceState). AreAscending y.list) is (ascending_of_line s (changed_at t change s) m kept line);
       counted = omega arith;
       few = omega arith;
-      short = omega arith;
+      short = let short = kept.short in let long = put_shorter s.list i (change u) first.within in omega arith;
     }
+
+-- where nobody is there with a name for which there is room, the list is not full
+not_full : (s : TraceState) (t : List ℕ) → list_any (is_there_as t) s.list ≡ false → has_no_room s t ≡ false → length s.list < most_listed
+not_full s t none space = leb-false most_listed (length s.list) (sym (ap (λ b. not b && nat_le most_listed (length s.list)) none) ∙ space)
 
 pub kept_behind :
     (s : TraceState) (m : ℕ) (t : List ℕ) (change : Participant → Participant) → IsMonitorState s m → IsOfLine s (changed_at t change s) →
     list_any (is_there_as t) s.list ≡ false → has_no_room s t ≡ false → memberships_in s + memberships_had (change (new_participant s.named t)) ≤ most_memberships →
     IsMonitorState (record { list = put_behind s.list (change (new_participant s.named t)); named = s.named + 1 }) (m + memberships_had (change (new_participant s.named t)))
-kept_behind s m t change kept line none fits few =
+kept_behind s m t change kept line none space few =
     let is = changed_behind t change s kept.lawful none in
     let sum : memberships_in (record { list = put_behind s.list (change (new_participant s.named t)); named = s.named + 1 }) ≡ memberships_in s + memberships_had (change (new_participant s.named t)) = counted_behind s.list (change (new_participant s.named t)) in
     let count = kept.counted in
-    let more = put_behind_short s.list (change (new_participant s.named t)) in
-    let one = room_for_one s t none fits in
     record {
       lawful = subst IsLawfulState is (lawful_of_line s (changed_at t change s) m kept line);
       ascending = subst (λ (y : TraceState). AreAscending y.list) is (ascending_of_line s (changed_at t change s) m kept line);
       counted = omega arith;
       few = omega arith;
-      short = omega arith;
+      short = let long = put_longer s.list (change (new_participant s.named t)) in let less = not_full s t none space in omega arith;
     }
+
+-- what is kept is in order
+pub in_order : (s : TraceState) (m : ℕ) → IsMonitorState s m → HasEachNameOnce s.list
+in_order s m kept = record { ascending = kept.ascending; one_name = kept.lawful.one_name }
 
 pub kept_new : IsMonitorState nobody_named 0
 kept_new = record { lawful = lawful_lines []; ascending = tt; counted = refl; few = omega arith; short = omega arith }
@@ -125,7 +103,7 @@ pub record IsStep (now : TraceState) (list : List Participant) (named m : ℕ) (
   pub kept : IsMonitorState (record { list = list; named = named }) m
   pub line : IsOfLine now (changed_at t change now)
   pub room : HasRoom now t change
-  pub fits : has_no_room now t ≡ false
+  pub space : has_no_room now t ≡ false
 
 module _ (now : TraceState) (list : List Participant) (named m : ℕ) (t : List ℕ) (change : Participant → Participant) (step : IsStep now list named m t change) where
   room_in : HasRoom (record { list = list; named = named }) t change
@@ -133,6 +111,9 @@ module _ (now : TraceState) (list : List Participant) (named m : ℕ) (t : List 
 
   line_in : IsOfLine (record { list = list; named = named }) (changed_at t change (record { list = list; named = named }))
   line_in = subst (λ (x : TraceState). IsOfLine x (changed_at t change x)) (sym step.is) step.line
+
+  space_in : has_no_room (record { list = list; named = named }) t ≡ false
+  space_in = subst (λ (x : TraceState). has_no_room x t ≡ false) (sym step.is) step.space
 
   module _ (i : ℕ) (u : Participant) (first : IsFirstAt (is_there_as t) list i) (read : u ≡ get_or list i u) where
     pub holds_there : (P : Participant → Type 0) → P (participant_in now t) → P u
@@ -160,9 +141,6 @@ module _ (now : TraceState) (list : List Participant) (named m : ℕ) (t : List 
         sym (changed_in_place t change (record { list = list; named = named }) i u step.kept.lawful step.kept.ascending first read)
         ∙ ap (changed_at t change) step.is
 
-  fits_in : has_no_room (record { list = list; named = named }) t ≡ false
-  fits_in = subst (λ (x : TraceState). has_no_room x t ≡ false) (sym step.is) step.fits
-
   module _ (none : list_any (is_there_as t) list ≡ false) where
     pub holds_new : (P : Participant → Type 0) → P (participant_in now t) → P (new_participant named t)
     holds_new P holds = subst P (ap (λ (x : TraceState). participant_in x t) (sym step.is) ∙ nobody_there (record { list = list; named = named }) t none) holds
@@ -174,13 +152,16 @@ module _ (now : TraceState) (list : List Participant) (named m : ℕ) (t : List 
     few_new = let all = all_new in omega arith
 
     pub kept_pushed : IsMonitorState (record { list = put_behind list (change (new_participant named t)); named = named + 1 }) (m + memberships_had (change (new_participant named t)))
-    kept_pushed = kept_behind (record { list = list; named = named }) m t change step.kept line_in none fits_in all_new
+    kept_pushed = kept_behind (record { list = list; named = named }) m t change step.kept line_in none space_in all_new
 
     pub pushed_is : record { list = put_behind list (change (new_participant named t)); named = named + 1 } ≡ changed_at t change now
     pushed_is =
         sym (changed_behind t change (record { list = list; named = named }) step.kept.lawful none) ∙ ap (changed_at t change) step.is
 
 -- what is kept of a state holds of the state
+pub short_kept : (now s : TraceState) (m : ℕ) → s ≡ now → IsMonitorState s m → length now.list ≤ most_listed
+short_kept now s m is kept = subst (λ (x : TraceState). length x.list ≤ most_listed) is kept.short
+
 pub few_kept : (now s : TraceState) (m : ℕ) → s ≡ now → IsMonitorState s m → memberships_in now ≤ most_memberships
 few_kept now s m is kept =
     let few = kept.few in

@@ -1,20 +1,17 @@
 -- What a legal line may change.
 use Rattle.std.proofs.Common.{◌≡◌, ℕ, ◌<◌, ◌≤◌, ◌+◌, Bool, true, false, not, ◌&&◌, ◌||◌, Some, None, Option, List, [], ◌∷◌, ◌++◌, length, refl, sym, ◌∙◌, ap, inl, inr, ◌⊎◌, arith}
-use Rattle.std.specs.Prelude.{IfNone, IfSome, bytes_eq, filter, find, if◌then◌else◌, is_some, nat_le, unwrap_or}
+use Rattle.std.specs.Prelude.{IfSome, bytes_eq, filter, if◌then◌else◌, is_some, nat_le, unwrap_or}
 use Rattle.std.proofs.lemmas.Bool.{cases_Bool, cond-true, cond-false, leb-false}
 use Rattle.std.proofs.lemmas.List.{length-append, length-map}
 use Rattle.monitor_laws.specs.Lines.{Announcement, Joins, Arrives, Leaves, Waits, Goes, Ends, Stands, Announces, PlaysAny, TraceLine}
-use Rattle.monitor_laws.specs.States.{AnyTask, Participant, TraceState, announced_by, is_live_wildcard, is_there_as, placed_at}
-use Rattle.monitor_laws.specs.Faults.{LineFault, NamesTask, NamesWildcard, StillWaits, IsMemberAlready, IsNoMember, IsAtLastPhase, TooManyListed, TooManyMemberships, fault_where, faults_of, first_fault, has_no_room, is_go, is_join, is_of_tasks, is_task_in, is_wildcard_in, last_phase, memberships_in, most_listed, most_memberships, participant_in, phase_on, said_faults, waits_now}
+use Rattle.monitor_laws.specs.States.{AnyTask, Participant, TraceState, announced_by, is_live_wildcard, placed_at}
+use Rattle.monitor_laws.specs.Faults.{NamesTask, NamesWildcard, StillWaits, IsMemberAlready, IsNoMember, IsAtLastPhase, TooManyListed, TooManyMemberships, fault_where, faults_of, first_fault, has_no_room, is_go, is_join, is_of_tasks, is_task_in, is_wildcard_in, last_phase, memberships_in, most_memberships, participant_in, phase_on, said_faults, waits_now}
 use Rattle.std.specs.Borrow.{Bor}
 use Rattle.armus_base.proofs.Lists.{none_first}
 use Rattle.trace_lines.specs.Values.{place_value}
 use Rattle.monitor_laws.proofs.Rows.{both_tables, no_row}
 use Rattle.monitor_state.specs.inside.Changes.{MayAnnounce, memberships_had}
-use Rattle.std.specs.Option.{option_map}
-use Rattle.monitor_state.specs.inside.FirstFaults.{first_of_two, is_task_there, misnamed_fault, one_of_fault, room_fault}
 use Rattle.monitor_state.proofs.KeptStates.{HasRoom}
-use Rattle.monitor_state.proofs.TableRows.{no_room_is}
 
 no_phase : (o : Option ℕ) → is_some o ≡ false → o ≡ None
 no_phase None none = refl
@@ -36,7 +33,8 @@ may_say t u Goes none = tt
 may_say t u Ends none = tt
 may_say t u Stands none = tt
 
-fewer : {A : Type 0} (test : A → Bool) (xs : List A) → length (filter test xs) ≤ length xs
+-- a filter is not longer
+pub fewer : {A : Type 0} (test : A → Bool) (xs : List A) → length (filter test xs) ≤ length xs
 fewer test [] = omega arith
 fewer test (x ∷ xs) = by_test (fewer test xs) (cases_Bool (test x))
   where
@@ -70,7 +68,7 @@ one_more false sum most a c few joins le = omega arith
 pub record IsAllowed (s : TraceState) (t : List ℕ) (what : Announcement) (place : Option (List ℕ)) : Type 0 where
   pub may : MayAnnounce what (participant_in s t)
   pub room : HasRoom s t (λ u. placed_at place (announced_by what u))
-  pub fits : has_no_room s t ≡ false
+  pub space : has_no_room s t ≡ false
 
 pub allowed : (s : TraceState) (t : List ℕ) (what : Announcement) (place : Option (List ℕ)) → memberships_in s ≤ most_memberships → faults_of s (Announces t what place) ≡ [] → IsAllowed s t what place
 allowed s t what place few legal =
@@ -91,29 +89,17 @@ allowed s t what place few legal =
       room =
           one_more (is_join what) (memberships_in s) most_memberships (memberships_had u) (memberships_had (placed_at place (announced_by what u))) few
           (λ joins. leb-false most_memberships (memberships_in s) (sym (ap (λ b. b && nat_le most_memberships (memberships_in s)) joins) ∙ not_many)) (omega arith);
-      fits = no_row (has_no_room s t) TooManyListed listed_too.1;
+      space = no_row (has_no_room s t) TooManyListed listed_too.1;
     }
 
 -- a wildcard that any task may play has no more memberships than before
 pub any_room : (s : TraceState) (w : List ℕ) → memberships_in s ≤ most_memberships → HasRoom s w (λ u. record u { condition = AnyTask })
 any_room s w few = omega arith
 
--- a wildcard that is named first has a place
-pub any_fits : (s : TraceState) (w : List ℕ) → faults_of s (PlaysAny w) ≡ [] → has_no_room s w ≡ false
-any_fits s w legal =
+pub any_space : (s : TraceState) (w : List ℕ) → faults_of s (PlaysAny w) ≡ [] → has_no_room s w ≡ false
+any_space s w legal =
     let rows = both_tables (fault_where (is_task_in s w) (NamesTask w)) (fault_where (has_no_room s w) TooManyListed) legal in
     no_row (has_no_room s w) TooManyListed rows.1
-
--- so has one of which the first rows find no fault
-room_of_rows : (a : Bool) (f : LineFault) (misnamed : Option (List ℕ)) (full : Bool) → None ≡ (if a then Some f else first_of_two (misnamed_fault misnamed) (room_fault full false)) → full ≡ false
-room_of_rows true f misnamed full none = absurd (cc)
-room_of_rows false f (Some t) full none = absurd (cc)
-room_of_rows false f None true none = absurd (cc)
-room_of_rows false f None false none = refl
-
-pub one_of_fits : {A : Type 0} (g : A → LineFault) (s : TraceState) (w : List ℕ) (misnamed : Option (List ℕ)) (r : Option A) → option_map g r ≡ one_of_fault w (find (is_there_as w) s.list) misnamed (nat_le most_listed (length s.list)) → IfNone r (has_no_room s w ≡ false)
-one_of_fits g s w misnamed None is = no_room_is s w ∙ room_of_rows (is_task_there (find (is_there_as w) s.list)) (NamesTask w) misnamed (not (is_some (find (is_there_as w) s.list)) && nat_le most_listed (length s.list)) is
-one_of_fits g s w misnamed (Some fault) is = tt
 
 -- a line without a first fault has none
 pub no_fault : (s : TraceState) (l : TraceLine) → first_fault s (Some l) ≡ None → faults_of s l ≡ []

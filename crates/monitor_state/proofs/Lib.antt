@@ -8,3 +8,5 @@ pub mod LegalLines
 pub mod TableRows
 pub mod GoneOnes
 pub mod EachWord
+pub mod NumbersByName
+pub mod ByName

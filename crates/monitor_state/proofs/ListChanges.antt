@@ -18,7 +18,7 @@ use Rattle.monitor_state.specs.inside.Changes.{put_at, put_behind}
 use Rattle.monitor_state.proofs.OnePassing.{first_tail, none_mapped, one_mapped}
 
 -- nobody else of the name stands behind
-none_behind :
+pub none_behind :
     (t : List ℕ) (us : List Participant) (i : ℕ) → AreAscending us →
     ((u v : Participant) → Contains us u → Contains us v → is_there_as t u ≡ true → is_there_as t v ≡ true → u ≡ v) →
     IsFirstAt (is_there_as t) us i → list_any (is_there_as t) (drop (suc i) us) ≡ false

@@ -1,6 +1,6 @@
 -- The table of faults against the tests one after the other.
 use Rattle.std.proofs.Common.{◌≡◌, ℕ, Bool, true, false, not, ◌&&◌, ◌||◌, Some, None, Option, List, [], ◌∷◌, ◌++◌, length, map, refl, sym, ◌∙◌, ap, subst, inl, inr, ◌⊎◌}
-use Rattle.std.specs.Prelude.{Contains, bytes_eq, filter, find, if◌then◌else◌, is_some, nat_le, nat_lt, unwrap_or}
+use Rattle.std.specs.Prelude.{Contains, IfNone, bytes_eq, filter, find, if◌then◌else◌, is_some, nat_le, nat_lt, unwrap_or}
 use Rattle.std.specs.List.{list_any, slice_get}
 use Rattle.std.proofs.lemmas.Bool.{cases_Bool, cond-true, cond-false, and_parts, and_from, or_left, or_right}
 use Rattle.monitor_laws.specs.Lines.{Announcement, Joins, Arrives, Leaves, Waits, Goes, Ends, Stands, Announces, PlaysAny, PlaysOneOf}
@@ -244,3 +244,23 @@ one_of_first s w names lawful =
 
     misnamed : Option LineFault
     misnamed = misnamed_fault (find (λ t. bytes_eq w t || is_wildcard_in s t) names)
+
+-- where no fault is found, there is room
+room_left : (x y : Bool) → room_fault x y ≡ None → x ≡ false
+room_left false y none = refl
+room_left true y none = absurd (let e : Some TooManyListed ≡ None = none in cc)
+
+space_left : (task : Bool) (w : List ℕ) (misnamed : Option LineFault) (x : Bool) → (if task then Some (NamesTask w) else first_of_two misnamed (room_fault x false)) ≡ None → x ≡ false
+space_left true w misnamed x none = absurd (let e : Some (NamesTask w) ≡ None = none in cc)
+space_left false w (Some fault) x none = absurd (let e : Some fault ≡ None = none in cc)
+space_left false w None x none = room_left x false none
+
+pub one_of_space :
+    (s : TraceState) (w : List ℕ) (misnamed : Option (List ℕ)) → one_of_fault w (find (is_there_as w) s.list) misnamed (nat_le most_listed (length s.list)) ≡ None → has_no_room s w ≡ false
+one_of_space s w misnamed none =
+    no_room_is s w
+    ∙ space_left (is_task_there (find (is_there_as w) s.list)) w (misnamed_fault misnamed) (not (is_some (find (is_there_as w) s.list)) && nat_le most_listed (length s.list)) none
+
+pub where_none : {A : Type 0} {P : Type 0} (o : Option A) → (o ≡ None → P) → IfNone o P
+where_none None holds = holds refl
+where_none (Some x) holds = tt

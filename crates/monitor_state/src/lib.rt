@@ -10,6 +10,7 @@ mod goes;
 mod line_fault;
 mod listing;
 mod memberships;
+mod numbers;
 mod participant;
 mod phaser_membership;
 mod places;

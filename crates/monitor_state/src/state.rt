@@ -1,5 +1,5 @@
 // The state of a monitor.
-ghost use Rattle.std.specs.Prelude.{◌≡◌, ◌+◌, ◌≤◌, ℕ, false, IfNone, IfOk, OnOk, OnErr, List, [], Some, Option, ◌||◌, bytes_eq, find, is_some, length, nat_le, nat_lt};
+ghost use Rattle.std.specs.Prelude.{◌≡◌, ◌+◌, ◌≤◌, ℕ, IfOk, IfNone, OnOk, OnErr, List, [], false, Some, Option, ◌||◌, bytes_eq, find, is_some, length, nat_le, nat_lt};
 ghost use Rattle.std.specs.Option.{option_copied, option_map};
 ghost use Rattle.monitor_laws.specs.Lines.{Announces, AreGone, PlaysAny, PlaysOneOf};
 ghost use Rattle.monitor_laws.specs.Faults.{faults_of, first_fault, has_no_room, is_wildcard_in, memberships_in, most_listed, most_memberships, participant_in};
@@ -15,8 +15,8 @@ ghost use Rattle.monitor_state.specs.inside.Changes.{IsOfLine, MayChange, change
 
 use crate::change::Change;
 use crate::faults::{announced_fault, any_fault, is_wildcard_there, one_of_fault};
-use crate::goes::{end_all, keep_listed, memberships_of};
-use crate::listing::{change_at, change_behind, place_of};
+use crate::goes::memberships_of;
+use crate::listing::Listing;
 use crate::players::task_numbers;
 use crate::words::split_word;
 use crate::{FaultOfLine, ListedCondition, ListedParticipant};
@@ -33,7 +33,7 @@ const MOST_MEMBERSHIPS: usize = 1048576;
 /// The list of tasks and wildcards, in the order in which they were first named, and how many were ever named.
 #[derive(Drop)]
 pub struct MonitorState {
-    list: Vec<ListedParticipant>,
+    listing: Listing,
     named: u64,
     memberships: usize,
 }
@@ -44,9 +44,9 @@ impl Model for MonitorState {
 
     ghost Value = { TraceState };
 
-    ghost view = { λ s. record { list = s.list.items; named = s.named } };
+    ghost view = { λ s. record { list = s.listing; named = s.named } };
 
-    ghost invariant = { λ s. IsMonitorState (record { list = s.list.items; named = s.named }) s.memberships };
+    ghost invariant = { λ s. IsMonitorState (record { list = s.listing; named = s.named }) s.memberships };
 }
 
 impl MonitorState {
@@ -55,7 +55,7 @@ impl MonitorState {
         ensures { result ≡ nobody_named }
     {
         MonitorState {
-            list: Vec::new(alloc),
+            listing: Listing::new(alloc),
             named: 0,
             memberships: 0,
         }
@@ -69,7 +69,7 @@ impl MonitorState {
         ensures few { memberships_in self.now ≤ most_memberships }
         ensures short { length self.now.list ≤ most_listed }
     {
-        &self.list
+        self.listing.as_slice()
     }
 
     #[tactic(none)]
@@ -77,21 +77,21 @@ impl MonitorState {
     fn change(&mut self, alloc: Global, t: &[u8], change: Change) -> Result<(), NoMemory>
         requires line { IsOfLine self.old (changed_at t.now (changed_value change) self.old) }
         requires may { MayChange change (participant_in self.old t.now) }
+        requires space { has_no_room self.old t.now ≡ false }
         requires few { memberships_in self.old + memberships_had (changed_value change (participant_in self.old t.now)) ≤ most_memberships + memberships_had (participant_in self.old t.now) }
-        requires fits { has_no_room self.old t.now ≡ false }
         ensures changed { OnOk result (self.new ≡ changed_at t.now (changed_value change.entry) self.old) }
         ensures kept { OnErr result (self.new ≡ self.old) }
     {
-        match place_of(&self.list, t) {
+        match self.listing.place_of(t) {
             Some(at) => {
-                let before = self.list[at].memberships_had();
-                let after = change_at(&mut self.list, at, alloc, change)?;
+                let before = self.listing.one_at(at).memberships_had();
+                let after = self.listing.change_at(at, alloc, t, change)?;
                 self.memberships = self.memberships - before + after;
                 Ok(())
             }
             None => {
                 let named = self.named.checked_add(1).ok_or(NoMemory)?;
-                let after = change_behind(&mut self.list, self.named, alloc, t, change)?;
+                let after = self.listing.change_behind(self.named, alloc, t, change)?;
                 self.named = named;
                 self.memberships += after;
                 Ok(())
@@ -103,7 +103,7 @@ impl MonitorState {
     fn is_full(&self) -> bool
         ensures { result ≡ nat_le most_listed (length self.now.list) }
     {
-        MOST_LISTED <= self.list.len()
+        MOST_LISTED <= self.listing.as_slice().len()
     }
 
     // Whether there are as many memberships as there may be.
@@ -117,9 +117,9 @@ impl MonitorState {
     fn found(&self, t: &[u8]) -> Option<&ListedParticipant>
         ensures { option_copied result ≡ find (is_there_as t.now) self.now.list }
     {
-        match place_of(&self.list, t) {
+        match self.listing.place_of(t) {
             None => None,
-            Some(at) => Some(&self.list[at]),
+            Some(at) => Some(self.listing.one_at(at)),
         }
     }
 
@@ -181,9 +181,8 @@ impl MonitorState {
     fn go_all(&mut self, beginning: &[u8])
         ensures { self.new ≡ after_line self.old (AreGone beginning.now) }
     {
-        end_all(&mut self.list, beginning);
-        keep_listed(&mut self.list);
-        self.memberships = memberships_of(&self.list);
+        self.listing.go_all(beginning);
+        self.memberships = memberships_of(self.listing.as_slice());
     }
 
     // Whether a wildcard is there with the name t.
@@ -218,8 +217,8 @@ impl MonitorState {
 
     // The first fault of a line by which one of these tasks may play the wildcard w, apart from its memberships.
     fn one_of_fault<'a>(&self, w: &'a [u8], names: &'a [u8]) -> Option<FaultOfLine<'a>>
-        ensures fault { first_fault self.now (Some (PlaysOneOf w.now (spaced_words names.now))) ≡ first_of_two (option_map fault_of_line result) (many_fault (nat_lt most_memberships (memberships_in (after_line self.now (PlaysOneOf w.now (spaced_words names.now)))))) }
-        ensures fits { IfNone result (has_no_room self.now w.now ≡ false) }
+        ensures first { first_fault self.now (Some (PlaysOneOf w.now (spaced_words names.now))) ≡ first_of_two (option_map fault_of_line result) (many_fault (nat_lt most_memberships (memberships_in (after_line self.now (PlaysOneOf w.now (spaced_words names.now)))))) }
+        ensures space { IfNone result (has_no_room self.now w.now ≡ false) }
     {
         let _ = &self.memberships;
         one_of_fault(
@@ -238,10 +237,10 @@ impl MonitorState {
         if MOST_MEMBERSHIPS < count {
             return true;
         }
-        match place_of(&self.list, w) {
+        match self.listing.place_of(w) {
             None => MOST_MEMBERSHIPS < self.memberships + count,
             Some(at) => {
-                let u = &self.list[at];
+                let u = self.listing.one_at(at);
                 let others = self.memberships - u.memberships_had();
                 MOST_MEMBERSHIPS < others + u.memberships().len() + count
             }
@@ -258,7 +257,7 @@ impl MonitorState {
     ) -> Result<(), NoMemory>
         requires numbers { numbers.items ≡ task_numbers self.old (spaced_words names.now) }
         requires few { memberships_in (after_line self.old (PlaysOneOf w.now (spaced_words names.now))) ≤ most_memberships }
-        requires fits { has_no_room self.old w.now ≡ false }
+        requires space { has_no_room self.old w.now ≡ false }
         ensures taken { OnOk result (self.new ≡ after_line self.old (PlaysOneOf w.now (spaced_words names.now))) }
         ensures kept { OnErr result (self.new ≡ self.old) }
     {
@@ -319,12 +318,12 @@ impl MonitorState {
         w: &[u8],
         names: &[u8],
     ) -> Result<Option<FaultOfLine<'a>>, NoMemory>
-        requires { has_no_room self.old w.now ≡ false }
+        requires space { has_no_room self.old w.now ≡ false }
         ensures fault { IfOk result (λ fault. option_map fault_of_line fault ≡ many_fault (nat_lt most_memberships (memberships_in (after_line self.old (PlaysOneOf w.now (spaced_words names.now)))))) }
         ensures taken { IfOk result (λ fault. self.new ≡ taken_state self.old (PlaysOneOf w.now (spaced_words names.now)) (option_map fault_of_line fault)) }
         ensures kept { OnErr result (self.new ≡ self.old) }
     {
-        let numbers = task_numbers(&self.list, alloc, names)?;
+        let numbers = task_numbers(self.listing.as_slice(), alloc, names)?;
         if self.has_too_many(w, numbers.len()) {
             return Ok(Some(FaultOfLine::TooManyMemberships));
         }

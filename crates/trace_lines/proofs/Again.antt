@@ -1,14 +1,14 @@
 -- What a line spells is read.
-use Rattle.std.proofs.Common.{◌≡◌, ◌≢◌, ◌<◌, ◌≤◌, ◌+◌, ℕ, zero, suc, Bool, true, false, ◌&&◌, ◌||◌, not, Some, None, Option, List, [], ◌∷◌, ◌++◌, length, take, drop, get_or, refl, sym, ◌∙◌, ap, subst, inl, inr, ◌⊎◌, arith, append-nil, append_assoc, length-append}
-use Rattle.std.specs.Prelude.{bytes_eq, codes, decimal, if◌then◌else◌, nat_le, nat_lt, ◌==◌, slice_index, IfSome, IfNone}
+use Rattle.std.proofs.Common.{◌≡◌, ◌≢◌, ◌≤◌, ℕ, true, false, ◌&&◌, ◌||◌, not, Some, None, Option, List, [], ◌∷◌, ◌++◌, length, refl, sym, ◌∙◌, ap, subst, inl, inr, ◌⊎◌, arith, append-nil, append_assoc}
+use Rattle.std.specs.Prelude.{bytes_eq, codes, decimal, if◌then◌else◌, nat_lt, ◌==◌, slice_index, IfSome, IfNone}
 use Rattle.std.specs.List.{list_all}
 use Rattle.std.specs.Option.{option_map}
-use Rattle.std.proofs.lemmas.Bool.{and_parts, cases_Bool, cond-true, cond-false, eqb-true, eq-eqb, le-ltb, leb-true, ne_eqb, not-true, not_from_true, or_cases, or_from, or_left, or_right}
+use Rattle.std.proofs.lemmas.Bool.{and_parts, cases_Bool, cond-true, cond-false, le-ltb, ne_eqb, not-true, not_from_true, or_from, or_right}
 use Rattle.std.proofs.lemmas.Slice.Eq.{bytes_eq-Decides}
 use Rattle.std.proofs.lemmas.Option.{same_Some}
 use Rattle.monitor_laws.specs.Lines.{Announcement, Joins, Arrives, Leaves, Waits, Goes, Ends, Stands, TraceLine, SaysNothing, AsksReport, AsksList, AreGone, Announces, PlaysAny, PlaysOneOf}
-use Rattle.trace_lines.specs.Grammar.{IsLine, IsOneWord, SpellsLine, SpellsPlace, SpellsSaid, is_participant_name, is_word, most_line_bytes}
-use Rattle.trace_lines.specs.inside.Reading.{announced, any_line, are_names, behind_word, word_before_space, gone_line, is_one_word_verb, kept_place, place_part, trace_line_at, named_line, played_by, said_part, verb_line, spaced_words, worded_line}
+use Rattle.trace_lines.specs.Grammar.{IsLine, IsOneWord, SpellsPlace, SpellsSaid, is_participant_name, is_word, most_line_bytes}
+use Rattle.trace_lines.specs.inside.Reading.{announced, any_line, are_names, behind_word, word_before_space, gone_line, is_one_word_verb, kept_place, place_part, trace_line_at, named_line, played_by, said_part, verb_line, worded_line}
 use Rattle.trace_lines.proofs.Cuts.{name_is_whole, tail, word_behind, word_first}
 use Rattle.trace_lines.proofs.Exact.{place_again, said_again}
 use Rattle.trace_lines.proofs.WholeLines.{announced_again, line_read, names_from, spaced, words_again}

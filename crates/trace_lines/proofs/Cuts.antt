@@ -1,13 +1,12 @@
 -- How bytes are cut into a first word and what stands behind it.
-use Rattle.std.proofs.Common.{◌≡◌, ◌≢◌, ◌<◌, ◌≤◌, ◌+◌, ◌^◌, ℕ, zero, suc, Bool, true, false, ◌&&◌, ◌||◌, not, Some, None, Option, List, [], ◌∷◌, ◌++◌, length, take, drop, get_or, refl, sym, ◌∙◌, ap, subst, inl, inr, ◌⊎◌, arith, append-nil, append_assoc, length-append}
-use Rattle.std.specs.Prelude.{bytes_eq, codes, if◌then◌else◌, nat_le, nat_lt, ◌==◌, map, decimal, slice_index}
-use Rattle.std.specs.List.{after_first, before_first, list_all, list_any, position_or_len}
-use Rattle.std.specs.Str.Parse.{AllDigits, digits_value}
-use Rattle.std.proofs.lemmas.Bool.{and_from, and_parts, cases_Bool, cases_lt, cond-true, cond-false, eqb-true, eqb-false, leb-true, le-leb, le-ltb, lt-ltb, ltb-true, ne_eqb, not_from_false, not-true}
+use Rattle.std.proofs.Common.{◌≡◌, ◌<◌, ◌+◌, ℕ, zero, suc, Bool, true, false, ◌&&◌, not, Some, None, Option, List, [], ◌∷◌, ◌++◌, length, take, drop, get_or, refl, sym, ◌∙◌, ap, inl, inr, ◌⊎◌, arith, append-nil, append_assoc, length-append}
+use Rattle.std.specs.Prelude.{if◌then◌else◌, nat_le, nat_lt, ◌==◌, slice_index}
+use Rattle.std.specs.List.{after_first, list_all, position_or_len}
+use Rattle.std.proofs.lemmas.Bool.{and_from, and_parts, cases_lt, cond-true, cond-false, eqb-true, leb-true, le-ltb, lt-ltb, ne_eqb, not_from_false, not-true}
 use Rattle.std.proofs.lemmas.List.{take_all, take_at, drop_at}
 use Rattle.std.proofs.lemmas.List.Sums.{passes_at_first, position_or_len_is, split_at_first}
 use Rattle.trace_lines.specs.Grammar.{is_word, is_phaser_name, is_participant_name}
-use Rattle.trace_lines.specs.inside.Reading.{are_digits, behind_word, word_before_space, is_phase_number, is_space, may_be_number, phase_number_at}
+use Rattle.trace_lines.specs.inside.Reading.{behind_word, word_before_space, is_space}
 
 -- what stands behind a word, with its space
 abbrev pub tail : Option (List ℕ) → List ℕ

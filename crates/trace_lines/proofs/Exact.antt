@@ -1,16 +1,15 @@
 -- What is read of a line is what it spells, and what a line spells is read.
-use Rattle.std.proofs.Common.{◌≡◌, ◌≢◌, ◌<◌, ◌≤◌, ◌+◌, ◌^◌, ℕ, zero, suc, Bool, true, false, ◌&&◌, ◌||◌, not, Some, None, Option, List, [], ◌∷◌, ◌++◌, length, take, drop, get_or, refl, sym, ◌∙◌, ap, subst, inl, inr, ◌⊎◌, arith, append-nil, append_assoc, length-append}
-use Rattle.std.specs.Prelude.{bytes_eq, codes, option_map, if◌then◌else◌, nat_le, nat_lt, ◌==◌, map, flat_map, decimal, slice_index}
-use Rattle.std.specs.List.{list_all, list_any}
+use Rattle.std.proofs.Common.{◌≡◌, ◌<◌, ◌≤◌, ◌^◌, ℕ, zero, suc, true, ◌&&◌, ◌||◌, not, Some, None, Option, List, [], ◌∷◌, ◌++◌, length, drop, get_or, refl, sym, ◌∙◌, ap, subst, inl, inr, arith, append_assoc}
+use Rattle.std.specs.Prelude.{bytes_eq, codes, option_map, if◌then◌else◌, nat_le, nat_lt, ◌==◌, decimal, slice_index}
 use Rattle.std.specs.Str.Parse.{AllDigits, digits_value}
-use Rattle.std.proofs.lemmas.Bool.{and_from, and_parts, cases_Bool, cases_lt, cond-true, cond-false, eqb-true, eq-eqb, leb-true, le-leb, le-ltb, lt-ltb, ltb-true, ltb-false, ne_eqb, not_from_false, not-true, or_cases, or_left, or_right, true≢false}
+use Rattle.std.proofs.lemmas.Bool.{and_from, and_parts, cond-true, eqb-true, eq-eqb, leb-true, le-leb, ltb-true, ne_eqb, not_from_false, not-true, or_cases, or_left, or_right}
 use Rattle.std.proofs.lemmas.Slice.Eq.{bytes_eq-Decides}
 use Rattle.std.proofs.lemmas.Option.{same_Some}
 use Rattle.std.proofs.lemmas.Str.Parse.{digit_from_value}
 use Rattle.std.proofs.lemmas.Fmt.{decimal-digits_value, digits_decimal, digits_value-decimal, length-decimal-le, decimal_nonempty, first_decimal, decimal_digit}
-use Rattle.monitor_laws.specs.Lines.{Announcement, Joins, Arrives, Leaves, Waits, Goes, Ends, Stands, TraceLine, SaysNothing, AsksReport, AsksList, AreGone, Announces, PlaysAny, PlaysOneOf}
+use Rattle.monitor_laws.specs.Lines.{Announcement, Joins, Arrives, Leaves, Waits, Goes, Ends, Stands}
 use Rattle.monitor_laws.specs.Faults.{last_phase}
-use Rattle.trace_lines.specs.Grammar.{HasNoTwice, IsLine, IsOneWord, SpellsLine, SpellsPlace, SpellsSaid, is_participant_name, is_phaser_name, kept_byte, most_line_bytes}
+use Rattle.trace_lines.specs.Grammar.{SpellsPlace, SpellsSaid, is_phaser_name}
 use Rattle.trace_lines.specs.inside.Reading.{Part, are_digits, behind_word, word_before_space, is_phase_number, is_place, kept_place, may_be_number, phase_number_at, number_before, number_part, joined_number, phase_behind, phase_part, phaser_part, place_part, said_with, said_part}
 use Rattle.trace_lines.proofs.Cuts.{chosen, cut, has_no_space, phaser_is_whole, tail, word_behind, word_first}
 use Rattle.trace_lines.proofs.Numbers.{all_digits, digits_of, number_is, own, some_of}

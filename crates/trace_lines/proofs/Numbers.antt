@@ -1,14 +1,13 @@
 -- Numbers by their digits.
-use Rattle.std.proofs.Common.{◌≡◌, ◌<◌, ◌≤◌, ◌^◌, ◌*◌, ◌+◌, ℕ, zero, suc, Bool, true, false, ◌&&◌, Some, None, Option, List, [], ◌∷◌, length, Ok, Err, arith, get_or, subst, sym, ap, ◌∙◌, refl, inl, inr}
-use Rattle.std.specs.Prelude.{IsAscii, nat_le, nat_lt, if◌then◌else◌, ◌||◌, ◌==◌, not, slice_index}
-use Rattle.std.specs.List.{list_all}
+use Rattle.std.proofs.Common.{◌≡◌, ◌<◌, ◌≤◌, ◌^◌, ℕ, zero, suc, true, false, ◌&&◌, Some, None, List, [], ◌∷◌, length, Err, arith, sym, inl, inr}
+use Rattle.std.specs.Prelude.{IsAscii, nat_le, nat_lt, ◌||◌, ◌==◌, not, slice_index}
 use Rattle.std.specs.Str.{IsUtf8}
 use Rattle.std.specs.Str.Parse.{ParsesUnsigned, AllDigits, digits_value}
 use Rattle.std.specs.Char.{digit_value}
 use Rattle.std.proofs.lemmas.Bool.Decides.{nat_tests}
 use Rattle.std.proofs.lemmas.Str.{IsUtf8-from_ascii}
-use Rattle.std.proofs.lemmas.Bool.{and_from, and_parts, and_left, and_right, cases_Bool, cond-true, cond-false, lt-ltb, ltb-true, le-ltb, leb-true, le-leb, cases_lt}
-use Rattle.std.proofs.lemmas.Str.Parse.{IsNumeralModel, numerals_by_value, tells_digits, parse_digits, digits_value_short}
+use Rattle.std.proofs.lemmas.Bool.{and_from, and_parts, and_left, and_right, cond-true, cond-false, lt-ltb, le-ltb, leb-true, cases_lt}
+use Rattle.std.proofs.lemmas.Str.Parse.{IsNumeralModel, numerals_by_value, tells_digits, parse_digits}
 use Rattle.trace_lines.specs.inside.Reading.{are_digits, is_phase_number, may_be_number, phase_number_at}
 
 pub own : IsNumeralModel (AllDigits 10) (digits_value 10)

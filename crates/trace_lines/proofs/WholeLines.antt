@@ -1,16 +1,16 @@
 -- Whole lines are read as they are spelled.
-use Rattle.std.proofs.Common.{◌≡◌, ◌≢◌, ◌<◌, ◌≤◌, ◌+◌, ℕ, zero, suc, Bool, true, false, ◌&&◌, ◌||◌, not, Some, None, Option, List, [], ◌∷◌, ◌++◌, length, take, drop, get_or, refl, sym, ◌∙◌, ap, subst, inl, inr, ◌⊎◌, arith, append-nil, append_assoc, length-append}
-use Rattle.std.specs.Prelude.{All, bytes_eq, codes, option_map, if◌then◌else◌, nat_le, nat_lt, ◌==◌, map, flat_map, slice_index}
-use Rattle.std.specs.List.{list_all, list_any, onto_first, slice_split}
-use Rattle.std.proofs.lemmas.Bool.{and_from, and_parts, cases_Bool, cond-true, cond-false, eqb-true, le-ltb, ltb-false, not-true, not-false, not_from_false, or_cases, or_left, or_right, true≢false}
+use Rattle.std.proofs.Common.{◌≡◌, ◌≢◌, ℕ, true, false, ◌&&◌, ◌||◌, not, Some, None, Option, List, [], ◌∷◌, ◌++◌, length, drop, refl, sym, ◌∙◌, ap, subst, inl, inr, ◌⊎◌, arith, append-nil, append_assoc}
+use Rattle.std.specs.Prelude.{All, bytes_eq, codes, option_map, nat_lt, ◌==◌, flat_map, slice_index}
+use Rattle.std.specs.List.{list_all, list_any, onto_first}
+use Rattle.std.proofs.lemmas.Bool.{and_from, and_parts, cases_Bool, cond-false, eqb-true, ltb-false, not-true, not-false, not_from_false, or_cases}
 use Rattle.std.proofs.lemmas.List.Elements.{All-from_get_or}
 use Rattle.std.proofs.lemmas.List.Splits.{slice_split-cons_no, slice_split-cons_yes, slice_split_at, slice_split_none}
 use Rattle.std.proofs.lemmas.Slice.Eq.{bytes_eq-Decides}
 use Rattle.std.proofs.lemmas.Option.{same_Some}
 use Rattle.monitor_laws.specs.Lines.{Announcement, Joins, Arrives, Leaves, Waits, Goes, Ends, Stands, TraceLine, SaysNothing, AsksReport, AsksList, AreGone, Announces, PlaysAny, PlaysOneOf}
 use Rattle.trace_lines.specs.Grammar.{HasNoTwice, IsLine, IsOneWord, SpellsLine, SpellsPlace, SpellsSaid, is_participant_name, most_line_bytes}
-use Rattle.trace_lines.specs.inside.Reading.{Part, announced, any_line, are_names, behind_word, word_before_space, gone_line, is_one_word_verb, is_space, kept_place, trace_line_at, named_line, place_part, placed_said, played_by, said_part, says_nothing, short_line, verb_line, worded_line, spaced_words}
-use Rattle.trace_lines.proofs.Cuts.{chosen, cut, has_no_space, name_is_whole, no_space_at, tail, word_behind, word_first}
+use Rattle.trace_lines.specs.inside.Reading.{Part, announced, any_line, are_names, behind_word, word_before_space, gone_line, is_one_word_verb, is_space, kept_place, trace_line_at, named_line, place_part, placed_said, played_by, said_part, says_nothing, verb_line, worded_line, spaced_words}
+use Rattle.trace_lines.proofs.Cuts.{chosen, cut, has_no_space, name_is_whole, no_space_at, tail, word_first}
 use Rattle.trace_lines.proofs.Exact.{place_again, place_read, said_again, said_read}
 
 -- the names behind `of`, each behind a space

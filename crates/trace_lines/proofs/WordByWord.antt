@@ -1,7 +1,7 @@
 -- The words of bytes, one after the other.
-use Rattle.std.proofs.Common.{◌≡◌, ◌<◌, ◌≤◌, ◌+◌, ℕ, Bool, true, false, ◌&&◌, ◌||◌, not, Some, None, Option, List, [], ◌∷◌, ◌++◌, length, take, drop, get_or, refl, sym, ◌∙◌, ap, subst, inl, inr, ◌⊎◌, arith}
-use Rattle.std.specs.Prelude.{All, bytes_eq, if◌then◌else◌, nat_lt}
-use Rattle.std.specs.List.{after_first, before_first, list_any, position_or_len, slice_split}
+use Rattle.std.proofs.Common.{◌≡◌, ℕ, true, false, ◌&&◌, ◌||◌, not, Some, None, List, [], ◌∷◌, length, sym, ◌∙◌, ap, inl, inr, ◌⊎◌, arith}
+use Rattle.std.specs.Prelude.{bytes_eq, nat_lt}
+use Rattle.std.specs.List.{after_first, list_any, position_or_len}
 use Rattle.std.proofs.lemmas.Bool.{cases_lt, cond-true, cond-false, lt-ltb, le-ltb, or_left, and_left, and_right}
 use Rattle.std.proofs.lemmas.List.{take_all}
 use Rattle.std.proofs.lemmas.List.Elements.{All-from_get_or}

@@ -5,7 +5,7 @@ use Rattle.monitor_laws.specs.Faults.{memberships_in, most_listed, most_membersh
 use Rattle.monitor_laws.proofs.Lawful.{IsLawfulState}
 use Rattle.monitor_state.specs.NumberedLists.{AreAscending}
 
--- numbers and names are in order, the memberships are counted, and the list has as many as it may at most
+-- numbers and names are in order, the memberships are counted, and there are no more of both than there may be
 pub record IsMonitorState (s : TraceState) (memberships : ℕ) : Type 0 where
   pub lawful : IsLawfulState s
   pub ascending : AreAscending s.list

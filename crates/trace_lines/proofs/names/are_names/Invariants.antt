@@ -1,4 +1,4 @@
-use Rattle.std.proofs.Common.{◌≡◌, ℕ}
+use Rattle.std.proofs.Common.{◌≡◌}
 use Rattle.std.specs.Option.{option_copied}
 use Rattle.trace_lines.specs.inside.Reading.{are_names, bytes_left, words_behind, spaced_words}
 use Rattle.trace_lines.proofs.names.are_names.Given as goal

@@ -1,4 +1,4 @@
-use Rattle.std.proofs.Common.{◌≡◌, ℕ, true, ◌&&◌, take}
+use Rattle.std.proofs.Common.{◌≡◌, true, ◌&&◌, take}
 use Rattle.std.specs.Prelude.{nat_le}
 use Rattle.std.specs.List.{list_all}
 use Rattle.trace_lines.proofs.words.are_word_bytes.Given as goal

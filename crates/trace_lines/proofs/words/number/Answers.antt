@@ -1,5 +1,4 @@
-use Rattle.std.proofs.Common.{◌≡◌, ℕ, true, Ok, Err, subst, rules}
-use Rattle.std.specs.Str.{IsUtf8}
+use Rattle.std.proofs.Common.{◌≡◌, ℕ, true, Err, subst, rules}
 use Rattle.std.specs.Str.Parse.{ParsesUnsigned}
 use Rattle.trace_lines.specs.inside.Reading.{may_be_number}
 use Rattle.trace_lines.proofs.Numbers.{not_parsed, not_text}

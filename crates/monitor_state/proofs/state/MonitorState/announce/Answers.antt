@@ -14,14 +14,14 @@ change-requires-clause-may c =
     let may : IsAllowed c.args.self.now c.args.t.now (said_value c.args.what.now) (place_value c.args.place) = allowed c.args.self.now c.args.t.now (said_value c.args.what.now) (place_value c.args.place) few c.requires.legal in
     may.may
 
+pub change-requires-clause-space : goal.change-requires-clause-space
+change-requires-clause-space c =
+    let few = few_kept c.args.self.now _ c.self.inside.memberships c.self.view_is c.self.invariant in
+    let may : IsAllowed c.args.self.now c.args.t.now (said_value c.args.what.now) (place_value c.args.place) = allowed c.args.self.now c.args.t.now (said_value c.args.what.now) (place_value c.args.place) few c.requires.legal in
+    may.space
+
 pub change-requires-clause-few : goal.change-requires-clause-few
 change-requires-clause-few c =
     let few = few_kept c.args.self.now _ c.self.inside.memberships c.self.view_is c.self.invariant in
     let may : IsAllowed c.args.self.now c.args.t.now (said_value c.args.what.now) (place_value c.args.place) = allowed c.args.self.now c.args.t.now (said_value c.args.what.now) (place_value c.args.place) few c.requires.legal in
     may.room
-
-pub change-requires-clause-fits : goal.change-requires-clause-fits
-change-requires-clause-fits c =
-    let few = few_kept c.args.self.now _ c.self.inside.memberships c.self.view_is c.self.invariant in
-    let may : IsAllowed c.args.self.now c.args.t.now (said_value c.args.what.now) (place_value c.args.place) = allowed c.args.self.now c.args.t.now (said_value c.args.what.now) (place_value c.args.place) few c.requires.legal in
-    may.fits

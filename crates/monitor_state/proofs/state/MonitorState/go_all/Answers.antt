@@ -9,19 +9,19 @@ use Rattle.monitor_state.proofs.state.MonitorState.go_all.Goals as goal
 
 pub memberships_of-self-inside-requires : goal.memberships_of-self-inside-requires
 memberships_of-self-inside-requires c =
-    let list : c.deref.result.now ≡ filter stays_listed (map (gone_by c.args.beginning.now) c.self.inside.list.items) = c.deref.ensures.value ∙ c.keep_listed.ensures ∙ ap (filter stays_listed) c.end_all.ensures in
+    let list : c.as_slice.result.now ≡ filter stays_listed (map (gone_by c.args.beginning.now) c.self.inside.listing) = c.as_slice.ensures ∙ c.go_all.ensures in
     let few = gone_few _ c.self.inside.memberships c.args.beginning.now c.self.invariant in
     let same = ap (sum_by memberships_had) list in
     omega arith
 
 pub invariant_of-self : goal.invariant_of-self
 invariant_of-self c =
-    let list : c.keep_listed.new.list.items ≡ filter stays_listed (map (gone_by c.args.beginning.now) c.self.inside.list.items) = c.keep_listed.ensures ∙ ap (filter stays_listed) c.end_all.ensures in
-    let count = c.memberships_of-self-inside.ensures ∙ ap (sum_by memberships_had) (c.deref.ensures.value ∙ list) in
+    let list : c.go_all.new.self ≡ filter stays_listed (map (gone_by c.args.beginning.now) c.self.inside.listing) = c.go_all.ensures in
+    let count = c.memberships_of-self-inside.ensures ∙ ap (sum_by memberships_had) (c.as_slice.ensures ∙ list) in
     subst (λ (l : List Participant). IsMonitorState (record { list = l; named = c.self.inside.named }) c.memberships_of-self-inside.result) (sym list)
     (kept_gone _ c.self.inside.memberships c.memberships_of-self-inside.result c.args.beginning.now c.self.invariant count)
 
 pub returns : goal.returns
 returns c =
-    let list : c.keep_listed.new.list.items ≡ filter stays_listed (map (gone_by c.args.beginning.now) c.self.inside.list.items) = c.keep_listed.ensures ∙ ap (filter stays_listed) c.end_all.ensures in
+    let list : c.go_all.new.self ≡ filter stays_listed (map (gone_by c.args.beginning.now) c.self.inside.listing) = c.go_all.ensures in
     ap (λ (l : List Participant). record { list = l; named = c.self.inside.named }) list ∙ ap (λ (s : TraceState). after_line s (AreGone c.args.beginning.now)) c.self.view_is

@@ -1,0 +1,42 @@
+use Rattle.std.proofs.Common.{◌≡◌, List, get_or, None, sym, ◌∙◌, ap, subst}
+use Rattle.std.specs.Prelude.{bytes_eq, find, if◌then◌else◌}
+use Rattle.std.specs.Option.{option_map}
+use Rattle.std.proofs.lemmas.Bool.{not-false, not-true}
+use Rattle.std.proofs.lemmas.List.{get_or_default}
+use Rattle.monitor_laws.specs.States.{Participant, is_there_as, new_participant}
+use Rattle.monitor_state.specs.inside.Changes.{changed_value}
+use Rattle.monitor_state.specs.inside.FirstPlaces.{IsFirstAt}
+use Rattle.monitor_state.specs.inside.Numbers.{HasEachNameOnce}
+use Rattle.monitor_state.specs.inside.Players.{participant_number}
+use Rattle.monitor_state.proofs.ByName.{changed_name, changed_number, number_lost, numbers_kept}
+use Rattle.monitor_state.proofs.listing.Listing.change_at.Goals as goal
+
+pub invariant_of-self-then-not-after : goal.invariant_of-self-then-not-after
+invariant_of-self-then-not-after c =
+    let us = c.self.inside.list.items in
+    let t = c.args.t.now in
+    let order : HasEachNameOnce us = subst HasEachNameOnce (sym c.self.view_is) c.requires.order in
+    let first : IsFirstAt (is_there_as t) us c.args.at = subst (λ l. IsFirstAt (is_there_as t) l c.args.at) (sym c.self.view_is) c.requires.first in
+    let u = get_or us c.args.at (new_participant 0 t) in
+    let read : u ≡ get_or us c.args.at u = get_or_default us c.args.at (new_participant 0 t) u first.within in
+    let v = changed_value c.args.change u in
+    let away = sym (c.in_ok-after.ensures.there u read) ∙ not-true _ c.if-not-after.true in
+    λ x.
+    c.remove_number.ensures x ∙ ap (λ o. if bytes_eq t x then None else o) (c.self.invariant x)
+    ∙ number_lost us order t c.args.at u v first read (changed_name c.args.change u) away x
+    ∙ sym (ap (λ (l : List Participant). option_map participant_number (find (is_there_as x) l)) (c.in_ok-after.ensures.changed u read))
+
+pub invariant_of-self-else-not-after : goal.invariant_of-self-else-not-after
+invariant_of-self-else-not-after c =
+    let us = c.self.inside.list.items in
+    let t = c.args.t.now in
+    let order : HasEachNameOnce us = subst HasEachNameOnce (sym c.self.view_is) c.requires.order in
+    let first : IsFirstAt (is_there_as t) us c.args.at = subst (λ l. IsFirstAt (is_there_as t) l c.args.at) (sym c.self.view_is) c.requires.first in
+    let u = get_or us c.args.at (new_participant 0 t) in
+    let read : u ≡ get_or us c.args.at u = get_or_default us c.args.at (new_participant 0 t) u first.within in
+    let v = changed_value c.args.change u in
+    let there = sym (c.in_ok-after.ensures.there u read) ∙ not-false _ c.if-not-after.false in
+    λ x.
+    c.self.invariant x
+    ∙ sym (numbers_kept us order t c.args.at u v first read (changed_name c.args.change u) (changed_number c.args.change u) there x)
+    ∙ sym (ap (λ (l : List Participant). option_map participant_number (find (is_there_as x) l)) (c.in_ok-after.ensures.changed u read))
