@@ -3,6 +3,7 @@
 //! The tests of the monitor stand in the gallery.
 #![tactic(auto)]
 
+mod changes;
 mod monitor;
 
 pub use monitor::Monitor;
