@@ -4,6 +4,8 @@
 #![tactic(auto)]
 
 mod changes;
+mod faults;
+mod known_state;
 mod monitor;
 
 pub use monitor::Monitor;

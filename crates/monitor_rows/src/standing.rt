@@ -46,6 +46,13 @@ pub(crate) fn is_kept_in(state: &MonitorState, t: &ListedParticipant) -> bool
     is_kept_by(state.participants(), t)
 }
 
+/// Whether a task of the state is kept waiting.
+pub fn is_anybody_kept_waiting(state: &MonitorState) -> bool
+    ensures { result ≡ list_any (is_kept_waiting state.now) state.now.list }
+{
+    state.participants().iter().any(|t| is_kept_in(state, t))
+}
+
 /// How t stands in the state, if it waits.
 pub(crate) fn standing_in(
     state: &MonitorState,

@@ -23,3 +23,10 @@ TellsChange s l was after stuck old new told =
     × IsToldOf s after (has_stuck_number was) (has_stuck_number stuck) (those_only_in after (has_stuck_number stuck) (has_stuck_number was)) words
     × (new ≡ old ++ (resolved_words (those_only_in s (has_stuck_number was) (has_stuck_number stuck)) ++ words))
     × ((told ≡ true) ↔ MakesStuck s l)
+
+-- a legal line leads from a state of which the stuck tasks are known to another
+pub record IsKnownBefore (s : TraceState) (l : TraceLine) (was : List (ℕ × List ℕ)) (after : TraceState) : Type 0 where
+  pub lawful : IsLawfulState s
+  pub legal : faults_of s l ≡ []
+  pub leads : after ≡ after_line s l
+  pub before : AreStuckTasks s was
