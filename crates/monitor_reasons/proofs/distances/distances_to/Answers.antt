@@ -1,8 +1,7 @@
-use Rattle.std.proofs.Common.{◌≡◌, ◌+◌, ℕ, true, false, Option, List, length, drop, take, ◌++◌, sym, ◌∙◌, ap, subst, arith, add-one}
-use Rattle.std.specs.Prelude.{is_some}
+use Rattle.std.proofs.Common.{◌≡◌, ◌+◌, ℕ, Option, List, length, drop, take, ◌++◌, sym, ◌∙◌, ap, subst, arith, add-one}
 use Rattle.std.proofs.lemmas.List.{take_at}
 use Rattle.monitor_search.specs.Known.{has_stuck_number}
-use Rattle.monitor_reasons.specs.inside.Distances.{AreDistances, AreLevelFilled, AreSearched, any_below, distance_at, is_behind}
+use Rattle.monitor_reasons.specs.inside.Distances.{AreDistances, AreLevelFilled, AreSearched, any_below, is_behind}
 use Rattle.monitor_reasons.proofs.Searched.{level_is_known, searched_all, searched_found, searched_stop}
 use Rattle.monitor_reasons.proofs.distances.distances_to.Goals as goal
 
