@@ -126,7 +126,8 @@ fn reason_without_circle(
     }
 }
 
-/// Why the task at a place is stuck, where these are the stuck tasks: the first of the four reasons that is so.
+/// Why the task at a place is stuck, where these are the stuck tasks: the first of the four reasons that is so. Its places are below the length of the list.
+/// `NoMemory` comes only where memory is wanting.
 pub fn reason_of(
     alloc: Global,
     state: &MonitorState,
