@@ -8,7 +8,7 @@ use Rattle.monitor_words.specs.Stops.{ComesFirst, IsChain, IsFirstCircle, stops}
 use Rattle.monitor_words.proofs.Circles.{chain_leads, first_by_length}
 use Rattle.monitor_state.specs.NumberedLists.{AreAscending}
 use Rattle.monitor_reasons.specs.Found.{participant_at}
-use Rattle.monitor_reasons.specs.inside.Distances.{AreDistances, IsChainDistance, IsFirstNext, IsCircleWalk, distance_at, is_distance, is_next, leads_at, stops_at}
+use Rattle.monitor_reasons.specs.inside.Distances.{AreKnownDistances, IsKnownDistance, IsFirstNext, IsCircleWalk, distance_at, is_distance, is_next, leads_at, stops_at}
 use Rattle.monitor_reasons.specs.inside.Listings.{listing}
 use Rattle.monitor_reasons.proofs.Levels.{exact, leads_less}
 
@@ -29,9 +29,9 @@ pub next_listed : (s : TraceState) (stuck : ℕ → Bool) (distances : List (Opt
     IsFirstNext (listing us) stuck distances n t u → IsFirstNext s stuck distances n t u
 next_listed s stuck distances n t u us same next = let m = subst (λ l. IsFirstNext (listing l) stuck distances n t u) same next in record { within = m.within; goes = m.goes; first = m.first }
 
-module _ (s : TraceState) (stuck : ℕ → Bool) (f d : ℕ) (distances : List (Option ℕ)) (known : AreDistances s stuck f d distances) where
-  known_as : (t n : ℕ) → t < length s.list → distance_at distances t ≡ Some n → IsChainDistance s stuck f d t (Some n)
-  known_as t n within is = subst (λ o. IsChainDistance s stuck f d t o) is (known.each t within)
+module _ (s : TraceState) (stuck : ℕ → Bool) (f d : ℕ) (distances : List (Option ℕ)) (known : AreKnownDistances s stuck f d distances) where
+  known_as : (t n : ℕ) → t < length s.list → distance_at distances t ≡ Some n → IsKnownDistance s stuck f d t (Some n)
+  known_as t n within is = subst (λ o. IsKnownDistance s stuck f d t o) is (known.each t within)
 
   -- who stops t and leads to f by a chain that is shorter by one is one to go to
   is_next_from : (n t u : ℕ) → t < length s.list → distance_at distances t ≡ Some (suc n) → u < length s.list → stops_at s stuck u t ≡ true → leads_at s stuck f n u ≡ true →

@@ -1,5 +1,5 @@
 -- Distances level by level.
-use Rattle.std.proofs.Common.{◌≡◌, ℕ, zero, suc, ◌<◌, ◌+◌, ◌-◌, ◌==◌, Bool, true, false, ◌&&◌, ◌||◌, Option, Some, None, List, [], length, refl, sym, ◌∙◌, ap, subst, inl, inr, arith, add-one}
+use Rattle.std.proofs.Common.{◌≡◌, ℕ, zero, suc, ◌<◌, ◌≤◌, ◌+◌, ◌-◌, ◌==◌, Bool, true, false, ◌&&◌, ◌||◌, Option, Some, None, List, [], length, refl, sym, ◌∙◌, ap, subst, inl, inr, arith, add-one}
 use Rattle.std.specs.Prelude.{nat_lt}
 use Rattle.std.proofs.lemmas.Bool.{and_from, and_parts, cases_Bool, cases_lt, eqb-true, lt-ltb, ltb-true, or_cases, true≢false}
 use Rattle.std.proofs.Common.{eq-eqb}
@@ -9,7 +9,7 @@ use Rattle.monitor_words.specs.Stops.{stops}
 use Rattle.monitor_words.proofs.Circles.{leads}
 use Rattle.monitor_state.proofs.OnePassing.{first_place}
 use Rattle.monitor_reasons.specs.Found.{participant_at}
-use Rattle.monitor_reasons.specs.inside.Distances.{AreDistances, AreFilled, IsChainDistance, any_below, distance_at, filled, is_before, is_behind, leads_at, stops_at}
+use Rattle.monitor_reasons.specs.inside.Distances.{AreDistances, AreFilled, AreKnownDistances, IsChainDistance, IsKnownDistance, any_below, distance_at, filled, is_before, is_behind, leads_at, stops_at}
 
 -- ---- tests
 
@@ -83,8 +83,12 @@ module _ (s : TraceState) (stuck : ℕ → Bool) (f : ℕ) where
       let parts = and_parts (stops_at s stuck m.0 t) (leads_at s stuck f n m.0) (m.1.here (new_participant 0 [])) in
       (m.0, m.1.within, parts.0, parts.1)
 
+  pub is_known : (d t : ℕ) (o : Option ℕ) → IsChainDistance s stuck f d t o → IsKnownDistance s stuck f d t o
+  is_known d t None far = far
+  is_known d t (Some n) far = ((let lt = far.0 in omega arith), far.1, far.2)
+
   -- who stops t and leads on has the distance before that of t
-  pub exact : (d n u t : ℕ) (o : Option ℕ) → IsChainDistance s stuck f d u o → u < length s.list → n < d → leads_at s stuck f n u ≡ true → stops_at s stuck u t ≡ true →
+  pub exact : (d n u t : ℕ) (o : Option ℕ) → IsKnownDistance s stuck f d u o → u < length s.list → n < d → leads_at s stuck f n u ≡ true → stops_at s stuck u t ≡ true →
       ((j : ℕ) → j < suc n → leads_at s stuck f j t ≡ false) → o ≡ Some n
   exact d n u t None far within lt leads_on goes none = absurd (true≢false (sym leads_on ∙ far n lt))
   exact d n u t (Some e) far within lt leads_on goes none = elim (cases_lt e n) [
@@ -126,8 +130,33 @@ module _ (s : TraceState) (stuck : ℕ → Bool) (f : ℕ) where
     none_behind (suc d) t known listed within unknown none leads_on =
         let m = leads_less d t leads_on in
         let far = subst (λ o. IsChainDistance s stuck f (suc d) t o) unknown (known.each t within) in
-        let e = exact (suc d) d m.0 t (distance_at distances m.0) (known.each m.0 m.1) m.1 (omega arith) m.3 m.2 far in
+        let e = exact (suc d) d m.0 t (distance_at distances m.0) (is_known (suc d) m.0 (distance_at distances m.0) (known.each m.0 m.1)) m.1 (omega arith) m.3 m.2 far in
         none m.0 m.1 (or_right ((m.0 == f) && (suc d == 0)) (is_before (distance_at distances m.0) (suc d)) (ap (λ o. is_before o (suc d)) e ∙ before_from d)) m.2
+
+    some_lead : (d t bound : ℕ) → AreDistances s stuck f d distances → bound ≤ length s.list →
+        any_below (λ u. is_behind distances f d u && stops_at s stuck u t) bound ≡ true → leads_at s stuck f d t ≡ true
+    some_lead d t bound known within some =
+        let m = any_below_is (λ u. is_behind distances f d u && stops_at s stuck u t) bound some in
+        let parts = and_parts (is_behind distances f d m.0) (stops_at s stuck m.0 t) m.2 in
+        behind_leads d t m.0 known (let lt = m.1 in omega arith) parts.0 parts.1
+
+    part_of_level : (d t : ℕ) (o : Option ℕ) (passes : Bool) → IsChainDistance s stuck f d t o → (passes ≡ true → leads_at s stuck f d t ≡ true) →
+        IsKnownDistance s stuck f d t (filled o passes d)
+    part_of_level d t None true far on = (omega arith, on refl, far)
+    part_of_level d t None false far on = far
+    part_of_level d t (Some n) passes far on = ((let lt = far.0 in omega arith), far.1, far.2)
+
+    -- some of a level more are known
+    pub part_known : (d bound : ℕ) (new : List (Option ℕ)) → AreDistances s stuck f d distances → bound ≤ length s.list →
+        AreFilled distances new d (λ t. any_below (λ u. is_behind distances f d u && stops_at s stuck u t) bound) → AreKnownDistances s stuck f d new
+    part_known d bound new known within fills =
+        record {
+          long = fills.long ∙ known.long;
+          each = λ t listed.
+              subst (λ o. IsKnownDistance s stuck f d t o) (sym (fills.each t (let e = known.long in omega arith)))
+              (part_of_level d t (distance_at distances t) (any_below (λ u. is_behind distances f d u && stops_at s stuck u t) bound) (known.each t listed)
+              (λ some. some_lead d t bound known within some));
+        }
 
     -- one level more is known
     pub level_known : (d : ℕ) (new : List (Option ℕ)) → f < length s.list → AreDistances s stuck f d distances →
@@ -140,10 +169,7 @@ module _ (s : TraceState) (stuck : ℕ → Bool) (f : ℕ) where
             let shorter : t < length distances = (let e = known.long in omega arith) in
             subst (λ o. IsChainDistance s stuck f (suc d) t o) (sym (fills.each t shorter))
             (after_level d t (distance_at distances t) (any_below p (length s.list)) (known.each t within)
-            (λ some.
-            let m = any_below_is p (length s.list) some in
-            let parts = and_parts (is_behind distances f d m.0) (stops_at s stuck m.0 t) m.2 in
-            behind_leads d t m.0 known m.1 parts.0 parts.1)
+            (λ some. some_lead d t (length s.list) known (omega arith) some)
             (λ unknown none. elim (cases_Bool (leads_at s stuck f d t)) [
               | inl on ↦ absurd (none_behind d t known listed within unknown
                   (λ u lt is goes. true≢false (sym (any_below_from p (length s.list) u lt (and_from (is_behind distances f d u) (stops_at s stuck u t) is goes)) ∙ none)) on)

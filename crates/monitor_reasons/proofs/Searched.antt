@@ -1,18 +1,19 @@
 -- Levels are filled place by place, until no circle can be missed.
-use Rattle.std.proofs.Common.{◌≡◌, ℕ, zero, suc, ◌<◌, ◌+◌, ◌==◌, Bool, false, ◌&&◌, ◌||◌, Option, None, List, [], length, refl, sym, ◌∙◌, ap, subst, inl, inr, arith, eq-eqb}
-use Rattle.std.specs.Prelude.{is_some, not}
+use Rattle.std.proofs.Common.{◌≡◌, ℕ, zero, suc, ◌<◌, ◌+◌, ◌==◌, Bool, true, false, ◌&&◌, ◌||◌, Option, Some, None, List, [], length, refl, sym, ◌∙◌, ap, subst, inl, inr, arith, eq-eqb}
+use Rattle.std.specs.Prelude.{is_some}
 use Rattle.std.proofs.lemmas.Bool.{and_from, cases_Bool, true≢false}
 use Rattle.std.proofs.lemmas.List.Elements.{Contains-get_or}
-use Rattle.monitor_laws.specs.States.{TraceState, new_participant}
+use Rattle.monitor_laws.specs.States.{Participant, TraceState, new_participant}
 use Rattle.monitor_words.specs.Reasons.{HasNoCircle}
 use Rattle.monitor_words.proofs.Circles.{chain_leads, circle_lt}
 use Rattle.monitor_reasons.specs.Found.{participant_at}
-use Rattle.monitor_reasons.specs.inside.Distances.{AreDistances, AreFilled, AreSearched, IsChainDistance, any_below, distance_at, needs_level, is_before, is_behind, leads_at}
+use Rattle.monitor_reasons.specs.inside.Distances.{AreDistances, AreFilled, AreKnownDistances, AreLevelFilled, AreSearched, IsChainDistance, any_below, distance_at, is_before, is_behind, leads_at, stops_at}
+use Rattle.monitor_reasons.specs.inside.Listings.{listing}
 use Rattle.monitor_reasons.proofs.Fills.{fills_more}
-use Rattle.monitor_reasons.proofs.Levels.{any_below_from, any_below_more, before_filled, known_if_leads, or_left, or_right}
+use Rattle.monitor_reasons.proofs.Levels.{any_below_from, any_below_more, before_filled, is_known, known_if_leads, level_known, or_left, or_right, part_known}
 
 -- by one place more
-pub level_more : (old mid new : List (Option ℕ)) (f d u : ℕ) (p : ℕ → ℕ → Bool) → u < length old →
+level_more : (old mid new : List (Option ℕ)) (f d u : ℕ) (p : ℕ → ℕ → Bool) → u < length old →
     AreFilled old mid d (λ t. any_below (λ v. is_behind old f d v && p v t) u) → AreFilled mid new d (λ t. is_behind mid f d u && p u t) →
     AreFilled old new d (λ t. any_below (λ v. is_behind old f d v && p v t) (u + 1))
 level_more old mid new f d u p lt before here =
@@ -24,10 +25,21 @@ level_more old mid new f d u p lt before here =
     (λ t within.
     ap (λ b. any_below (λ v. is_behind old f d v && p v t) u || (b && p u t)) same ∙ sym (any_below_more (λ v. is_behind old f d v && p v t) u))
 
+-- of the list of a state
+pub level_more_of : (s : TraceState) (stuck : ℕ → Bool) (us : List Participant) → us ≡ s.list → (old mid new : List (Option ℕ)) (f d u : ℕ) → u < length old →
+    AreFilled old mid d (λ t. any_below (λ v. is_behind old f d v && stops_at s stuck v t) u) → AreFilled mid new d (λ t. is_behind mid f d u && stops_at (listing us) stuck u t) →
+    AreFilled old new d (λ t. any_below (λ v. is_behind old f d v && stops_at s stuck v t) (u + 1))
+level_more_of s stuck us same old mid new f d u lt before here =
+    level_more old mid new f d u (λ v t. stops_at s stuck v t) lt before
+    (subst (λ (l : List Participant). AreFilled mid new d (λ t. is_behind mid f d u && stops_at (listing l) stuck u t)) same here)
+
 module _ (s : TraceState) (stuck : ℕ → Bool) (f : ℕ) (distances : List (Option ℕ)) (listed : f < length s.list) where
+  all_known : (d : ℕ) → AreDistances s stuck f d distances → AreKnownDistances s stuck f d distances
+  all_known d known = record { long = known.long; each = λ t within. is_known s stuck f d t (distance_at distances t) (known.each t within) }
+
   -- a circle is no longer than the list
   pub searched_all : AreDistances s stuck f (length s.list) distances → AreSearched s stuck f distances
-  searched_all known = record { bound = length s.list; known = known; none = λ unknown. no_circle (subst (λ o. IsChainDistance s stuck f (length s.list) f o) unknown (known.each f listed)) }
+  searched_all known = record { bound = length s.list; known = all_known (length s.list) known; none = λ unknown. no_circle (subst (λ o. IsChainDistance s stuck f (length s.list) f o) unknown (known.each f listed)) }
     where
       no_circle : ((j : ℕ) → j < length s.list → leads_at s stuck f j f ≡ false) → HasNoCircle s stuck (participant_at s.list f)
       no_circle far others circle =
@@ -48,10 +60,25 @@ module _ (s : TraceState) (stuck : ℕ → Bool) (f : ℕ) (distances : List (Op
       ])
       (length others) f listed (chain_leads s stuck (participant_at s.list f) (participant_at s.list f) others circle.0) unknown
 
-  pub searched_stop : (d : ℕ) → AreDistances s stuck f d distances → needs_level distances f d ≡ false → AreSearched s stuck f distances
-  searched_stop d known stops = record {
+  pub searched_stop : (d : ℕ) → AreDistances s stuck f d distances → any_below (λ u. is_behind distances f d u) (length distances) ≡ false → AreSearched s stuck f distances
+  searched_stop d known stops = record { bound = d; known = all_known d known; none = λ unknown. nobody_behind d known stops unknown }
+
+  -- where f has a distance a circle of it is known
+  pub searched_found : (d : ℕ) (old : List (Option ℕ)) → AreDistances s stuck f d old → AreLevelFilled s stuck f d old distances → is_some (distance_at distances f) ≡ true →
+      AreSearched s stuck f distances
+  searched_found d old known level some = record {
     bound = d;
-    known = known;
-    none = λ unknown. nobody_behind d known
-        (sym (ap (λ o. not (is_some o) && any_below (λ u. is_behind distances f d u) (length distances)) unknown) ∙ stops) unknown;
+    known = part_known s stuck f old d level.bound distances known level.within level.fills;
+    none = λ unknown. absurd (true≢false (sym some ∙ ap is_some unknown));
   }
+
+  none_from : (o : Option ℕ) → is_some o ≡ false → o ≡ None
+  none_from None none = refl
+  none_from (Some n) none = absurd (true≢false none)
+
+  -- and where it has none the whole level is known
+  pub level_is_known : (d : ℕ) (old : List (Option ℕ)) → AreDistances s stuck f d old → AreLevelFilled s stuck f d old distances → is_some (distance_at distances f) ≡ false →
+      AreDistances s stuck f (suc d) distances
+  level_is_known d old known level none =
+      level_known s stuck f old d distances listed known
+      (subst (λ k. AreFilled old distances d (λ t. any_below (λ u. is_behind old f d u && stops_at s stuck u t) k)) (level.whole (none_from (distance_at distances f) none)) level.fills)

@@ -1,11 +1,11 @@
 // How far tasks are from a task that stops them.
-ghost use Rattle.std.specs.Prelude.{◌≡◌, ◌<◌, ◌&&◌, ◌==◌, None, IfOk, length, replicate};
+ghost use Rattle.std.specs.Prelude.{◌≡◌, ◌<◌, ◌&&◌, ◌==◌, None, IfOk, is_some, length, replicate};
 ghost use Rattle.std.specs.List.{list_any};
 ghost use Rattle.monitor_words.specs.Stops.{keeps_waiting, stands_for};
 ghost use Rattle.monitor_search.specs.Known.{has_stuck_number};
 ghost use Rattle.monitor_reasons.specs.Found.{participant_at};
 ghost use Rattle.monitor_reasons.specs.inside.Listings.{listing};
-ghost use Rattle.monitor_reasons.specs.inside.Distances.{AreFilled, AreSearched, any_below, filled, needs_level, is_before, is_behind, stops_at};
+ghost use Rattle.monitor_reasons.specs.inside.Distances.{AreFilled, AreLevelFilled, AreSearched, any_below, distance_at, filled, is_before, is_behind, stops_at};
 
 use crate::stopping::{keeps_waiting, stands_for};
 use armus_base::NoMemory;
@@ -94,21 +94,27 @@ fn fill_behind(
     fill_from(list, &list[u], d, distances);
 }
 
-// The distance d for those who are stopped by a task behind it.
+// The distance d for those who are stopped by a task behind it, until the task has a distance; whether it has one then.
 fn fill_level(
     state: &MonitorState,
     stuck: &StuckTasks,
     task: usize,
     d: usize,
     distances: &mut [Option<usize>],
-)
-    requires { length distances.old ≡ length state.now.list }
-    ensures { AreFilled distances.old distances.new d (λ t. any_below (λ u. is_behind distances.old task d u && stops_at state.now (has_stuck_number stuck.now) u t) (length state.now.list)) }
+) -> bool
+    requires long { length distances.old ≡ length state.now.list }
+    requires place { task < length state.now.list }
+    ensures known { result ≡ is_some (distance_at distances.new task) }
+    ensures filled { AreLevelFilled state.now (has_stuck_number stuck.now) task d distances.old distances.new }
 {
     let list = state.participants();
     for u in 0..list.len() {
         fill_behind(list, stuck, task, d, u, distances);
+        if distances[task].is_some() {
+            return true;
+        }
     }
+    distances[task].is_some()
 }
 
 // Whether some place is behind the level.
@@ -121,14 +127,6 @@ fn is_any_behind(distances: &[Option<usize>], task: usize, d: usize) -> bool
         }
     }
     false
-}
-
-// Whether the level is to be looked at.
-fn needs_level(distances: &[Option<usize>], task: usize, d: usize) -> bool
-    requires { task < length distances.now }
-    ensures { result ≡ needs_level distances.now task d }
-{
-    distances[task].is_none() && is_any_behind(distances, task, d)
 }
 
 // No distance is known.
@@ -155,10 +153,12 @@ pub(crate) fn distances_to(
     let count = state.participants().len();
     let mut distances = none_known(alloc, count)?;
     for d in 0..count {
-        if !needs_level(&distances, task, d) {
+        if !is_any_behind(&distances, task, d) {
             return Ok(distances);
         }
-        fill_level(state, stuck, task, d, &mut distances);
+        if fill_level(state, stuck, task, d, &mut distances) {
+            return Ok(distances);
+        }
     }
     Ok(distances)
 }

@@ -1,18 +1,18 @@
 // Why a task is stuck.
-ghost use Rattle.std.specs.Prelude.{◌≡◌, ◌<◌, false, IfOk, IfSome, IfNone, length};
+ghost use Rattle.std.specs.Prelude.{◌≡◌, ◌<◌, All, false, IfOk, IfSome, IfNone, length};
 ghost use Rattle.std.specs.List.{list_any};
-ghost use Rattle.monitor_laws.specs.States.{TraceState};
-ghost use Rattle.monitor_words.specs.Reasons.{HasNoCircle, IsStuckBecause, ended_keeps, has_ended};
-ghost use Rattle.monitor_words.specs.Stops.{stops};
+ghost use Rattle.monitor_words.specs.Reasons.{IsStuckBecause, ended_keeps, has_ended};
+ghost use Rattle.monitor_words.specs.Stops.{stands_for, stops};
 ghost use Rattle.monitor_state.specs.Values.{condition_value};
 ghost use Rattle.monitor_state.specs.inside.FirstPlaces.{IsFirstAt};
 ghost use Rattle.monitor_search.specs.Known.{has_stuck_number};
 ghost use Rattle.monitor_reasons.specs.Found.{ArePlacesOfList, participant_at, reason_value};
-ghost use Rattle.monitor_reasons.specs.inside.Listings.{listing};
+ghost use Rattle.monitor_reasons.specs.inside.ListReasons.{IsReasonIn};
+ghost use Rattle.monitor_reasons.specs.inside.Listings.{AreKeepers, IsFoundStopper, listing};
 
 use crate::FoundReason;
 use crate::circles::circle_of;
-use crate::stopping::{keeps_waiting, stops};
+use crate::stopping::{keeps_waiting, stands_for};
 use armus_base::NoMemory;
 use monitor_search::StuckTasks;
 use monitor_state::{ListedCondition, ListedParticipant, MonitorState};
@@ -45,38 +45,89 @@ fn ended_keeper(list: &[ListedParticipant], f: &ListedParticipant) -> Option<usi
     None
 }
 
-// Where the first task that stops f stands.
-fn stopper(list: &[ListedParticipant], stuck: &StuckTasks, f: &ListedParticipant) -> Option<usize>
-    ensures at { IfSome result (IsFirstAt (λ v. stops (listing list.now) (has_stuck_number stuck.now) v f.now) list.now) }
-    ensures none { IfNone result (list_any (λ v. stops (listing list.now) (has_stuck_number stuck.now) v f.now) list.now ≡ false) }
+// The places of those who keep f waiting.
+fn keepers_of(
+    alloc: Global,
+    list: &[ListedParticipant],
+    f: &ListedParticipant,
+) -> Result<Vec<usize>, NoMemory>
+    ensures { IfOk result (λ places. AreKeepers list.now f.now places.items) }
 {
-    for (at, u) in list.iter().enumerate() {
-        if stops(list, stuck, u, f) {
-            return Some(at);
+    let mut places = Vec::new(alloc);
+    for (at, w) in list.iter().enumerate() {
+        if keeps_waiting(w, f) {
+            places.push(at)?;
         }
     }
-    None
+    Ok(places)
+}
+
+// Whether somebody at these places stands for u.
+fn is_stood_for(list: &[ListedParticipant], places: &[usize], u: &ListedParticipant) -> bool
+    requires { All (λ i. i < length list.now) places.now }
+    ensures { result ≡ list_any (λ i. stands_for (participant_at list.now i) u.now) places.now }
+{
+    for place in places {
+        if stands_for(&list[*place], u) {
+            return true;
+        }
+    }
+    false
+}
+
+// Whether u stops f, whom those at these places keep waiting. Whether it is stuck is asked last, since that costs most.
+fn is_stopper(
+    list: &[ListedParticipant],
+    stuck: &StuckTasks,
+    keepers: &[usize],
+    f: &ListedParticipant,
+    u: &ListedParticipant,
+) -> bool
+    requires { AreKeepers list.now f.now keepers.now }
+    ensures { result ≡ stops (listing list.now) (has_stuck_number stuck.now) u.now f.now }
+{
+    is_stood_for(list, keepers, u) && stuck.has_number(u.number())
+}
+
+// Where the first task that stops f stands.
+fn stopper(
+    alloc: Global,
+    list: &[ListedParticipant],
+    stuck: &StuckTasks,
+    f: &ListedParticipant,
+) -> Result<Option<usize>, NoMemory>
+    ensures { IfOk result (IsFoundStopper list.now (has_stuck_number stuck.now) f.now) }
+{
+    let keepers = keepers_of(alloc, list, f)?;
+    for (at, u) in list.iter().enumerate() {
+        if is_stopper(list, stuck, &keepers, f, u) {
+            return Ok(Some(at));
+        }
+    }
+    Ok(None)
 }
 
 // Why f is stuck, which stands in no circle.
 fn reason_without_circle(
+    alloc: Global,
     list: &[ListedParticipant],
     stuck: &StuckTasks,
     f: &ListedParticipant,
-) -> FoundReason
-    ensures reason { (s : TraceState) → s.list ≡ list.now → HasNoCircle s (has_stuck_number stuck.now) f.now → IsStuckBecause s (has_stuck_number stuck.now) f.now (reason_value s.list result) }
-    ensures places { ArePlacesOfList list.now result }
+) -> Result<FoundReason, NoMemory>
+    ensures reason { IfOk result (λ found. IsReasonIn list.now (has_stuck_number stuck.now) f.now found) }
+    ensures places { IfOk result (λ found. ArePlacesOfList list.now found) }
 {
     match ended_keeper(list, f) {
-        Some(at) => FoundReason::EndedKeeps(at),
-        None => match stopper(list, stuck, f) {
-            Some(at) => FoundReason::StuckStops(at),
-            None => FoundReason::SomebodyMissing,
+        Some(at) => Ok(FoundReason::EndedKeeps(at)),
+        None => match stopper(alloc, list, stuck, f)? {
+            Some(at) => Ok(FoundReason::StuckStops(at)),
+            None => Ok(FoundReason::SomebodyMissing),
         },
     }
 }
 
-/// Why the task at a place is stuck, where these are the stuck tasks: the first of the four reasons that is so.
+/// Why the task at a place is stuck, where these are the stuck tasks: the first of the four reasons that is so. Its places are below the length of the list.
+/// `NoMemory` comes only where memory is wanting.
 pub fn reason_of(
     alloc: Global,
     state: &MonitorState,
@@ -91,7 +142,7 @@ pub fn reason_of(
         Some(places) => Ok(FoundReason::InCircle(places)),
         None => {
             let list = state.participants();
-            let found = reason_without_circle(list, stuck, &list[task]);
+            let found = reason_without_circle(alloc, list, stuck, &list[task])?;
             Ok(found)
         }
     }

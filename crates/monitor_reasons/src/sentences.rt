@@ -120,7 +120,8 @@ fn reason_shown(
     }
 }
 
-/// The sentence on the task at a place, with the reason that was found; `NoMemory` also where 2^32 of a circle are left behind those that are shown.
+/// The sentence on the task at a place, with the reason that was found. `NoMemory` comes where memory is wanting, and where a circle has so many tasks that
+/// those left behind the shown ones are no `u32`.
 pub fn sentence_of(
     alloc: Global,
     state: &MonitorState,

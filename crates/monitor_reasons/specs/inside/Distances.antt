@@ -1,5 +1,5 @@
 -- How far tasks are from a task that stops them, by their places: a task has the distance n where the shortest chain from it to the task has n others.
-use Rattle.std.specs.Prelude.{◌≡◌, ℕ, zero, suc, ◌<◌, ◌-◌, ◌==◌, Bool, true, false, not, ◌&&◌, ◌||◌, if◌then◌else◌, All, Option, Some, None, List, [], ◌∷◌, is_some, length, map, nat_lt, slice_index_or}
+use Rattle.std.specs.Prelude.{◌≡◌, ℕ, zero, suc, ◌<◌, ◌≤◌, ◌-◌, ◌==◌, Bool, true, false, ◌&&◌, ◌||◌, if◌then◌else◌, All, Option, Some, None, List, [], ◌∷◌, length, map, nat_lt, slice_index_or}
 use Rattle.std.specs.Global.{Vec}
 use Rattle.monitor_laws.specs.States.{TraceState}
 use Rattle.monitor_words.specs.Reasons.{HasNoCircle}
@@ -28,6 +28,16 @@ IsChainDistance s stuck f d t (Some n) = (n < d) × (leads_at s stuck f n t ≡ 
 pub record AreDistances (s : TraceState) (stuck : ℕ → Bool) (f d : ℕ) (distances : List (Option ℕ)) : Type 0 where
   pub long : length distances ≡ length s.list
   pub each : (t : ℕ) → t < length s.list → IsChainDistance s stuck f d t (distance_at distances t)
+
+-- the same, but some that have the distance d may be known to have it
+abbrev pub IsKnownDistance : TraceState → (ℕ → Bool) → ℕ → ℕ → ℕ → Option ℕ → Type 0
+IsKnownDistance s stuck f d t None = (j : ℕ) → j < d → leads_at s stuck f j t ≡ false
+IsKnownDistance s stuck f d t (Some n) = (n ≤ d) × (leads_at s stuck f n t ≡ true) × ((j : ℕ) → j < n → leads_at s stuck f j t ≡ false)
+
+-- of each place
+pub record AreKnownDistances (s : TraceState) (stuck : ℕ → Bool) (f d : ℕ) (distances : List (Option ℕ)) : Type 0 where
+  pub long : length distances ≡ length s.list
+  pub each : (t : ℕ) → t < length s.list → IsKnownDistance s stuck f d t (distance_at distances t)
 
 -- the distance d where none is known and the test passes
 abbrev pub filled : Option ℕ → Bool → ℕ → Option ℕ
@@ -75,15 +85,18 @@ IsCircleWalk s stuck distances zero t (u ∷ us) = ⊥
 IsCircleWalk s stuck distances (suc n) t [] = ⊥
 IsCircleWalk s stuck distances (suc n) t (u ∷ us) = IsFirstNext s stuck distances n t u × IsCircleWalk s stuck distances n u us
 
+-- the distance d for those whom places behind the level stop: all such places, or some of them where f has a distance then
+pub record AreLevelFilled (s : TraceState) (stuck : ℕ → Bool) (f d : ℕ) (old new : List (Option ℕ)) : Type 0 where
+  pub bound : ℕ
+  pub within : bound ≤ length s.list
+  pub fills : AreFilled old new d (λ t. any_below (λ u. is_behind old f d u && stops_at s stuck u t) bound)
+  pub whole : distance_at new f ≡ None → bound ≡ length s.list
+
 -- distances are known as far as a circle of f needs them
 pub record AreSearched (s : TraceState) (stuck : ℕ → Bool) (f : ℕ) (distances : List (Option ℕ)) : Type 0 where
   pub bound : ℕ
-  pub known : AreDistances s stuck f bound distances
+  pub known : AreKnownDistances s stuck f bound distances
   pub none : distance_at distances f ≡ None → HasNoCircle s stuck (participant_at s.list f)
-
--- the next level is to be looked at: f has no distance yet, and some place is behind the level
-abbrev pub needs_level : List (Option ℕ) → ℕ → ℕ → Bool
-needs_level distances f d = not (is_some (distance_at distances f)) && any_below (λ u. is_behind distances f d u) (length distances)
 
 -- the places of the first circle of f, or none where it has no circle
 abbrev pub IsFoundCircle : TraceState → (ℕ → Bool) → ℕ → Option (Vec ℕ) → Type 0
