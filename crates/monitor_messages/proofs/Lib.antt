@@ -1,2 +1,4 @@
 pub mod Unchanged
 pub mod TakenLines
+pub mod Refused
+pub mod Guarded

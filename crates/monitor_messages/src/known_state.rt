@@ -1,10 +1,10 @@
 // A state of which it is known who is stuck in it.
-ghost use Rattle.std.specs.Prelude.{◌≡◌, ◌++◌, ℕ, Bool, false, IfOk, OnOk};
+ghost use Rattle.std.specs.Prelude.{◌≡◌, ◌++◌, ℕ, Bool, false, IfNone, IfOk, IfSome, OnOk};
 ghost use Rattle.std.specs.Option.{option_map};
 ghost use Rattle.monitor_laws.specs.Faults.{first_fault};
 ghost use Rattle.monitor_laws.specs.States.{TraceState, after_line, nobody_named};
 ghost use Rattle.monitor_laws.proofs.Lawful.{IsLawfulState};
-ghost use Rattle.monitor_search.specs.Known.{AreStuckTasks, has_stuck_number};
+ghost use Rattle.monitor_search.specs.Known.{AreStuckTasks, KeepsStuck, has_stuck_number};
 ghost use Rattle.monitor_words.specs.Messages.{asked_words, report_words};
 ghost use Rattle.monitor_words.specs.Stops.{TellsStuck};
 ghost use Rattle.trace_lines.specs.Values.{line_value};
@@ -41,7 +41,30 @@ impl Model for KnownState {
     ghost invariant = { λ k. IsLawfulState k.state × AreStuckTasks k.state k.stuck };
 }
 
-// Appends what is told of those that become stuck by the line and of those that are stuck no more, and answers who is stuck now, and whether somebody became so.
+/// Appends what is told of those that become stuck by the line and of those that are stuck no more, where these were found, or the same as before. Answers who is
+/// stuck now, and whether somebody became so.
+pub(crate) fn told_by(
+    alloc: Global,
+    out: &mut Vec<u8>,
+    state: &MonitorState,
+    line: &TraceLine,
+    was: StuckTasks,
+    found: Option<StuckTasks>,
+) -> Result<(StuckTasks, bool), NoMemory>
+    requires same { IfNone found (KeepsStuck state.now (line_value line.now) was) }
+    requires found { IfSome found (λ known. AreStuckTasks state.now known) }
+    ensures { IfOk result (λ r. (s : TraceState) → IsKnownBefore s (line_value line.now) was state.now → AreStuckTasks state.now r.0 × TellsChange s (line_value line.now) was state.now r.0 out.old.items out.new.items r.1) }
+{
+    match found {
+        None => Ok((was, false)),
+        Some(stuck) => {
+            let told = put_change(alloc, out, state, line, &was, &stuck)?;
+            Ok((stuck, told))
+        }
+    }
+}
+
+/// The same, where they are to be found.
 pub(crate) fn told_change(
     alloc: Global,
     out: &mut Vec<u8>,
@@ -51,13 +74,8 @@ pub(crate) fn told_change(
 ) -> Result<(StuckTasks, bool), NoMemory>
     ensures { IfOk result (λ r. (s : TraceState) → IsKnownBefore s (line_value line.now) was state.now → AreStuckTasks state.now r.0 × TellsChange s (line_value line.now) was state.now r.0 out.old.items out.new.items r.1) }
 {
-    match stuck_after(alloc, state, line, &was)? {
-        None => Ok((was, false)),
-        Some(stuck) => {
-            let told = put_change(alloc, out, state, line, &was, &stuck)?;
-            Ok((stuck, told))
-        }
-    }
+    let found = stuck_after(alloc, state, line, &was)?;
+    told_by(alloc, out, state, line, was, found)
 }
 
 // Appends what the line asks for: a report, a list, or nothing.

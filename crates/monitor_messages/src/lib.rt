@@ -5,6 +5,7 @@
 
 mod changes;
 mod faults;
+mod guard;
 mod known_state;
 mod monitor;
 

@@ -2,7 +2,7 @@ use Rattle.std.proofs.Common.{rules, ◌≡◌}
 use Rattle.monitor_search.specs.Known.{AreStuckTasks, KeepsStuck}
 use Rattle.trace_lines.specs.Values.{line_value}
 use Rattle.monitor_messages.proofs.Unchanged.{same_told}
-use Rattle.monitor_messages.proofs.known_state.told_change.Goals as goal
+use Rattle.monitor_messages.proofs.known_state.told_by.Goals as goal
 
 pub returns-in-None : goal.returns-in-None
 returns-in-None c = λ s known.
