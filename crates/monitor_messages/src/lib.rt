@@ -5,5 +5,7 @@
 
 mod changes;
 mod monitor;
+mod newly;
+mod telling;
 
 pub use monitor::Monitor;
