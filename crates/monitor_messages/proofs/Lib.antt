@@ -1,1 +1,4 @@
-
+pub mod WaitsNewly
+pub mod Gone
+pub mod Tells
+pub mod Places

@@ -1,7 +1,9 @@
 // Those who become stuck by a line, by their places in the list.
-ghost use Rattle.std.specs.Prelude.{◌≡◌, ◌<◌, ◌&&◌, [], All, IfNone, IfOk, IfSome, filter, find, length, map, unwrap_or};
+ghost use Rattle.std.specs.Prelude.{◌≡◌, ◌<◌, ◌&&◌, [], false, All, IfNone, IfOk, IfSome, filter, find, length, map, unwrap_or};
+ghost use Rattle.std.specs.List.{list_any};
 ghost use Rattle.monitor_laws.specs.States.{is_there_as};
 ghost use Rattle.monitor_words.specs.Messages.{those_only_in};
+ghost use Rattle.monitor_state.specs.inside.FirstPlaces.{IsFirstAt};
 ghost use Rattle.monitor_search.specs.Known.{has_stuck_number};
 ghost use Rattle.monitor_reasons.specs.Found.{participant_at};
 ghost use Rattle.trace_lines.specs.Values.{line_value, said_value};
@@ -50,7 +52,8 @@ fn newly_places(
 
 // Where the first who is there with the name t stands.
 fn place_there(list: &[ListedParticipant], t: &[u8]) -> Option<usize>
-    ensures { IsFoundAt (is_there_as t.now) list.now result }
+    ensures at { IfSome result (IsFirstAt (is_there_as t.now) list.now) }
+    ensures none { IfNone result (list_any (is_there_as t.now) list.now ≡ false) }
 {
     for (at, u) in list.iter().enumerate() {
         if u.is_there_as(t) {
