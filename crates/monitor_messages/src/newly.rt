@@ -63,23 +63,29 @@ fn place_there(list: &[ListedParticipant], t: &[u8]) -> Option<usize>
     None
 }
 
-// Where who is there with the name t stands, if it says that it waits.
-fn place_of_said(
-    list: &[ListedParticipant],
-    t: &[u8],
-    what: &Announcement,
-) -> Option<usize>
-    ensures { IsFoundAt (λ u. says_wait (said_value what.now) && is_there_as t.now u) list.now result }
+// Whether a task says that it waits.
+fn says_wait(what: &Announcement) -> bool
+    ensures { result ≡ says_wait (said_value what.now) }
 {
     match what {
-        Announcement::Joins(_, _) => None,
-        Announcement::Arrives(_) => None,
-        Announcement::Leaves(_) => None,
-        Announcement::Waits(_, _) => place_there(list, t),
-        Announcement::Goes => None,
-        Announcement::Ends => None,
-        Announcement::Stands => None,
+        Announcement::Joins(_, _) => false,
+        Announcement::Arrives(_) => false,
+        Announcement::Leaves(_) => false,
+        Announcement::Waits(_, _) => true,
+        Announcement::Goes => false,
+        Announcement::Ends => false,
+        Announcement::Stands => false,
     }
+}
+
+// Where who is there with the name t stands, if it says that it waits.
+fn place_of_said(list: &[ListedParticipant], t: &[u8], what: &Announcement) -> Option<usize>
+    ensures { IsFoundAt (λ u. says_wait (said_value what.now) && is_there_as t.now u) list.now result }
+{
+    if !says_wait(what) {
+        return None;
+    }
+    place_there(list, t)
 }
 
 // Where the task stands that waits by the line, if one does.
