@@ -1,12 +1,11 @@
 -- Those who are stuck no more, as they were known.
-use Rattle.std.proofs.Common.{◌≡◌, ℕ, Bool, true, false, not, ◌&&◌, Some, None, List, [], ◌∷◌, map, refl, sym, ◌∙◌, ap, inl, inr, ◌⊎◌}
-use Rattle.std.specs.Prelude.{codes, filter, ◌++◌}
+use Rattle.std.proofs.Common.{◌≡◌, ℕ, Bool, true, false, not, List, [], ◌∷◌, map, refl, sym, ◌∙◌, ap, inl, inr, ◌⊎◌}
+use Rattle.std.specs.Prelude.{filter}
 use Rattle.std.proofs.lemmas.Bool.{cases_Bool}
 use Rattle.monitor_laws.specs.States.{Participant, TraceState}
 use Rattle.monitor_laws.proofs.OwnLines.{kept, left_out}
 use Rattle.monitor_words.specs.Messages.{resolved_words, those_only_in}
-use Rattle.monitor_words.specs.Words.{message_line, names_of}
-use Rattle.monitor_words.specs.calls.Values.{first_names, names_shown}
+use Rattle.monitor_words.specs.calls.Values.{first_names}
 use Rattle.monitor_words.specs.inside.ValueMessages.{shown_resolved_words}
 use Rattle.monitor_words.proofs.Joined.{joins_resolved}
 use Rattle.monitor_search.specs.Known.{AreStuckTasks, has_stuck_number, known_task}

@@ -1,8 +1,8 @@
 -- Those who stand at places of the list.
-use Rattle.std.proofs.Common.{◌≡◌, ℕ, ◌<◌, Bool, true, false, not, ◌&&◌, Option, Some, None, List, [], ◌∷◌, ◌++◌, length, map, get_or, take, refl, sym, ◌∙◌, ap, subst, inl, inr, ◌⊎◌, arith, rules, ◌+◌}
-use Rattle.std.specs.Prelude.{All, IfNone, IfSome, filter, find, option_to_list, ◌==◌}
+use Rattle.std.proofs.Common.{◌≡◌, ℕ, ◌<◌, Bool, true, false, ◌&&◌, Option, Some, None, List, [], ◌∷◌, ◌++◌, length, map, refl, sym, ◌∙◌, ap, subst}
+use Rattle.std.specs.Prelude.{All, IfNone, IfSome, find, option_to_list, ◌==◌}
 use Rattle.std.specs.List.{list_any, slice_get}
-use Rattle.std.proofs.lemmas.Bool.{cases_Bool, cond-true, cond-false}
+use Rattle.std.proofs.lemmas.Bool.{cond-false}
 use Rattle.std.proofs.lemmas.List.{length-map}
 use Rattle.std.proofs.lemmas.List.Elements.{All-head, All-tail}
 use Rattle.std.proofs.lemmas.Option.{slice_get-get_or}
@@ -12,13 +12,12 @@ use Rattle.monitor_words.specs.Messages.{others_told, those_only_in}
 use Rattle.monitor_words.specs.Reasons.{StuckBecause}
 use Rattle.monitor_words.specs.Words.{groups_by, wait_alike}
 use Rattle.monitor_words.specs.calls.Values.{rows_shown, told_rows_shown}
-use Rattle.monitor_words.specs.declared.rows.ShownRows.{ShownRows}
 use Rattle.monitor_state.specs.inside.FirstPlaces.{IsFirstAt}
 use Rattle.monitor_state.proofs.OnePassing.{found_first, found_none}
 use Rattle.monitor_reasons.specs.Found.{participant_at}
 use Rattle.monitor_rows.specs.Places.{participants_at}
 use Rattle.monitor_messages.specs.declared.newly.NewlyStuck.{NewlyStuck}
-use Rattle.monitor_messages.specs.inside.Newly.{AreNewlyStuck, IsFoundAt, IsToldBy, IsToldOn, waits_by}
+use Rattle.monitor_messages.specs.inside.Newly.{AreNewlyStuck, IsFoundAt, TellsNewly, IsToldOn, waits_by}
 
 -- the first place at which a test passes is where its first stands
 pub found_at : (p : Participant → Bool) (us : List Participant) (at : Option ℕ) → IfSome at (IsFirstAt p us) → IfNone at (list_any p us ≡ false) → IsFoundAt p us at
@@ -61,10 +60,10 @@ rows_are_told s was stuck f places because within all told =
 
 -- the message on those at places is that on them
 pub told_at_places : (l : TraceLine) (s : TraceState) (was stuck : ℕ → Bool) (newly : NewlyStuck) (words : List ℕ) → AreNewlyStuck l s was stuck newly →
-    IsToldOn s was stuck (participant_at s.list newly.first) (map (participant_at s.list) newly.places.items) words → IsToldBy (waits_by l) s was stuck (those_only_in s stuck was) words true
+    IsToldOn s was stuck (participant_at s.list newly.first) (map (participant_at s.list) newly.places.items) words → TellsNewly (waits_by l) s was stuck (those_only_in s stuck was) words true
 told_at_places l s was stuck newly words are told =
     let i = are.first.1 in
     let others = are.first.2 in
     let same = ap (map (participant_at s.list)) are.first.3 in
-    subst (λ us. IsToldBy (waits_by l) s was stuck us words true) (sym same ∙ are.are)
+    subst (λ us. TellsNewly (waits_by l) s was stuck us words true) (sym same ∙ are.are)
     (participant_at s.list newly.first, are.first.4, subst (λ us. IsToldOn s was stuck (participant_at s.list newly.first) us words) same told, refl)

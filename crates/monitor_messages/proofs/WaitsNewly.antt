@@ -1,17 +1,17 @@
 -- Behind a legal line who waits newly is the task of a wait.
-use Rattle.std.proofs.Common.{◌≡◌, ℕ, ◌<◌, Bool, true, false, not, ◌&&◌, ◌||◌, Option, Some, None, List, [], ◌∷◌, refl, sym, ◌∙◌, ap, subst, inl, inr, ◌⊎◌, arith}
+use Rattle.std.proofs.Common.{◌≡◌, ℕ, Bool, true, false, not, ◌&&◌, ◌||◌, Option, List, [], refl, sym, ◌∙◌, ap, inl, inr, arith}
 use Rattle.std.specs.Prelude.{Contains, ◌==◌, bytes_eq, eqb}
 use Rattle.std.specs.List.{list_any, starts_with}
 use Rattle.std.proofs.lemmas.Bool.{cases_Bool, and_parts, and_from, cond-true, cond-false, eqb-true, eq-eqb, not_from_false}
 use Rattle.monitor_laws.specs.Lines.{Announcement, Joins, Arrives, Leaves, Waits, Goes, Ends, Stands, TraceLine, SaysNothing, AsksReport, AsksList, AreGone, Announces, PlaysAny, PlaysOneOf}
-use Rattle.monitor_laws.specs.States.{Condition, Running, Waiting, Ended, AnyTask, OneOf, Participant, TraceState, after_line, announced_by, gone_by, is_live_task, is_live_wildcard, is_there_as, new_participant, placed_at, task_numbers, with_named}
-use Rattle.monitor_laws.specs.Faults.{faults_of, participant_in, waits_now}
+use Rattle.monitor_laws.specs.States.{Ended, AnyTask, OneOf, Participant, TraceState, after_line, announced_by, gone_by, is_live_task, is_live_wildcard, is_there_as, placed_at, task_numbers, with_named}
+use Rattle.monitor_laws.specs.Faults.{faults_of, waits_now}
 use Rattle.monitor_laws.proofs.Changes.{changed_there, from_change, from_named, other_is, there_is}
-use Rattle.monitor_laws.proofs.Filters.{any_from, any_is, none_passes}
-use Rattle.monitor_laws.proofs.Lawful.{IsLawfulState, announced_name, announced_number, placed_condition, placed_name, placed_number}
-use Rattle.monitor_laws.proofs.Rows.{HasNoFault, has_no_fault, named_is}
+use Rattle.monitor_laws.proofs.Filters.{any_from, any_is}
+use Rattle.monitor_laws.proofs.Lawful.{IsLawfulState, announced_number, placed_condition, placed_name, placed_number}
+use Rattle.monitor_laws.proofs.Rows.{has_no_fault, named_is}
 use Rattle.monitor_words.specs.Messages.{waits_newly}
-use Rattle.monitor_messages.specs.inside.Newly.{says_wait, waits_by}
+use Rattle.monitor_messages.specs.inside.Newly.{waits_by}
 
 -- two tests of which each passes where the other does
 same_tests : (a b : Bool) → (a ≡ true → b ≡ true) → (b ≡ true → a ≡ true) → a ≡ b

@@ -6,7 +6,7 @@ ghost use Rattle.monitor_words.specs.Messages.{those_only_in};
 ghost use Rattle.monitor_search.specs.Known.{has_stuck_number};
 ghost use Rattle.monitor_rows.specs.KnownNames.{known_only_in, names_of_known};
 ghost use Rattle.monitor_messages.specs.inside.Changes.{TakesTo, TellsChange};
-ghost use Rattle.monitor_messages.specs.inside.Newly.{IsToldBy, gone_words, waits_by};
+ghost use Rattle.monitor_messages.specs.inside.Newly.{TellsNewly, gone_words, waits_by};
 
 use crate::newly::newly_stuck;
 use crate::telling::put_newly_stuck;
@@ -45,7 +45,7 @@ fn put_newly(
     was: &StuckTasks,
     stuck: &StuckTasks,
 ) -> Result<bool, NoMemory>
-    ensures { IfOk result (λ told. (words : List ℕ) × (out.new.items ≡ out.old.items ++ words) × IsToldBy (waits_by (line_value line.now)) state.now (has_stuck_number was.now) (has_stuck_number stuck.now) (those_only_in state.now (has_stuck_number stuck.now) (has_stuck_number was.now)) words told) }
+    ensures { IfOk result (λ told. (words : List ℕ) × (out.new.items ≡ out.old.items ++ words) × TellsNewly (waits_by (line_value line.now)) state.now (has_stuck_number was.now) (has_stuck_number stuck.now) (those_only_in state.now (has_stuck_number stuck.now) (has_stuck_number was.now)) words told) }
 {
     match newly_stuck(alloc, state, line, was, stuck)? {
         None => Ok(false),

@@ -2,7 +2,7 @@
 use Rattle.std.specs.Prelude.{◌≡◌, ℕ, ◌<◌, Bool, true, false, not, ◌&&◌, All, Option, Some, None, List, [], ◌∷◌, ◌++◌, codes, find, length, map, unwrap_or}
 use Rattle.monitor_laws.specs.Lines.{Announcement, Joins, Arrives, Leaves, Waits, Goes, Ends, Stands, TraceLine, SaysNothing, AsksReport, AsksList, AreGone, Announces, PlaysAny, PlaysOneOf}
 use Rattle.monitor_laws.specs.States.{Participant, TraceState, is_there_as}
-use Rattle.monitor_words.specs.Messages.{resolved_words, rows_told, those_only_in}
+use Rattle.monitor_words.specs.Messages.{rows_told, those_only_in}
 use Rattle.monitor_words.specs.Reasons.{IsStuckBecause, StuckBecause}
 use Rattle.monitor_words.specs.Sentences.{sentence_words, told_verdict}
 use Rattle.monitor_words.specs.Words.{message_line}
@@ -58,9 +58,9 @@ IsToldOn s was stuck f newly words =
     × (words ≡ message_line (told_verdict because ++ sentence_words (codes " waits for ") f because) ++ rows_told s was stuck f newly because)
 
 -- the message on those who become stuck, on who passes the test and else on the first of them; and whether there is anybody
-abbrev pub IsToldBy : (Participant → Bool) → TraceState → (ℕ → Bool) → (ℕ → Bool) → List Participant → List ℕ → Bool → Type 0
-IsToldBy p s was stuck [] words told = (words ≡ []) × (told ≡ false)
-IsToldBy p s was stuck (first ∷ others) words told =
+abbrev pub TellsNewly : (Participant → Bool) → TraceState → (ℕ → Bool) → (ℕ → Bool) → List Participant → List ℕ → Bool → Type 0
+TellsNewly p s was stuck [] words told = (words ≡ []) × (told ≡ false)
+TellsNewly p s was stuck (first ∷ others) words told =
     (f : Participant) × (f ≡ unwrap_or (find p s.list) first) × IsToldOn s was stuck f (first ∷ others) words × (told ≡ true)
 
 -- the message on those who are stuck no more, of whom these names are shown

@@ -17,11 +17,12 @@ returns c =
     let stuck = has_stuck_number c.args.stuck.now in
     let f = participant_at s.list c.args.newly.now.first in
     let newly = map (participant_at s.list) c.args.newly.now.places.items in
-    let because = reason_value s.list c.in_ok-found.found in
-    (message_line (told_verdict because ++ sentence_words (codes " waits for ") f because) ++ rows_told s was stuck f newly because,
-    c.in_ok-put_told.ensures
-    ∙ ap (λ w. c.args.out.now.items ++ w)
-    (ap (λ x. shown_told_words x c.in_ok-rows.rows) c.in_ok-sentence.ensures
-    ∙ ap (shown_told_words (sentence_shown f because)) c.in_ok-rows.ensures
-    ∙ joins_told s was stuck f newly because),
-    (because, c.in_ok-found.ensures.reason, refl))
+    let because = reason_value s.list c.in_ok-found.found in (
+      message_line (told_verdict because ++ sentence_words (codes " waits for ") f because) ++ rows_told s was stuck f newly because,
+      c.in_ok-put_told.ensures
+          ∙ ap (λ w. c.args.out.now.items ++ w)
+          (ap (λ x. shown_told_words x c.in_ok-rows.rows) c.in_ok-sentence.ensures
+          ∙ ap (shown_told_words (sentence_shown f because)) c.in_ok-rows.ensures
+          ∙ joins_told s was stuck f newly because),
+      (because, c.in_ok-found.ensures.reason, refl),
+    )
