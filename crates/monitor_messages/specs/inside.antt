@@ -1,3 +1,4 @@
 pub mod Changes
 pub mod Guarded
 pub mod Taken
+pub mod Newly

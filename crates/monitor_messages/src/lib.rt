@@ -8,5 +8,7 @@ mod faults;
 mod guard;
 mod known_state;
 mod monitor;
+mod newly;
+mod telling;
 
 pub use monitor::Monitor;
