@@ -25,7 +25,7 @@ ascending_map change keeps (u ∷ us) up = (
   ascending_map change keeps us up.1,
 )
 
-ascending_filter : (test : Participant → Bool) (us : List Participant) → AreAscending us → AreAscending (filter test us)
+pub ascending_filter : (test : Participant → Bool) (us : List Participant) → AreAscending us → AreAscending (filter test us)
 ascending_filter test [] up = up
 ascending_filter test (u ∷ us) up = by_test (ascending_filter test us up.1) (cases_Bool (test u))
   where

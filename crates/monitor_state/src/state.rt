@@ -323,7 +323,7 @@ impl MonitorState {
         ensures taken { IfOk result (λ fault. self.new ≡ taken_state self.old (PlaysOneOf w.now (spaced_words names.now)) (option_map fault_of_line fault)) }
         ensures kept { OnErr result (self.new ≡ self.old) }
     {
-        let numbers = task_numbers(self.listing.as_slice(), alloc, names)?;
+        let numbers = task_numbers(&self.listing, alloc, names)?;
         if self.has_too_many(w, numbers.len()) {
             return Ok(Some(FaultOfLine::TooManyMemberships));
         }
