@@ -8,12 +8,12 @@ use Rattle.monitor_laws.specs.States.{Participant, is_live_task, is_live_wildcar
 use Rattle.monitor_laws.proofs.Filters.{from_filter, in_filter}
 use Rattle.monitor_state.specs.NumberedLists.{AreAscending}
 use Rattle.monitor_state.specs.inside.Numbers.{HasEachNameOnce}
-use Rattle.monitor_state.specs.inside.Players.{AreGathered, NumbersClimb, is_player, participant_number}
+use Rattle.monitor_state.specs.inside.Players.{AreNumbersSoFar, NumbersClimb, is_player, participant_number}
 use Rattle.monitor_state.proofs.Ascending.{ascending_filter}
 use Rattle.monitor_state.proofs.Climbing.{numbers_climb, same_climbing}
 
 module _ (us : List Participant) (names : List (List ℕ)) where
-  pub gathered_none_yet : AreGathered us names names []
+  pub gathered_none_yet : AreNumbersSoFar us names names []
   gathered_none_yet =
       record {
         climb = tt;
@@ -22,7 +22,7 @@ module _ (us : List Participant) (names : List (List ℕ)) where
         part = λ test some. some;
       }
 
-  pub gathered_all : (numbers : List ℕ) → AreAscending us → AreGathered us names [] numbers → numbers ≡ map participant_number (filter (is_player names) us)
+  pub gathered_all : (numbers : List ℕ) → AreAscending us → AreNumbersSoFar us names [] numbers → numbers ≡ map participant_number (filter (is_player names) us)
   gathered_all numbers up gathered =
       same_climbing numbers (map participant_number (filter (is_player names) us)) gathered.climb (numbers_climb (filter (is_player names) us) (ascending_filter (is_player names) us up)) gathered.known
       (λ n within.
@@ -33,9 +33,9 @@ module _ (us : List Participant) (names : List (List ℕ)) where
         | inr left ↦ absurd (let e : false ≡ true = left in cc)
       ])
 
-  module _ (name : List ℕ) (left : List (List ℕ)) (numbers : List ℕ) (gathered : AreGathered us names (name ∷ left) numbers) where
+  module _ (name : List ℕ) (left : List (List ℕ)) (numbers : List ℕ) (gathered : AreNumbersSoFar us names (name ∷ left) numbers) where
     -- no task is there with the next name
-    pub gathered_nothing : ((u : Participant) → Contains us u → is_live_task u.condition ≡ true → bytes_eq name u.name ≡ false) → AreGathered us names left numbers
+    pub gathered_nothing : ((u : Participant) → Contains us u → is_live_task u.condition ≡ true → bytes_eq name u.name ≡ false) → AreNumbersSoFar us names left numbers
     gathered_nothing nobody =
         record {
           climb = gathered.climb;
@@ -56,7 +56,7 @@ module _ (us : List Participant) (names : List (List ℕ)) where
     -- a task is there with the next name, and its number is put among them
     pub gathered_more :
         HasEachNameOnce us → (v : Participant) → Contains us v → is_live_task v.condition ≡ true → bytes_eq name v.name ≡ true → (more : List ℕ) → NumbersClimb more →
-        ((n : ℕ) → Contains more n ↔ (Contains numbers n ⊎ (n ≡ v.number))) → AreGathered us names left more
+        ((n : ℕ) → Contains more n ↔ (Contains numbers n ⊎ (n ≡ v.number))) → AreNumbersSoFar us names left more
     gathered_more order v v_within live next more climb put =
         record {
           climb = climb;

@@ -16,7 +16,7 @@ NumbersClimb [] = Unit {0}
 NumbersClimb (n ∷ ns) = ((m : ℕ) → Contains ns m → n < m) × NumbersClimb ns
 
 -- the numbers so far are of players, and a player is one of them or has one of the names that are left
-pub record AreGathered (us : List Participant) (names left : List (List ℕ)) (numbers : List ℕ) : Type 0 where
+pub record AreNumbersSoFar (us : List Participant) (names left : List (List ℕ)) (numbers : List ℕ) : Type 0 where
   pub climb : NumbersClimb numbers
   pub known : (n : ℕ) → Contains numbers n → Contains (map participant_number (filter (is_player names) us)) n
   pub rest : (u : Participant) → Contains us u → is_player names u ≡ true → Contains numbers u.number ⊎ (list_any (λ t. bytes_eq t u.name) left ≡ true)
