@@ -20,7 +20,7 @@ use Rattle.trace_lines.specs.Values.{place_value, said_value}
 use Rattle.monitor_state.specs.declared.change.Change.{Change}
 use Rattle.monitor_state.specs.declared.change.Change.TheVariants.{Says, Plays}
 use Rattle.monitor_laws.specs.States.{announced_by}
-use Rattle.monitor_state.specs.NumberedLists.{AreAscending}
+use Rattle.monitor_laws.specs.Lawful.{AreAscending}
 use Rattle.monitor_state.specs.inside.Changes.{changed_value, put_at}
 use Rattle.monitor_state.specs.inside.FirstPlaces.{IsFirstAt}
 use Rattle.monitor_state.specs.inside.Numbers.{HasNumbersOf, HasEachNameOnce, number_by_name}

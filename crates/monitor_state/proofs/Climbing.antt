@@ -10,7 +10,7 @@ use Rattle.std.proofs.lemmas.List.Elements.{Contains-get_or}
 use Rattle.std.proofs.lemmas.List.Sorted.{Contains-permutation, IsPermutation-insert, IsPermutation-sym}
 use Rattle.armus_base.proofs.Elements.{Contains-cons_cases, Contains-head, Contains-tail, from_map, nothing_in_nil}
 use Rattle.monitor_laws.specs.States.{Participant}
-use Rattle.monitor_state.specs.NumberedLists.{AreAscending}
+use Rattle.monitor_laws.specs.Lawful.{AreAscending}
 use Rattle.monitor_state.specs.inside.Players.{NumbersClimb, participant_number}
 
 -- from place to place

@@ -6,7 +6,7 @@ use Rattle.std.proofs.lemmas.Bool.{and_from, and_parts, or_cases, or_left, or_ri
 use Rattle.armus_base.proofs.Elements.{from_map, in_map, nothing_in_nil}
 use Rattle.monitor_laws.specs.States.{Participant, is_live_task, is_live_wildcard, is_there_as}
 use Rattle.monitor_laws.proofs.Filters.{from_filter, in_filter}
-use Rattle.monitor_state.specs.NumberedLists.{AreAscending}
+use Rattle.monitor_laws.specs.Lawful.{AreAscending}
 use Rattle.monitor_state.specs.inside.Numbers.{HasEachNameOnce}
 use Rattle.monitor_state.specs.inside.Players.{AreNumbersSoFar, NumbersClimb, is_player, participant_number}
 use Rattle.monitor_state.proofs.Ascending.{ascending_filter}

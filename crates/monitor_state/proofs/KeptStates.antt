@@ -7,9 +7,9 @@ use Rattle.std.proofs.lemmas.List.{get_or_default}
 use Rattle.monitor_laws.specs.Lines.{PlaysOneOf}
 use Rattle.monitor_laws.specs.States.{OneOf, Participant, TraceState, after_line, changed_at, is_there_as, new_participant, nobody_named, task_numbers}
 use Rattle.monitor_laws.specs.Faults.{has_no_room, memberships_in, most_listed, most_memberships, participant_in}
-use Rattle.monitor_laws.proofs.Lawful.{IsLawfulState, lawful_after, lawful_lines}
+use Rattle.monitor_laws.specs.Lawful.{AreAscending, IsLawfulState}
+use Rattle.monitor_laws.proofs.Lawful.{lawful_after, lawful_lines}
 use Rattle.monitor_state.specs.inside.FirstPlaces.{IsFirstAt}
-use Rattle.monitor_state.specs.NumberedLists.{AreAscending}
 use Rattle.monitor_state.specs.inside.Changes.{IsOfLine, memberships_had, put_at, put_behind}
 use Rattle.monitor_state.specs.inside.Numbers.{HasEachNameOnce}
 use Rattle.monitor_state.specs.inside.States.{IsMonitorState}

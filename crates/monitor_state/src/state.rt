@@ -5,8 +5,7 @@ ghost use Rattle.monitor_laws.specs.Lines.{Announces, AreGone, PlaysAny, PlaysOn
 ghost use Rattle.monitor_laws.specs.Faults.{faults_of, first_fault, has_no_room, is_wildcard_in, memberships_in, most_listed, most_memberships, participant_in};
 ghost use Rattle.monitor_laws.specs.States.{after_line, changed_at, is_there_as, nobody_named, task_numbers};
 ghost use Rattle.trace_lines.specs.Values.{line_value, place_value, said_value};
-ghost use Rattle.monitor_laws.proofs.Lawful.{IsLawfulState};
-ghost use Rattle.monitor_state.specs.NumberedLists.{AreAscending};
+ghost use Rattle.monitor_laws.specs.Lawful.{AreAscending, IsLawfulState};
 ghost use Rattle.monitor_state.specs.Taking.{taken_state};
 ghost use Rattle.trace_lines.specs.inside.Reading.{spaced_words};
 ghost use Rattle.monitor_state.specs.Values.{fault_of_line};

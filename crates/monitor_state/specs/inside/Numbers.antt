@@ -6,7 +6,7 @@ use Rattle.std.specs.Cmp.Lexicographic.{slice_cmp}
 use Rattle.std.specs.Option.{option_map}
 use Rattle.std.specs.Ordering.{nat_cmp}
 use Rattle.monitor_laws.specs.States.{Participant, is_there_as}
-use Rattle.monitor_state.specs.NumberedLists.{AreAscending}
+use Rattle.monitor_laws.specs.Lawful.{AreAscending}
 use Rattle.monitor_state.specs.inside.Players.{participant_number}
 
 -- the number that a name has

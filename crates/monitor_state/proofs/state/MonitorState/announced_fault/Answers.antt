@@ -2,7 +2,7 @@ use Rattle.std.proofs.Common.{Option, Bool, sym, ◌∙◌, ap, subst}
 use Rattle.std.specs.Prelude.{find, is_some, length, nat_le}
 use Rattle.monitor_laws.specs.States.{Participant, is_there_as}
 use Rattle.monitor_laws.specs.Faults.{most_listed}
-use Rattle.monitor_laws.proofs.Lawful.{IsLawfulState}
+use Rattle.monitor_laws.specs.Lawful.{IsLawfulState}
 use Rattle.trace_lines.specs.Values.{said_value}
 use Rattle.monitor_state.specs.inside.FirstFaults.{announced_fault}
 use Rattle.monitor_state.proofs.TableRows.{announced_first}

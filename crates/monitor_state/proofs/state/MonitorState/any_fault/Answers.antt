@@ -1,7 +1,7 @@
 use Rattle.std.proofs.Common.{Option, Bool, sym, ◌∙◌, ap, subst}
 use Rattle.std.specs.Prelude.{find}
 use Rattle.monitor_laws.specs.States.{Participant, is_there_as}
-use Rattle.monitor_laws.proofs.Lawful.{IsLawfulState}
+use Rattle.monitor_laws.specs.Lawful.{IsLawfulState}
 use Rattle.monitor_state.specs.inside.FirstFaults.{any_fault}
 use Rattle.monitor_state.proofs.TableRows.{any_first}
 use Rattle.monitor_state.proofs.state.MonitorState.any_fault.Goals as goal

@@ -1,5 +1,5 @@
 use Rattle.std.proofs.Common.{sym, ◌∙◌, ap, subst}
-use Rattle.monitor_laws.proofs.Lawful.{IsLawfulState}
+use Rattle.monitor_laws.specs.Lawful.{IsLawfulState}
 use Rattle.monitor_state.specs.inside.FirstFaults.{is_wildcard_there}
 use Rattle.monitor_state.proofs.TableRows.{wildcard_is}
 use Rattle.monitor_state.proofs.state.MonitorState.is_wildcard.Goals as goal

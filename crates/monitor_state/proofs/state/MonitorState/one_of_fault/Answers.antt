@@ -4,7 +4,7 @@ use Rattle.std.specs.Option.{option_copied, option_map}
 use Rattle.monitor_laws.specs.Lines.{PlaysOneOf}
 use Rattle.monitor_laws.specs.States.{Participant, after_line, is_there_as}
 use Rattle.monitor_laws.specs.Faults.{LineFault, is_wildcard_in, memberships_in, most_memberships}
-use Rattle.monitor_laws.proofs.Lawful.{IsLawfulState}
+use Rattle.monitor_laws.specs.Lawful.{IsLawfulState}
 use Rattle.trace_lines.specs.inside.Reading.{spaced_words}
 use Rattle.monitor_state.specs.Values.{fault_of_line}
 use Rattle.monitor_state.specs.inside.FirstFaults.{first_of_two, many_fault, one_of_fault}
