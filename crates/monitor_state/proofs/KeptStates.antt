@@ -1,6 +1,6 @@
 -- What holds of a state that is kept holds after a line of one name.
-use Rattle.std.proofs.Common.{◌≡◌, ℕ, ◌<◌, ◌≤◌, ◌+◌, ◌-◌, ◌&&◌, not, false, List, [], length, get_or, refl, sym, ◌∙◌, ap, subst, inl, inr, ◌⊎◌, true, arith}
-use Rattle.std.specs.Prelude.{nat_le, unwrap_or}
+use Rattle.std.proofs.Common.{◌≡◌, ℕ, ◌<◌, ◌≤◌, ◌+◌, ◌-◌, ◌&&◌, not, false, None, Some, Option, List, [], length, get_or, refl, sym, ◌∙◌, ap, subst, inl, inr, ◌⊎◌, true, arith}
+use Rattle.std.specs.Prelude.{IfNone, IfSome, nat_le, unwrap_or}
 use Rattle.std.specs.List.{list_any}
 use Rattle.std.proofs.lemmas.Bool.{cases_Bool, leb-false}
 use Rattle.std.proofs.lemmas.List.{get_or_default}
@@ -11,7 +11,7 @@ use Rattle.monitor_laws.specs.Lawful.{AreAscending, IsLawfulState}
 use Rattle.monitor_laws.proofs.Lawful.{lawful_after, lawful_lines}
 use Rattle.monitor_state.specs.inside.FirstPlaces.{IsFirstAt}
 use Rattle.monitor_state.specs.inside.Changes.{IsOfLine, memberships_had, put_at, put_behind}
-use Rattle.monitor_state.specs.inside.Numbers.{HasEachNameOnce}
+use Rattle.monitor_state.specs.inside.Numbers.{HasEachNameOnce, IsPlaceOf}
 use Rattle.monitor_state.specs.inside.States.{IsMonitorState}
 use Rattle.monitor_state.proofs.OnePassing.{first_place, found_first, found_none}
 use Rattle.monitor_state.proofs.Ascending.{ascending_after}
@@ -69,6 +69,25 @@ kept_behind s m t change kept line none space few =
       few = omega arith;
       short = let long = put_longer s.list (change (new_participant s.named t)) in let less = not_full s t none space in omega arith;
     }
+
+-- a place in a state is one in its list
+module _ (now : TraceState) (list : List Participant) (named : ℕ) (t : List ℕ) (o : Option ℕ) (is : record { list = list; named = named } ≡ now) (place : IsPlaceOf now.list t o) where
+  place_in : IsPlaceOf list t o
+  place_in = subst (λ (x : TraceState). IsPlaceOf x.list t o) (sym is) place
+
+  pub first_in : (i : ℕ) → o ≡ Some i → IsFirstAt (is_there_as t) list i
+  first_in i here = subst (IsPlaceOf list t) here place_in
+
+  pub nobody_in : o ≡ None → list_any (is_there_as t) list ≡ false
+  nobody_in none = subst (IsPlaceOf list t) none place_in
+
+pub place_within : (us : List Participant) (t : List ℕ) (o : Option ℕ) → IsPlaceOf us t o → IfSome o (λ i. i < length us)
+place_within us t None place = tt
+place_within us t (Some i) place = place.within
+
+pub first_at : (us : List Participant) (t : List ℕ) (o : Option ℕ) → IfSome o (IsFirstAt (is_there_as t) us) → IfNone o (list_any (is_there_as t) us ≡ false) → IsPlaceOf us t o
+first_at us t None at none = none
+first_at us t (Some i) at none = at
 
 -- what is kept is in order
 pub in_order : (s : TraceState) (m : ℕ) → IsMonitorState s m → HasEachNameOnce s.list
