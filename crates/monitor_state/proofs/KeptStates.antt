@@ -11,7 +11,7 @@ use Rattle.monitor_laws.specs.Lawful.{AreAscending, IsLawfulState}
 use Rattle.monitor_laws.proofs.Lawful.{lawful_after, lawful_lines}
 use Rattle.monitor_state.specs.inside.FirstPlaces.{IsFirstAt}
 use Rattle.monitor_state.specs.inside.Changes.{IsOfLine, memberships_had, put_at, put_behind}
-use Rattle.monitor_state.specs.inside.Numbers.{HasEachNameOnce, IsPlaceOf}
+use Rattle.monitor_state.specs.inside.Numbers.{HasEachNameOnce, IsPlaceOfName}
 use Rattle.monitor_state.specs.inside.States.{IsMonitorState}
 use Rattle.monitor_state.proofs.OnePassing.{first_place, found_first, found_none}
 use Rattle.monitor_state.proofs.Ascending.{ascending_after}
@@ -71,21 +71,21 @@ kept_behind s m t change kept line none space few =
     }
 
 -- a place in a state is one in its list
-module _ (now : TraceState) (list : List Participant) (named : ℕ) (t : List ℕ) (o : Option ℕ) (is : record { list = list; named = named } ≡ now) (place : IsPlaceOf now.list t o) where
-  place_in : IsPlaceOf list t o
-  place_in = subst (λ (x : TraceState). IsPlaceOf x.list t o) (sym is) place
+module _ (now : TraceState) (list : List Participant) (named : ℕ) (t : List ℕ) (o : Option ℕ) (is : record { list = list; named = named } ≡ now) (place : IsPlaceOfName now.list t o) where
+  place_in : IsPlaceOfName list t o
+  place_in = subst (λ (x : TraceState). IsPlaceOfName x.list t o) (sym is) place
 
   pub first_in : (i : ℕ) → o ≡ Some i → IsFirstAt (is_there_as t) list i
-  first_in i here = subst (IsPlaceOf list t) here place_in
+  first_in i here = subst (IsPlaceOfName list t) here place_in
 
   pub nobody_in : o ≡ None → list_any (is_there_as t) list ≡ false
-  nobody_in none = subst (IsPlaceOf list t) none place_in
+  nobody_in none = subst (IsPlaceOfName list t) none place_in
 
-pub place_within : (us : List Participant) (t : List ℕ) (o : Option ℕ) → IsPlaceOf us t o → IfSome o (λ i. i < length us)
+pub place_within : (us : List Participant) (t : List ℕ) (o : Option ℕ) → IsPlaceOfName us t o → IfSome o (λ i. i < length us)
 place_within us t None place = tt
 place_within us t (Some i) place = place.within
 
-pub first_at : (us : List Participant) (t : List ℕ) (o : Option ℕ) → IfSome o (IsFirstAt (is_there_as t) us) → IfNone o (list_any (is_there_as t) us ≡ false) → IsPlaceOf us t o
+pub first_at : (us : List Participant) (t : List ℕ) (o : Option ℕ) → IfSome o (IsFirstAt (is_there_as t) us) → IfNone o (list_any (is_there_as t) us ≡ false) → IsPlaceOfName us t o
 first_at us t None at none = none
 first_at us t (Some i) at none = at
 

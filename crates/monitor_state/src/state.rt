@@ -10,7 +10,7 @@ ghost use Rattle.monitor_state.specs.Taking.{taken_state};
 ghost use Rattle.trace_lines.specs.inside.Reading.{spaced_words};
 ghost use Rattle.monitor_state.specs.Values.{fault_of_line};
 ghost use Rattle.monitor_state.specs.inside.FirstFaults.{first_of_two, many_fault};
-ghost use Rattle.monitor_state.specs.inside.Numbers.{IsPlaceOf};
+ghost use Rattle.monitor_state.specs.inside.Numbers.{IsPlaceOfName};
 ghost use Rattle.monitor_state.specs.inside.Changes.{IsOfLine, MayChange, changed_value, memberships_had};
 
 use crate::change::Change;
@@ -81,7 +81,7 @@ impl MonitorState {
         at: Option<usize>,
         change: Change,
     ) -> Result<(), NoMemory>
-        requires place { IsPlaceOf self.old.list t.now at }
+        requires place { IsPlaceOfName self.old.list t.now at }
         requires line { IsOfLine self.old (changed_at t.now (changed_value change) self.old) }
         requires may { MayChange change (participant_in self.old t.now) }
         requires space { has_no_room self.old t.now ≡ false }
@@ -122,7 +122,7 @@ impl MonitorState {
 
     // Where who is there with the name t stands.
     fn place_of(&self, t: &[u8]) -> Option<usize>
-        ensures { IsPlaceOf self.now.list t.now result }
+        ensures { IsPlaceOfName self.now.list t.now result }
     {
         let _ = &self.memberships;
         self.listing.place_of(t)
@@ -131,7 +131,7 @@ impl MonitorState {
     // Who is there, where a place is given: whoever has the name whose place it is.
     fn found(&self, at: Option<usize>) -> Option<&ListedParticipant>
         requires { IfSome at (λ i. i < length self.now.list) }
-        ensures { (t : List ℕ) → IsPlaceOf self.now.list t at → option_copied result ≡ find (is_there_as t) self.now.list }
+        ensures { (t : List ℕ) → IsPlaceOfName self.now.list t at → option_copied result ≡ find (is_there_as t) self.now.list }
     {
         match at {
             None => None,
@@ -147,7 +147,7 @@ impl MonitorState {
         what: &Announcement<'a>,
         is_placed: bool,
     ) -> Option<FaultOfLine<'a>>
-        requires place { IsPlaceOf self.now.list t.now at }
+        requires place { IsPlaceOfName self.now.list t.now at }
         ensures { (place : Option (List ℕ)) → is_some place ≡ is_placed → option_map fault_of_line result ≡ first_fault self.now (Some (Announces t.now (said_value what.now) place)) }
     {
         let _ = &self.memberships;
@@ -170,7 +170,7 @@ impl MonitorState {
         what: &Announcement,
         place: Option<&[u8]>,
     ) -> Result<(), NoMemory>
-        requires place { IsPlaceOf self.old.list t.now at }
+        requires place { IsPlaceOfName self.old.list t.now at }
         requires legal { faults_of self.old (Announces t.now (said_value what.now) (place_value place)) ≡ [] }
         ensures taken { OnOk result (self.new ≡ after_line self.old (Announces t.now (said_value what.now) (place_value place.entry))) }
         ensures kept { OnErr result (self.new ≡ self.old) }

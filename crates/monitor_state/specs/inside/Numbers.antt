@@ -20,9 +20,9 @@ abbrev pub HasNumbersOf : List Participant → BTreeMap (Vec ℕ) ℕ → Type 0
 HasNumbersOf us numbers = (t : List ℕ) → number_by_name numbers t ≡ option_map participant_number (find (is_there_as t) us)
 
 -- where who is there with the name t stands, if somebody is there with it
-abbrev pub IsPlaceOf : List Participant → List ℕ → Option ℕ → Type 0
-IsPlaceOf us t None = list_any (is_there_as t) us ≡ false
-IsPlaceOf us t (Some i) = IsFirstAt (is_there_as t) us i
+abbrev pub IsPlaceOfName : List Participant → List ℕ → Option ℕ → Type 0
+IsPlaceOfName us t None = list_any (is_there_as t) us ≡ false
+IsPlaceOfName us t (Some i) = IsFirstAt (is_there_as t) us i
 
 -- numbers ascend, and no two who are there have one name
 pub record HasEachNameOnce (us : List Participant) : Type 0 where

@@ -1,6 +1,6 @@
 use Rattle.std.proofs.Common.{subst}
 use Rattle.monitor_laws.specs.States.{TraceState}
-use Rattle.monitor_state.specs.inside.Numbers.{IsPlaceOf}
+use Rattle.monitor_state.specs.inside.Numbers.{IsPlaceOfName}
 use Rattle.monitor_state.proofs.KeptStates.{first_at, in_order}
 use Rattle.monitor_state.proofs.state.MonitorState.place_of.Goals as goal
 
@@ -9,5 +9,5 @@ place_of-requires c = in_order _ c.self.inside.memberships c.self.invariant
 
 pub returns : goal.returns
 returns c =
-    subst (λ (s : TraceState). IsPlaceOf s.list c.args.t.now c.place_of.result) c.self.view_is
+    subst (λ (s : TraceState). IsPlaceOfName s.list c.args.t.now c.place_of.result) c.self.view_is
     (first_at c.self.inside.listing c.args.t.now c.place_of.result c.place_of.ensures.at c.place_of.ensures.none)
