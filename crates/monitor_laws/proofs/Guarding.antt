@@ -10,7 +10,8 @@ use Rattle.monitor_laws.specs.Stuck.{IsClosedSet, IsKeptIn, IsStuck}
 use Rattle.monitor_laws.specs.Guards.{IsRefusedWait, IsTakenAs}
 use Rattle.monitor_laws.specs.Laws.{GuardedIsLegal, NoWaitMakesStuck}
 use Rattle.monitor_laws.proofs.Changes.{changed_there, from_change, from_named, in_change, in_named, other_is, there_is}
-use Rattle.monitor_laws.proofs.Lawful.{IsLawfulState, lawful_lines, placed_condition, placed_name, placed_number}
+use Rattle.monitor_laws.specs.Lawful.{IsLawfulState}
+use Rattle.monitor_laws.proofs.Lawful.{lawful_lines, placed_condition, placed_name, placed_number}
 use Rattle.monitor_laws.proofs.Rows.{name_is}
 
 -- what stands of a legal line is legal

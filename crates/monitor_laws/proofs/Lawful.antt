@@ -1,4 +1,4 @@
--- What holds of every state that lines lead to.
+-- What holds of every state that lines lead to, and that each line keeps it.
 use Rattle.std.proofs.Common.{◌≡◌, ℕ, ◌<◌, ◌≤◌, ◌+◌, true, false, ◌&&◌, ◌||◌, Some, None, Option, List, [], ◌∷◌, ◌++◌, refl, sym, ◌∙◌, ap, subst, inl, inr, ◌⊎◌, arith}
 use Rattle.std.specs.Prelude.{Contains, filter, bytes_eq, eqb}
 use Rattle.std.specs.List.{list_any, starts_with}
@@ -7,16 +7,9 @@ use Rattle.std.proofs.lemmas.Slice.Eq.{bytes_eq-Decides}
 use Rattle.armus_base.proofs.Elements.{from_map, nothing_in_nil}
 use Rattle.monitor_laws.specs.Lines.{Announcement, Joins, Arrives, Leaves, Waits, Goes, Ends, Stands, TraceLine, SaysNothing, AsksReport, AsksList, AreGone, Announces, PlaysAny, PlaysOneOf}
 use Rattle.monitor_laws.specs.States.{Condition, Running, Waiting, Ended, AnyTask, OneOf, Participant, TraceState, after_line, after_lines, announced_by, changed_at, changed_by, gone_by, is_live_task, is_live_wildcard, is_there_as, new_participant, task_numbers, placed_at, stays_listed, with_named}
+pub use Rattle.monitor_laws.specs.Lawful.{IsLawfulState}
 use Rattle.monitor_laws.proofs.Filters.{from_filter, none_passes}
 use Rattle.monitor_laws.proofs.Changes.{changed_there, from_change, from_named, named_grows, other_is, there_is}
-
--- numbers are below the count and different, names of those who are there are different, and nobody is listed who does not stay
-pub record IsLawfulState (s : TraceState) : Type 0 where
-  pub numbers : (u : Participant) → Contains s.list u → u.number < s.named
-  pub tasks : (u : Participant) (names : List (List ℕ)) (tasks : List ℕ) → Contains s.list u → u.condition ≡ OneOf names tasks → (k : ℕ) → Contains tasks k → k < s.named
-  pub one_number : (u v : Participant) → Contains s.list u → Contains s.list v → u.number ≡ v.number → u ≡ v
-  pub one_name : (t : List ℕ) (u v : Participant) → Contains s.list u → Contains s.list v → is_there_as t u ≡ true → is_there_as t v ≡ true → u ≡ v
-  pub stays : (u : Participant) → Contains s.list u → stays_listed u ≡ true
 
 -- the change of one keeps who he is
 pub record KeepsSelf (s : TraceState) (u v : Participant) : Type 0 where

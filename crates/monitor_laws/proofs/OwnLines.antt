@@ -14,7 +14,8 @@ use Rattle.monitor_laws.specs.Traces.{HasNoWildcard, is_line_of}
 use Rattle.monitor_laws.specs.Laws.{SameLinesSameStates, own_list, unnumbered}
 use Rattle.monitor_laws.proofs.Changes.{changed_there, other_is}
 use Rattle.monitor_laws.proofs.Filters.{from_filter}
-use Rattle.monitor_laws.proofs.Lawful.{announced_name, lawful_lines, placed_name, IsLawfulState}
+use Rattle.monitor_laws.specs.Lawful.{IsLawfulState}
+use Rattle.monitor_laws.proofs.Lawful.{announced_name, lawful_lines, placed_name}
 
 -- filters and maps
 pub kept : {A : Type 0} (p : A → Bool) (x : A) (xs : List A) → p x ≡ true → filter p (x ∷ xs) ≡ x ∷ filter p xs

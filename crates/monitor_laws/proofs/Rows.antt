@@ -10,7 +10,7 @@ use Rattle.monitor_laws.specs.States.{Participant, TraceState, after_line, is_li
 use Rattle.monitor_laws.specs.Faults.{LineFault, NamesTask, NamesWildcard, StillWaits, TooManyListed, TooManyMemberships, fault_where, faults_of, has_no_room, is_go, is_join, is_of_tasks, is_task_in, is_wildcard_in, memberships_in, most_memberships, participant_in, said_faults, waits_now}
 use Rattle.monitor_laws.specs.Stuck.{has_phase_below, is_phase_below}
 use Rattle.monitor_laws.proofs.Filters.{any_from}
-use Rattle.monitor_laws.proofs.Lawful.{IsLawfulState}
+use Rattle.monitor_laws.specs.Lawful.{IsLawfulState}
 
 -- where the table finds nothing, no row does
 pub no_row : (holds : Bool) (fault : LineFault) → fault_where holds fault ≡ [] → holds ≡ false

@@ -12,7 +12,8 @@ use Rattle.monitor_laws.specs.Stuck.{IsClosedSet, IsKeptIn, IsStuck, has_phase_b
 use Rattle.monitor_laws.specs.Traces.{IsActOf, IsHonestLine, MayPlay, NobodyWaits, SomebodyRuns}
 use Rattle.monitor_laws.specs.Laws.{StuckStays}
 use Rattle.monitor_laws.proofs.Changes.{changed_there, from_change, from_named, in_change, in_named, other_is, there_is}
-use Rattle.monitor_laws.proofs.Lawful.{IsLawfulState, lawful_lines, placed_condition, placed_number, placed_phases, announced_number}
+use Rattle.monitor_laws.specs.Lawful.{IsLawfulState}
+use Rattle.monitor_laws.proofs.Lawful.{lawful_lines, placed_condition, placed_number, placed_phases, announced_number}
 use Rattle.monitor_laws.proofs.Rows.{HasNoFault, both_tables, has_no_fault, found_before, no_row, no_task_row, is_task, is_wildcard, member_stays, name_is, named_is, task_or_wildcard}
 
 module _ (s : TraceState) (lawful : IsLawfulState s) (set : ℕ → Bool) (closed : IsClosedSet s set) where

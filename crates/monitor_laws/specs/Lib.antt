@@ -1,5 +1,6 @@
 pub mod Lines
 pub mod States
+pub mod Lawful
 pub mod Faults
 pub mod Stuck
 pub mod Traces

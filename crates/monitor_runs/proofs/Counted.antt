@@ -16,7 +16,8 @@ use Rattle.monitor_laws.specs.States.{Condition, Running, Waiting, Ended, AnyTas
 use Rattle.monitor_laws.specs.Faults.{memberships_in, participant_in, phase_on, tasks_had}
 use Rattle.monitor_laws.proofs.Filters.{any_from, from_filter}
 use Rattle.monitor_laws.proofs.Changes.{changed_there, from_change, from_named, other_is, there_is}
-use Rattle.monitor_laws.proofs.Lawful.{IsLawfulState, announced_name}
+use Rattle.monitor_laws.specs.Lawful.{IsLawfulState}
+use Rattle.monitor_laws.proofs.Lawful.{announced_name}
 use Rattle.monitor_laws.proofs.Phases.{risen}
 use Rattle.monitor_laws.proofs.Rows.{named_is}
 use Rattle.monitor_runs.proofs.Named.{AllLive, IsNoEnd, listed_or_new}

@@ -12,7 +12,8 @@ use Rattle.monitor_laws.specs.Faults.{participant_in}
 use Rattle.monitor_laws.specs.Laws.{unnumbered}
 use Rattle.monitor_laws.proofs.Filters.{any_is, none_passes}
 use Rattle.monitor_laws.proofs.Changes.{changed_there, from_change, from_named, in_change, in_named, other_is, there_is}
-use Rattle.monitor_laws.proofs.Lawful.{IsLawfulState, announced_name, lawful_after}
+use Rattle.monitor_laws.specs.Lawful.{IsLawfulState}
+use Rattle.monitor_laws.proofs.Lawful.{announced_name, lawful_after}
 use Rattle.monitor_laws.proofs.Rows.{name_is, named_is}
 
 -- where none passes none is found

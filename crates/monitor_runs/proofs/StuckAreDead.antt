@@ -11,7 +11,7 @@ use Rattle.monitor_laws.specs.States.{Waiting, Participant, TraceState, is_there
 use Rattle.monitor_laws.specs.Faults.{participant_in, phase_on}
 use Rattle.monitor_laws.specs.Stuck.{IsClosedSet, IsKeptIn, IsStuck}
 use Rattle.monitor_laws.proofs.Filters.{any_from, any_is}
-use Rattle.monitor_laws.proofs.Lawful.{IsLawfulState}
+use Rattle.monitor_laws.specs.Lawful.{IsLawfulState}
 use Rattle.monitor_laws.proofs.Phases.{below_from, below_is}
 use Rattle.monitor_laws.proofs.Rows.{name_is}
 use Rattle.monitor_runs.specs.RunTraces.{IsSameState, Naming, TellsNumber, condition_by}

@@ -9,8 +9,8 @@ use Rattle.monitor_laws.specs.Lines.{TraceLine, SaysNothing, AsksReport, AsksLis
 use Rattle.monitor_laws.specs.States.{AnyTask, OneOf, Participant, TraceState, after_line, announced_by, changed_at, changed_by, Ended, gone_by, is_there_as, new_participant, placed_at, stays_listed, task_numbers, with_named}
 use Rattle.monitor_laws.proofs.Filters.{from_filter}
 use Rattle.monitor_laws.proofs.Changes.{changed_there, there_is, other_is}
-use Rattle.monitor_laws.proofs.Lawful.{IsLawfulState, announced_number, placed_number}
-use Rattle.monitor_state.specs.NumberedLists.{AreAscending}
+use Rattle.monitor_laws.specs.Lawful.{AreAscending, IsLawfulState}
+use Rattle.monitor_laws.proofs.Lawful.{announced_number, placed_number}
 
 ascending_map : (change : Participant → Participant) → ((u : Participant) → (change u).number ≡ u.number) → (us : List Participant) → AreAscending us → AreAscending (map change us)
 ascending_map change keeps [] up = up
@@ -25,7 +25,7 @@ ascending_map change keeps (u ∷ us) up = (
   ascending_map change keeps us up.1,
 )
 
-ascending_filter : (test : Participant → Bool) (us : List Participant) → AreAscending us → AreAscending (filter test us)
+pub ascending_filter : (test : Participant → Bool) (us : List Participant) → AreAscending us → AreAscending (filter test us)
 ascending_filter test [] up = up
 ascending_filter test (u ∷ us) up = by_test (ascending_filter test us up.1) (cases_Bool (test u))
   where

@@ -1,6 +1,6 @@
 -- Who is there with a name, by the number of the name: where it stands, and what a change makes of it.
-use Rattle.std.proofs.Common.{◌≡◌, ℕ, zero, suc, ◌<◌, ◌≤◌, ◌+◌, Bool, true, false, ◌&&◌, ◌||◌, not, Some, None, Option, Result, Ok, Err, IfOk, IfErr, IfSome, IfNone, List, [], ◌∷◌, ◌++◌, length, get_or, drop, set, map, refl, sym, ◌∙◌, ap, subst, inl, inr, ◌⊎◌, arith}
-use Rattle.std.specs.Prelude.{◌==◌, Contains, bytes_eq, eqb, filter, find, if◌then◌else◌}
+use Rattle.std.proofs.Common.{◌≡◌, ℕ, zero, suc, ◌<◌, ◌≤◌, Bool, true, false, ◌||◌, not, Some, None, Option, Result, Ok, Err, IfOk, IfErr, IfSome, IfNone, List, [], ◌∷◌, ◌++◌, length, get_or, drop, set, map, refl, sym, ◌∙◌, ap, subst, inl, inr, ◌⊎◌, arith}
+use Rattle.std.specs.Prelude.{◌==◌, bytes_eq, eqb, filter, find, if◌then◌else◌}
 use Rattle.std.specs.Global.{Vec}
 use Rattle.std.specs.BTreeMap.{BTreeMap}
 use Rattle.std.specs.List.{list_any, remove, starts_with}
@@ -8,7 +8,7 @@ use Rattle.std.specs.List.Sorted.{IsBinarySearchResult, IsNonDecreasingBy, IsSea
 use Rattle.std.specs.Option.{option_map, option_or}
 use Rattle.std.specs.Result.{result_ok}
 use Rattle.std.specs.Ordering.{nat_cmp, ordering_index}
-use Rattle.std.proofs.lemmas.Bool.{cases_Bool, and_parts, cond-true, cond-false, or_parts}
+use Rattle.std.proofs.lemmas.Bool.{cases_Bool, and_parts, cond-true, cond-false}
 use Rattle.std.proofs.lemmas.Bool.Decides.{nat_tests}
 use Rattle.std.proofs.lemmas.Cmp.{ranked}
 use Rattle.std.proofs.lemmas.List.Elements.{Contains-get_or}
@@ -20,13 +20,13 @@ use Rattle.trace_lines.specs.Values.{place_value, said_value}
 use Rattle.monitor_state.specs.declared.change.Change.{Change}
 use Rattle.monitor_state.specs.declared.change.Change.TheVariants.{Says, Plays}
 use Rattle.monitor_laws.specs.States.{announced_by}
-use Rattle.monitor_state.specs.NumberedLists.{AreAscending}
-use Rattle.monitor_state.specs.inside.Changes.{changed_value, put_at, put_behind}
+use Rattle.monitor_laws.specs.Lawful.{AreAscending}
+use Rattle.monitor_state.specs.inside.Changes.{changed_value, put_at}
 use Rattle.monitor_state.specs.inside.FirstPlaces.{IsFirstAt}
 use Rattle.monitor_state.specs.inside.Numbers.{HasNumbersOf, HasEachNameOnce, number_by_name}
 use Rattle.monitor_state.specs.inside.Players.{participant_number}
 use Rattle.monitor_state.proofs.ListChanges.{none_behind}
-use Rattle.monitor_state.proofs.OnePassing.{first_place, first_tail, found_first, found_none, none_at_places}
+use Rattle.monitor_state.proofs.OnePassing.{first_place, first_tail, found_first, found_none}
 
 -- the change of one keeps its name and its number
 pub changed_name : (change : Change) (u : Participant) → (changed_value change u).name ≡ u.name

@@ -1,17 +1,17 @@
 -- What holds of a state that is kept holds after a line of one name.
-use Rattle.std.proofs.Common.{◌≡◌, ℕ, ◌<◌, ◌≤◌, ◌+◌, ◌-◌, ◌&&◌, not, false, List, [], length, get_or, refl, sym, ◌∙◌, ap, subst, inl, inr, ◌⊎◌, true, arith}
-use Rattle.std.specs.Prelude.{nat_le, unwrap_or}
+use Rattle.std.proofs.Common.{◌≡◌, ℕ, ◌<◌, ◌≤◌, ◌+◌, ◌-◌, ◌&&◌, not, false, None, Some, Option, List, [], length, get_or, refl, sym, ◌∙◌, ap, subst, inl, inr, ◌⊎◌, true, arith}
+use Rattle.std.specs.Prelude.{IfNone, IfSome, nat_le, unwrap_or}
 use Rattle.std.specs.List.{list_any}
 use Rattle.std.proofs.lemmas.Bool.{cases_Bool, leb-false}
 use Rattle.std.proofs.lemmas.List.{get_or_default}
 use Rattle.monitor_laws.specs.Lines.{PlaysOneOf}
 use Rattle.monitor_laws.specs.States.{OneOf, Participant, TraceState, after_line, changed_at, is_there_as, new_participant, nobody_named, task_numbers}
 use Rattle.monitor_laws.specs.Faults.{has_no_room, memberships_in, most_listed, most_memberships, participant_in}
-use Rattle.monitor_laws.proofs.Lawful.{IsLawfulState, lawful_after, lawful_lines}
+use Rattle.monitor_laws.specs.Lawful.{AreAscending, IsLawfulState}
+use Rattle.monitor_laws.proofs.Lawful.{lawful_after, lawful_lines}
 use Rattle.monitor_state.specs.inside.FirstPlaces.{IsFirstAt}
-use Rattle.monitor_state.specs.NumberedLists.{AreAscending}
 use Rattle.monitor_state.specs.inside.Changes.{IsOfLine, memberships_had, put_at, put_behind}
-use Rattle.monitor_state.specs.inside.Numbers.{HasEachNameOnce}
+use Rattle.monitor_state.specs.inside.Numbers.{HasEachNameOnce, IsPlaceOfName}
 use Rattle.monitor_state.specs.inside.States.{IsMonitorState}
 use Rattle.monitor_state.proofs.OnePassing.{first_place, found_first, found_none}
 use Rattle.monitor_state.proofs.Ascending.{ascending_after}
@@ -69,6 +69,25 @@ kept_behind s m t change kept line none space few =
       few = omega arith;
       short = let long = put_longer s.list (change (new_participant s.named t)) in let less = not_full s t none space in omega arith;
     }
+
+-- a place in a state is one in its list
+module _ (now : TraceState) (list : List Participant) (named : ℕ) (t : List ℕ) (o : Option ℕ) (is : record { list = list; named = named } ≡ now) (place : IsPlaceOfName now.list t o) where
+  place_in : IsPlaceOfName list t o
+  place_in = subst (λ (x : TraceState). IsPlaceOfName x.list t o) (sym is) place
+
+  pub first_in : (i : ℕ) → o ≡ Some i → IsFirstAt (is_there_as t) list i
+  first_in i here = subst (IsPlaceOfName list t) here place_in
+
+  pub nobody_in : o ≡ None → list_any (is_there_as t) list ≡ false
+  nobody_in none = subst (IsPlaceOfName list t) none place_in
+
+pub place_within : (us : List Participant) (t : List ℕ) (o : Option ℕ) → IsPlaceOfName us t o → IfSome o (λ i. i < length us)
+place_within us t None place = tt
+place_within us t (Some i) place = place.within
+
+pub first_at : (us : List Participant) (t : List ℕ) (o : Option ℕ) → IfSome o (IsFirstAt (is_there_as t) us) → IfNone o (list_any (is_there_as t) us ≡ false) → IsPlaceOfName us t o
+first_at us t None at none = none
+first_at us t (Some i) at none = at
 
 -- what is kept is in order
 pub in_order : (s : TraceState) (m : ℕ) → IsMonitorState s m → HasEachNameOnce s.list

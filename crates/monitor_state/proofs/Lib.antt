@@ -10,3 +10,5 @@ pub mod GoneOnes
 pub mod EachWord
 pub mod NumbersByName
 pub mod ByName
+pub mod Climbing
+pub mod Gathering

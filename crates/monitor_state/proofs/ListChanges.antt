@@ -11,9 +11,8 @@ use Rattle.armus_base.proofs.Elements.{Contains-head, Contains-tail}
 use Rattle.monitor_laws.specs.States.{Participant, TraceState, changed_at, changed_by, is_there_as, new_participant, stays_listed}
 use Rattle.monitor_laws.proofs.Filters.{any_is}
 use Rattle.monitor_laws.proofs.Changes.{changed_there, there_is}
-use Rattle.monitor_laws.proofs.Lawful.{IsLawfulState}
+use Rattle.monitor_laws.specs.Lawful.{AreAscending, IsLawfulState}
 use Rattle.monitor_state.specs.inside.FirstPlaces.{IsFirstAt}
-use Rattle.monitor_state.specs.NumberedLists.{AreAscending}
 use Rattle.monitor_state.specs.inside.Changes.{put_at, put_behind}
 use Rattle.monitor_state.proofs.OnePassing.{first_tail, none_mapped, one_mapped}
 

@@ -7,7 +7,7 @@ use Rattle.monitor_laws.specs.Lines.{Announcement, Joins, Arrives, Leaves, Waits
 use Rattle.monitor_laws.specs.States.{Participant, TraceState, after_line, is_live_task, is_live_wildcard, is_there_as, new_participant}
 use Rattle.monitor_laws.specs.Faults.{LineFault, NamesTask, NamesWildcard, StillWaits, DoesNotWait, IsMemberAlready, IsNoMember, IsAtLastPhase, TooManyListed, TooManyMemberships, fault_where, faults_of, has_no_room, is_go, is_join, is_of_tasks, is_task_in, is_wildcard_in, last_phase, memberships_in, most_listed, most_memberships, participant_in, phase_on, said_faults, waits_now}
 use Rattle.monitor_laws.proofs.Filters.{any_from, any_is, none_passes}
-use Rattle.monitor_laws.proofs.Lawful.{IsLawfulState}
+use Rattle.monitor_laws.specs.Lawful.{IsLawfulState}
 use Rattle.monitor_laws.proofs.Rows.{find_is}
 use Rattle.monitor_state.specs.inside.FirstFaults.{announced_fault, any_fault, arrive_fault, many_fault, misnamed_fault, one_of_fault, first_of_two, go_fault, is_task_there, is_wildcard_there, join_fault, leave_fault, phase_there, room_fault, said_fault, is_waiting_there}
 use Rattle.monitor_state.proofs.OnePassing.{found_none}

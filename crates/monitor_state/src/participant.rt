@@ -21,6 +21,12 @@ use trace_lines::Announcement;
 #[derive(Drop)]
 pub struct ListedParticipant {
     number: u64,
+    parts: Box<ParticipantParts>,
+}
+
+// All but its number, in a place of its own, so that the list is short in memory.
+#[derive(Drop)]
+struct ParticipantParts {
     name: Vec<u8>,
     memberships: Memberships,
     condition: ListedCondition,
@@ -35,10 +41,10 @@ impl Model for ListedParticipant {
 
     ghost view = { λ u. record {
       number = u.number;
-      name = u.name.items;
-      phases = u.memberships;
-      condition = condition_value u.condition;
-      place = kept_bytes u.place;
+      name = u.parts.value.name.items;
+      phases = u.parts.value.memberships;
+      condition = condition_value u.parts.value.condition;
+      place = kept_bytes u.parts.value.place;
     } };
 }
 
@@ -52,12 +58,15 @@ impl ListedParticipant {
         ensures { IfOk result (λ u. u ≡ new_participant number name.now) }
     {
         let name = Vec::from_slice(alloc, name)?;
-        Ok(ListedParticipant {
-            number,
+        let parts = ParticipantParts {
             name,
             memberships: Memberships::new(alloc),
             condition: ListedCondition::Running,
             place: None,
+        };
+        Ok(ListedParticipant {
+            number,
+            parts: Box::new(alloc, parts)?,
         })
     }
 
@@ -72,35 +81,35 @@ impl ListedParticipant {
     pub fn name(&self) -> &[u8]
         ensures { result.now ≡ self.now.name }
     {
-        &self.name
+        &self.parts.name
     }
 
     /// The phasers of which it is a member, in the order in which it joined them.
     pub fn memberships(&self) -> &Memberships
         ensures { result.now ≡ self.now.phases }
     {
-        &self.memberships
+        &self.parts.memberships
     }
 
     /// Its phase on phaser p, where it is a member of it.
     pub fn phase_on(&self, p: &[u8]) -> Option<u32>
         ensures { result ≡ phase_on self.now p.now }
     {
-        self.memberships.phase_on(p)
+        self.parts.memberships.phase_on(p)
     }
 
     /// In which condition it is.
     pub fn condition(&self) -> &ListedCondition
         ensures { condition_value result.now ≡ self.now.condition }
     {
-        &self.condition
+        &self.parts.condition
     }
 
     /// The last place that a line of it had.
     pub fn place(&self) -> Option<&[u8]>
         ensures { option_copied result ≡ self.now.place }
     {
-        match &self.place {
+        match &self.parts.place {
             None => None,
             Some(place) => Some(place),
         }
@@ -110,17 +119,17 @@ impl ListedParticipant {
     pub fn is_there_as(&self, t: &[u8]) -> bool
         ensures { result ≡ is_there_as t.now self.now }
     {
-        (self.condition.is_live_task() || self.condition.is_live_wildcard())
-            && t == self.name.as_slice()
+        (self.parts.condition.is_live_task() || self.parts.condition.is_live_wildcard())
+            && t == self.parts.name.as_slice()
     }
 
     /// Whether it stays in the list: it has not ended, or is a member of something.
     pub(crate) fn stays_listed(&self) -> bool
         ensures { result ≡ stays_listed self.now }
     {
-        self.condition.is_live_task()
-            || self.condition.is_live_wildcard()
-            || self.memberships.len() != 0
+        self.parts.condition.is_live_task()
+            || self.parts.condition.is_live_wildcard()
+            || self.parts.memberships.len() != 0
     }
 
     // It waits for phase n of phaser p.
@@ -129,7 +138,7 @@ impl ListedParticipant {
         ensures kept { OnErr result (self.new ≡ self.old) }
     {
         let phaser = Vec::from_slice(alloc, p)?;
-        self.condition = ListedCondition::Waiting(phaser, n);
+        self.parts.condition = ListedCondition::Waiting(phaser, n);
         Ok(())
     }
 
@@ -137,10 +146,10 @@ impl ListedParticipant {
     fn end(&mut self)
         ensures { self.new ≡ announced_by Ends self.old }
     {
-        if self.condition.is_live_wildcard() {
-            self.memberships.clear();
+        if self.parts.condition.is_live_wildcard() {
+            self.parts.memberships.clear();
         }
-        self.condition = ListedCondition::Ended;
+        self.parts.condition = ListedCondition::Ended;
     }
 
     // What one more line of its own says.
@@ -150,18 +159,18 @@ impl ListedParticipant {
         ensures kept { OnErr result (self.new ≡ self.old) }
     {
         match what {
-            Announcement::Joins(p, n) => self.memberships.join(alloc, p, *n),
+            Announcement::Joins(p, n) => self.parts.memberships.join(alloc, p, *n),
             Announcement::Arrives(p) => {
-                self.memberships.arrive(p);
+                self.parts.memberships.arrive(p);
                 Ok(())
             }
             Announcement::Leaves(p) => {
-                self.memberships.leave(p);
+                self.parts.memberships.leave(p);
                 Ok(())
             }
             Announcement::Waits(p, n) => self.wait(alloc, p, *n),
             Announcement::Goes => {
-                self.condition = ListedCondition::Running;
+                self.parts.condition = ListedCondition::Running;
                 Ok(())
             }
             Announcement::Ends => {
@@ -188,7 +197,7 @@ impl ListedParticipant {
             Some(raw) => {
                 let place = kept_place(alloc, raw)?;
                 self.say(alloc, what)?;
-                self.place = Some(place);
+                self.parts.place = Some(place);
                 Ok(())
             }
         }
@@ -199,7 +208,7 @@ impl ListedParticipant {
         requires { memberships_had self.now ≤ most_memberships }
         ensures { result ≡ memberships_had self.now }
     {
-        self.memberships.len() + self.condition.tasks_had()
+        self.parts.memberships.len() + self.parts.condition.tasks_had()
     }
 
     /// What a line changes of it.
@@ -211,7 +220,7 @@ impl ListedParticipant {
         match change {
             Change::Says(what, place) => self.announce(alloc, what, place),
             Change::Plays(condition) => {
-                self.condition = condition;
+                self.parts.condition = condition;
                 Ok(())
             }
         }
@@ -221,8 +230,8 @@ impl ListedParticipant {
     pub(crate) fn go_with(&mut self, beginning: &[u8])
         ensures { self.new ≡ gone_by beginning.now self.old }
     {
-        if self.name.as_slice().starts_with(beginning) {
-            self.condition = ListedCondition::Ended;
+        if self.parts.name.as_slice().starts_with(beginning) {
+            self.parts.condition = ListedCondition::Ended;
         }
     }
 }

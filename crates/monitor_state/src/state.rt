@@ -1,16 +1,16 @@
 // The state of a monitor.
-ghost use Rattle.std.specs.Prelude.{◌≡◌, ◌+◌, ◌≤◌, ℕ, IfOk, IfNone, OnOk, OnErr, List, [], false, Some, Option, ◌||◌, bytes_eq, find, is_some, length, nat_le, nat_lt};
+ghost use Rattle.std.specs.Prelude.{◌≡◌, ◌+◌, ◌<◌, ◌≤◌, ℕ, IfOk, IfSome, IfNone, OnOk, OnErr, List, [], false, Some, Option, ◌||◌, bytes_eq, find, is_some, length, nat_le, nat_lt};
 ghost use Rattle.std.specs.Option.{option_copied, option_map};
 ghost use Rattle.monitor_laws.specs.Lines.{Announces, AreGone, PlaysAny, PlaysOneOf};
 ghost use Rattle.monitor_laws.specs.Faults.{faults_of, first_fault, has_no_room, is_wildcard_in, memberships_in, most_listed, most_memberships, participant_in};
 ghost use Rattle.monitor_laws.specs.States.{after_line, changed_at, is_there_as, nobody_named, task_numbers};
 ghost use Rattle.trace_lines.specs.Values.{line_value, place_value, said_value};
-ghost use Rattle.monitor_laws.proofs.Lawful.{IsLawfulState};
-ghost use Rattle.monitor_state.specs.NumberedLists.{AreAscending};
+ghost use Rattle.monitor_laws.specs.Lawful.{AreAscending, IsLawfulState};
 ghost use Rattle.monitor_state.specs.Taking.{taken_state};
 ghost use Rattle.trace_lines.specs.inside.Reading.{spaced_words};
 ghost use Rattle.monitor_state.specs.Values.{fault_of_line};
 ghost use Rattle.monitor_state.specs.inside.FirstFaults.{first_of_two, many_fault};
+ghost use Rattle.monitor_state.specs.inside.Numbers.{IsPlaceOfName};
 ghost use Rattle.monitor_state.specs.inside.Changes.{IsOfLine, MayChange, changed_value, memberships_had};
 
 use crate::change::Change;
@@ -73,8 +73,15 @@ impl MonitorState {
     }
 
     #[tactic(none)]
-    // Who is there with the name t is changed, or comes by this line. Where memory is wanting, or 2^64 were named, nothing is changed.
-    fn change(&mut self, alloc: Global, t: &[u8], change: Change) -> Result<(), NoMemory>
+    // Who is there with the name t, at its place, is changed, or comes by this line. Where memory is wanting, or 2^64 were named, nothing is changed.
+    fn change(
+        &mut self,
+        alloc: Global,
+        t: &[u8],
+        at: Option<usize>,
+        change: Change,
+    ) -> Result<(), NoMemory>
+        requires place { IsPlaceOfName self.old.list t.now at }
         requires line { IsOfLine self.old (changed_at t.now (changed_value change) self.old) }
         requires may { MayChange change (participant_in self.old t.now) }
         requires space { has_no_room self.old t.now ≡ false }
@@ -82,7 +89,7 @@ impl MonitorState {
         ensures changed { OnOk result (self.new ≡ changed_at t.now (changed_value change.entry) self.old) }
         ensures kept { OnErr result (self.new ≡ self.old) }
     {
-        match self.listing.place_of(t) {
+        match at {
             Some(at) => {
                 let before = self.listing.one_at(at).memberships_had();
                 let after = self.listing.change_at(at, alloc, t, change)?;
@@ -113,11 +120,20 @@ impl MonitorState {
         MOST_MEMBERSHIPS <= self.memberships
     }
 
-    // Who is there with the name t.
-    fn found(&self, t: &[u8]) -> Option<&ListedParticipant>
-        ensures { option_copied result ≡ find (is_there_as t.now) self.now.list }
+    // Where who is there with the name t stands.
+    fn place_of(&self, t: &[u8]) -> Option<usize>
+        ensures { IsPlaceOfName self.now.list t.now result }
     {
-        match self.listing.place_of(t) {
+        let _ = &self.memberships;
+        self.listing.place_of(t)
+    }
+
+    // Who is there, where a place is given: whoever has the name whose place it is.
+    fn found(&self, at: Option<usize>) -> Option<&ListedParticipant>
+        requires { IfSome at (λ i. i < length self.now.list) }
+        ensures { (t : List ℕ) → IsPlaceOfName self.now.list t at → option_copied result ≡ find (is_there_as t) self.now.list }
+    {
+        match at {
             None => None,
             Some(at) => Some(self.listing.one_at(at)),
         }
@@ -127,15 +143,17 @@ impl MonitorState {
     fn announced_fault<'a>(
         &self,
         t: &'a [u8],
+        at: Option<usize>,
         what: &Announcement<'a>,
         is_placed: bool,
     ) -> Option<FaultOfLine<'a>>
+        requires place { IsPlaceOfName self.now.list t.now at }
         ensures { (place : Option (List ℕ)) → is_some place ≡ is_placed → option_map fault_of_line result ≡ first_fault self.now (Some (Announces t.now (said_value what.now) place)) }
     {
         let _ = &self.memberships;
         announced_fault(
             t,
-            self.found(t),
+            self.found(at),
             what,
             is_placed,
             self.is_full(),
@@ -148,15 +166,17 @@ impl MonitorState {
         &mut self,
         alloc: Global,
         t: &[u8],
+        at: Option<usize>,
         what: &Announcement,
         place: Option<&[u8]>,
     ) -> Result<(), NoMemory>
+        requires place { IsPlaceOfName self.old.list t.now at }
         requires legal { faults_of self.old (Announces t.now (said_value what.now) (place_value place)) ≡ [] }
         ensures taken { OnOk result (self.new ≡ after_line self.old (Announces t.now (said_value what.now) (place_value place.entry))) }
         ensures kept { OnErr result (self.new ≡ self.old) }
     {
         let _ = &self.memberships;
-        self.change(alloc, t, Change::Says(what, place))
+        self.change(alloc, t, at, Change::Says(what, place))
     }
 
     // The first fault of a line by which any task may play the wildcard w.
@@ -164,7 +184,7 @@ impl MonitorState {
         ensures { option_map fault_of_line result ≡ first_fault self.now (Some (PlaysAny w.now)) }
     {
         let _ = &self.memberships;
-        any_fault(w, self.found(w), self.is_full())
+        any_fault(w, self.found(self.place_of(w)), self.is_full())
     }
 
     // Any task may play the wildcard w.
@@ -174,7 +194,8 @@ impl MonitorState {
         ensures kept { OnErr result (self.new ≡ self.old) }
     {
         let _ = &self.memberships;
-        self.change(alloc, w, Change::Plays(ListedCondition::AnyTask))
+        let at = self.place_of(w);
+        self.change(alloc, w, at, Change::Plays(ListedCondition::AnyTask))
     }
 
     // All whose names begin so have ended.
@@ -190,7 +211,7 @@ impl MonitorState {
         ensures { result ≡ is_wildcard_in self.now t.now }
     {
         let _ = &self.memberships;
-        is_wildcard_there(self.found(t))
+        is_wildcard_there(self.found(self.place_of(t)))
     }
 
     // Whether the name t may not be one of those who may play w: it is w, or a wildcard is there with it.
@@ -223,7 +244,7 @@ impl MonitorState {
         let _ = &self.memberships;
         one_of_fault(
             w,
-            self.found(w),
+            self.found(self.place_of(w)),
             self.first_misnamed(w, names),
             self.is_full(),
         )
@@ -263,9 +284,11 @@ impl MonitorState {
     {
         let _ = &self.memberships;
         let names = Vec::from_slice(alloc, names)?;
+        let at = self.place_of(w);
         self.change(
             alloc,
             w,
+            at,
             Change::Plays(ListedCondition::OneOf(names, numbers)),
         )?;
         Ok(())
@@ -283,10 +306,11 @@ impl MonitorState {
         ensures taken { IfOk result (λ fault. self.new ≡ taken_state self.old (Announces t.now (said_value what.now) (place_value place.entry)) (option_map fault_of_line fault)) }
         ensures kept { OnErr result (self.new ≡ self.old) }
     {
-        match self.announced_fault(t, what, place.is_some()) {
+        let at = self.place_of(t);
+        match self.announced_fault(t, at, what, place.is_some()) {
             Some(fault) => Ok(Some(fault)),
             None => {
-                self.announce(alloc, t, what, place)?;
+                self.announce(alloc, t, at, what, place)?;
                 Ok(None)
             }
         }
@@ -323,7 +347,7 @@ impl MonitorState {
         ensures taken { IfOk result (λ fault. self.new ≡ taken_state self.old (PlaysOneOf w.now (spaced_words names.now)) (option_map fault_of_line fault)) }
         ensures kept { OnErr result (self.new ≡ self.old) }
     {
-        let numbers = task_numbers(self.listing.as_slice(), alloc, names)?;
+        let numbers = task_numbers(&self.listing, alloc, names)?;
         if self.has_too_many(w, numbers.len()) {
             return Ok(Some(FaultOfLine::TooManyMemberships));
         }

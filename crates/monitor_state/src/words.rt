@@ -1,8 +1,8 @@
 // Words that stand one behind the other, a space between.
-ghost use Rattle.std.specs.Prelude.{◌≡◌, ◌<◌, ◌≤◌, IfSome, bytes_eq, length};
-ghost use Rattle.std.specs.List.{list_any, position_or_len};
+ghost use Rattle.std.specs.Prelude.{◌≡◌, ◌<◌, ◌≤◌, IfSome, length};
+ghost use Rattle.std.specs.List.{position_or_len};
 ghost use Rattle.std.specs.Option.{option_copied};
-ghost use Rattle.trace_lines.specs.inside.Reading.{behind_word, is_space, spaced_words, word_before_space};
+ghost use Rattle.trace_lines.specs.inside.Reading.{behind_word, is_space, word_before_space};
 
 // Where the first space stands, or how long the bytes are.
 fn space_at(bytes: &[u8]) -> usize
@@ -31,19 +31,4 @@ pub fn split_word(bytes: &[u8]) -> (&[u8], Option<&[u8]>)
     } else {
         (word, None)
     }
-}
-
-/// Whether the name is one of the words.
-pub(crate) fn is_one_of(names: &[u8], name: &[u8]) -> bool
-    ensures { result ≡ list_any (λ t. bytes_eq t name.now) (spaced_words names.now) }
-{
-    let mut rest = Some(names);
-    while let Some(bytes) = rest {
-        let (word, behind) = split_word(bytes);
-        if word == name {
-            return true;
-        }
-        rest = behind;
-    }
-    false
 }

@@ -10,7 +10,8 @@ use Rattle.armus_base.proofs.Elements.{from_map}
 use Rattle.monitor_laws.specs.Lines.{TraceLine, SaysNothing, AsksReport, AsksList, AreGone, Announces, PlaysAny, PlaysOneOf}
 use Rattle.monitor_laws.specs.States.{Ended, AnyTask, OneOf, Participant, TraceState, after_line, after_lines, announced_by, changed_by, gone_by, is_there_as, new_participant, placed_at, stays_listed, task_numbers, with_named}
 use Rattle.monitor_laws.proofs.Changes.{changed_there, other_is, there_is}
-use Rattle.monitor_laws.proofs.Lawful.{IsLawfulState, announced_number, lawful_lines, placed_number}
+use Rattle.monitor_laws.specs.Lawful.{IsLawfulState}
+use Rattle.monitor_laws.proofs.Lawful.{announced_number, lawful_lines, placed_number}
 use Rattle.monitor_words.specs.Laws.{NumbersAscend}
 
 abbrev pub Ascends : List Participant → Type 0

@@ -9,7 +9,8 @@ use Rattle.armus_base.proofs.Elements.{Contains-cons_cases, Contains-head, Conta
 use Rattle.monitor_laws.specs.Lines.{TraceLine}
 use Rattle.monitor_laws.specs.States.{Participant, TraceState, after_lines}
 use Rattle.monitor_laws.proofs.Filters.{any_from}
-use Rattle.monitor_laws.proofs.Lawful.{IsLawfulState, lawful_lines}
+use Rattle.monitor_laws.specs.Lawful.{IsLawfulState}
+use Rattle.monitor_laws.proofs.Lawful.{lawful_lines}
 use Rattle.monitor_words.specs.Laws.{HasOneCircle, HasSomeCircle}
 use Rattle.monitor_words.specs.Stops.{ComesFirst, IsChain, IsCircle, IsFirstCircle, stops}
 use Rattle.monitor_words.proofs.Ascending.{Ascends, above_first, numbers_ascend, rest_ascends}

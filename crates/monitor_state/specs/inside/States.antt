@@ -2,8 +2,7 @@
 use Rattle.std.specs.Prelude.{◌≡◌, ℕ, ◌≤◌, length}
 use Rattle.monitor_laws.specs.States.{TraceState}
 use Rattle.monitor_laws.specs.Faults.{memberships_in, most_listed, most_memberships}
-use Rattle.monitor_laws.proofs.Lawful.{IsLawfulState}
-use Rattle.monitor_state.specs.NumberedLists.{AreAscending}
+use Rattle.monitor_laws.specs.Lawful.{AreAscending, IsLawfulState}
 
 -- numbers and names are in order, the memberships are counted, and there are no more of both than there may be
 pub record IsMonitorState (s : TraceState) (memberships : ℕ) : Type 0 where

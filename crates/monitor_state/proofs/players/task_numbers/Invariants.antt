@@ -1,9 +1,11 @@
-use Rattle.std.proofs.Common.{◌≡◌, map, take}
-use Rattle.std.specs.Prelude.{filter}
-use Rattle.trace_lines.specs.inside.Reading.{spaced_words}
-use Rattle.monitor_state.specs.inside.Players.{is_player, participant_number}
+use Rattle.std.specs.Option.{option_copied}
+use Rattle.trace_lines.specs.inside.Reading.{bytes_left, words_behind, spaced_words}
+use Rattle.monitor_state.specs.inside.Players.{AreNumbersSoFar}
 use Rattle.monitor_state.proofs.players.task_numbers.Given as goal
 
--- so far
-abbrev pub invariant-loop-participant : goal.invariant-loop-participant
-invariant-loop-participant l = l.numbers.items ≡ map participant_number (filter (is_player (spaced_words l.names)) (take l.participant-index l.list))
+-- those of the names so far
+abbrev pub invariant-loop-rest : goal.invariant-loop-rest
+invariant-loop-rest l = AreNumbersSoFar l.listing (spaced_words l.names) (words_behind (option_copied l.rest)) l.numbers.items
+
+abbrev pub decreases-loop-rest : goal.decreases-loop-rest
+decreases-loop-rest l = bytes_left (option_copied l.rest)

@@ -5,33 +5,33 @@ use Rattle.monitor_laws.specs.States.{is_there_as, new_participant}
 use Rattle.monitor_state.specs.inside.FirstPlaces.{IsFirstAt}
 use Rattle.monitor_state.specs.inside.States.{IsMonitorState}
 use Rattle.monitor_state.specs.inside.Changes.{MayChange, changed_value, memberships_had, put_at, put_behind}
-use Rattle.monitor_state.proofs.KeptStates.{IsStep, changed_is, few_before, few_changed, few_new, had_before, in_order, holds_new, holds_there, kept_changed, kept_pushed, pushed_is}
+use Rattle.monitor_state.proofs.KeptStates.{IsStep, changed_is, few_before, few_changed, few_new, first_in, had_before, in_order, holds_new, holds_there, kept_changed, kept_pushed, nobody_in, pushed_is}
 use Rattle.monitor_state.proofs.state.MonitorState.change.Goals as goal
 
 pub one_at-requires : goal.one_at-requires
-one_at-requires c = c.in-Some.ensures.at.within
+one_at-requires c = (first_in c.args.self.now c.self.inside.listing c.self.inside.named c.args.t.now c.args.at c.self.view_is c.requires.place c.in-Some.at c.in-Some.is).within
 
 pub memberships_had-before-requires : goal.memberships_had-before-requires
 memberships_had-before-requires c =
     let step : IsStep c.args.self.now c.self.inside.listing c.self.inside.named c.self.inside.memberships c.args.t.now (changed_value c.args.change) = record { is = c.self.view_is; kept = c.self.invariant; line = c.requires.line; room = c.requires.few; space = c.requires.space } in
-    let first : IsFirstAt (is_there_as c.args.t.now) c.self.inside.listing c.in-Some.at = c.in-Some.ensures.at in
+    let first : IsFirstAt (is_there_as c.args.t.now) c.self.inside.listing c.in-Some.at = (first_in c.args.self.now c.self.inside.listing c.self.inside.named c.args.t.now c.args.at c.self.view_is c.requires.place c.in-Some.at c.in-Some.is) in
     few_before c.args.self.now c.self.inside.listing c.self.inside.named c.self.inside.memberships c.args.t.now (changed_value c.args.change) step c.in-Some.at c.one_at.result.now first c.one_at.ensures
 
 pub change_at-requires-clause-first : goal.change_at-requires-clause-first
 change_at-requires-clause-first c =
-    let first : IsFirstAt (is_there_as c.args.t.now) c.self.inside.listing c.in-Some.at = c.in-Some.ensures.at in
+    let first : IsFirstAt (is_there_as c.args.t.now) c.self.inside.listing c.in-Some.at = (first_in c.args.self.now c.self.inside.listing c.self.inside.named c.args.t.now c.args.at c.self.view_is c.requires.place c.in-Some.at c.in-Some.is) in
     first
 
 pub change_at-requires-clause-may : goal.change_at-requires-clause-may
 change_at-requires-clause-may c =
     let step : IsStep c.args.self.now c.self.inside.listing c.self.inside.named c.self.inside.memberships c.args.t.now (changed_value c.args.change) = record { is = c.self.view_is; kept = c.self.invariant; line = c.requires.line; room = c.requires.few; space = c.requires.space } in
-    let first : IsFirstAt (is_there_as c.args.t.now) c.self.inside.listing c.in-Some.at = c.in-Some.ensures.at in
+    let first : IsFirstAt (is_there_as c.args.t.now) c.self.inside.listing c.in-Some.at = (first_in c.args.self.now c.self.inside.listing c.self.inside.named c.args.t.now c.args.at c.self.view_is c.requires.place c.in-Some.at c.in-Some.is) in
     λ u read. holds_there c.args.self.now c.self.inside.listing c.self.inside.named c.self.inside.memberships c.args.t.now (changed_value c.args.change) step c.in-Some.at u first read (MayChange c.args.change) c.requires.may
 
 pub change_at-requires-clause-few : goal.change_at-requires-clause-few
 change_at-requires-clause-few c =
     let step : IsStep c.args.self.now c.self.inside.listing c.self.inside.named c.self.inside.memberships c.args.t.now (changed_value c.args.change) = record { is = c.self.view_is; kept = c.self.invariant; line = c.requires.line; room = c.requires.few; space = c.requires.space } in
-    let first : IsFirstAt (is_there_as c.args.t.now) c.self.inside.listing c.in-Some.at = c.in-Some.ensures.at in
+    let first : IsFirstAt (is_there_as c.args.t.now) c.self.inside.listing c.in-Some.at = (first_in c.args.self.now c.self.inside.listing c.self.inside.named c.args.t.now c.args.at c.self.view_is c.requires.place c.in-Some.at c.in-Some.is) in
     λ u read. few_changed c.args.self.now c.self.inside.listing c.self.inside.named c.self.inside.memberships c.args.t.now (changed_value c.args.change) step c.in-Some.at u first read
 
 pub invariant_of-self : goal.invariant_of-self
@@ -50,7 +50,7 @@ returns-in_err-after-in-Some-clause-kept c =
 pub overflow_sub-self : goal.overflow_sub-self
 overflow_sub-self c =
     let step : IsStep c.args.self.now c.self.inside.listing c.self.inside.named c.self.inside.memberships c.args.t.now (changed_value c.args.change) = record { is = c.self.view_is; kept = c.self.invariant; line = c.requires.line; room = c.requires.few; space = c.requires.space } in
-    let first : IsFirstAt (is_there_as c.args.t.now) c.self.inside.listing c.in-Some.at = c.in-Some.ensures.at in
+    let first : IsFirstAt (is_there_as c.args.t.now) c.self.inside.listing c.in-Some.at = (first_in c.args.self.now c.self.inside.listing c.self.inside.named c.args.t.now c.args.at c.self.view_is c.requires.place c.in-Some.at c.in-Some.is) in
     let part = had_before c.args.self.now c.self.inside.listing c.self.inside.named c.self.inside.memberships c.args.t.now (changed_value c.args.change) step c.in-Some.at c.one_at.result.now first c.one_at.ensures in
     let before = c.memberships_had-before.ensures in
     omega arith
@@ -58,7 +58,7 @@ overflow_sub-self c =
 pub overflow_add-self : goal.overflow_add-self
 overflow_add-self c =
     let step : IsStep c.args.self.now c.self.inside.listing c.self.inside.named c.self.inside.memberships c.args.t.now (changed_value c.args.change) = record { is = c.self.view_is; kept = c.self.invariant; line = c.requires.line; room = c.requires.few; space = c.requires.space } in
-    let first : IsFirstAt (is_there_as c.args.t.now) c.self.inside.listing c.in-Some.at = c.in-Some.ensures.at in
+    let first : IsFirstAt (is_there_as c.args.t.now) c.self.inside.listing c.in-Some.at = (first_in c.args.self.now c.self.inside.listing c.self.inside.named c.args.t.now c.args.at c.self.view_is c.requires.place c.in-Some.at c.in-Some.is) in
     let before = c.memberships_had-before.ensures in
     let after = c.in_ok-after-in-Some.ensures.count c.one_at.result.now c.one_at.ensures in
     let kept = kept_changed c.args.self.now c.self.inside.listing c.self.inside.named c.self.inside.memberships c.args.t.now (changed_value c.args.change) step c.in-Some.at c.one_at.result.now first c.one_at.ensures in
@@ -68,7 +68,7 @@ overflow_add-self c =
 pub invariant_of-self-in-Some : goal.invariant_of-self-in-Some
 invariant_of-self-in-Some c =
     let step : IsStep c.args.self.now c.self.inside.listing c.self.inside.named c.self.inside.memberships c.args.t.now (changed_value c.args.change) = record { is = c.self.view_is; kept = c.self.invariant; line = c.requires.line; room = c.requires.few; space = c.requires.space } in
-    let first : IsFirstAt (is_there_as c.args.t.now) c.self.inside.listing c.in-Some.at = c.in-Some.ensures.at in
+    let first : IsFirstAt (is_there_as c.args.t.now) c.self.inside.listing c.in-Some.at = (first_in c.args.self.now c.self.inside.listing c.self.inside.named c.args.t.now c.args.at c.self.view_is c.requires.place c.in-Some.at c.in-Some.is) in
     let before = c.memberships_had-before.ensures in
     let after = c.in_ok-after-in-Some.ensures.count c.one_at.result.now c.one_at.ensures in
     let kept = kept_changed c.args.self.now c.self.inside.listing c.self.inside.named c.self.inside.memberships c.args.t.now (changed_value c.args.change) step c.in-Some.at c.one_at.result.now first c.one_at.ensures in
@@ -92,13 +92,13 @@ returns-in_err-named-in-None-clause-kept c =
 pub change_behind-requires-clause-may : goal.change_behind-requires-clause-may
 change_behind-requires-clause-may c =
     let step : IsStep c.args.self.now c.self.inside.listing c.self.inside.named c.self.inside.memberships c.args.t.now (changed_value c.args.change) = record { is = c.self.view_is; kept = c.self.invariant; line = c.requires.line; room = c.requires.few; space = c.requires.space } in
-    let none : list_any (is_there_as c.args.t.now) c.self.inside.listing ≡ false = c.in-None.ensures.none in
+    let none : list_any (is_there_as c.args.t.now) c.self.inside.listing ≡ false = (nobody_in c.args.self.now c.self.inside.listing c.self.inside.named c.args.t.now c.args.at c.self.view_is c.requires.place c.in-None.is) in
     holds_new c.args.self.now c.self.inside.listing c.self.inside.named c.self.inside.memberships c.args.t.now (changed_value c.args.change) step none (MayChange c.args.change) c.requires.may
 
 pub change_behind-requires-clause-few : goal.change_behind-requires-clause-few
 change_behind-requires-clause-few c =
     let step : IsStep c.args.self.now c.self.inside.listing c.self.inside.named c.self.inside.memberships c.args.t.now (changed_value c.args.change) = record { is = c.self.view_is; kept = c.self.invariant; line = c.requires.line; room = c.requires.few; space = c.requires.space } in
-    let none : list_any (is_there_as c.args.t.now) c.self.inside.listing ≡ false = c.in-None.ensures.none in
+    let none : list_any (is_there_as c.args.t.now) c.self.inside.listing ≡ false = (nobody_in c.args.self.now c.self.inside.listing c.self.inside.named c.args.t.now c.args.at c.self.view_is c.requires.place c.in-None.is) in
     few_new c.args.self.now c.self.inside.listing c.self.inside.named c.self.inside.memberships c.args.t.now (changed_value c.args.change) step none
 
 pub invariant_of-self-in_err-after-in-None : goal.invariant_of-self-in_err-after-in-None
@@ -117,7 +117,7 @@ returns-in_err-after-in-None-clause-kept c =
 pub overflow_add-self-in-None : goal.overflow_add-self-in-None
 overflow_add-self-in-None c =
     let step : IsStep c.args.self.now c.self.inside.listing c.self.inside.named c.self.inside.memberships c.args.t.now (changed_value c.args.change) = record { is = c.self.view_is; kept = c.self.invariant; line = c.requires.line; room = c.requires.few; space = c.requires.space } in
-    let none : list_any (is_there_as c.args.t.now) c.self.inside.listing ≡ false = c.in-None.ensures.none in
+    let none : list_any (is_there_as c.args.t.now) c.self.inside.listing ≡ false = (nobody_in c.args.self.now c.self.inside.listing c.self.inside.named c.args.t.now c.args.at c.self.view_is c.requires.place c.in-None.is) in
     let after = c.in_ok-after-in-None.ensures.count in
     let kept = kept_pushed c.args.self.now c.self.inside.listing c.self.inside.named c.self.inside.memberships c.args.t.now (changed_value c.args.change) step none in
     let few : c.self.inside.memberships + memberships_had (changed_value c.args.change (new_participant c.self.inside.named c.args.t.now)) ≤ most_memberships = kept.few in
@@ -126,7 +126,7 @@ overflow_add-self-in-None c =
 pub invariant_of-self-in-None : goal.invariant_of-self-in-None
 invariant_of-self-in-None c =
     let step : IsStep c.args.self.now c.self.inside.listing c.self.inside.named c.self.inside.memberships c.args.t.now (changed_value c.args.change) = record { is = c.self.view_is; kept = c.self.invariant; line = c.requires.line; room = c.requires.few; space = c.requires.space } in
-    let none : list_any (is_there_as c.args.t.now) c.self.inside.listing ≡ false = c.in-None.ensures.none in
+    let none : list_any (is_there_as c.args.t.now) c.self.inside.listing ≡ false = (nobody_in c.args.self.now c.self.inside.listing c.self.inside.named c.args.t.now c.args.at c.self.view_is c.requires.place c.in-None.is) in
     let after = c.in_ok-after-in-None.ensures.count in
     let kept = kept_pushed c.args.self.now c.self.inside.listing c.self.inside.named c.self.inside.memberships c.args.t.now (changed_value c.args.change) step none in
     let named : c.in_ok-named-in-None.named ≡ c.self.inside.named + 1 = search rules in
@@ -137,22 +137,19 @@ invariant_of-self-in-None c =
 pub returns-in_ok-after-in-Some-clause-changed : goal.returns-in_ok-after-in-Some-clause-changed
 returns-in_ok-after-in-Some-clause-changed c =
     let step : IsStep c.args.self.now c.self.inside.listing c.self.inside.named c.self.inside.memberships c.args.t.now (changed_value c.args.change) = record { is = c.self.view_is; kept = c.self.invariant; line = c.requires.line; room = c.requires.few; space = c.requires.space } in
-    let first : IsFirstAt (is_there_as c.args.t.now) c.self.inside.listing c.in-Some.at = c.in-Some.ensures.at in
+    let first : IsFirstAt (is_there_as c.args.t.now) c.self.inside.listing c.in-Some.at = (first_in c.args.self.now c.self.inside.listing c.self.inside.named c.args.t.now c.args.at c.self.view_is c.requires.place c.in-Some.at c.in-Some.is) in
     ap (λ l. record { list = l; named = c.self.inside.named }) (c.in_ok-after-in-Some.ensures.changed c.one_at.result.now c.one_at.ensures) ∙ changed_is c.args.self.now c.self.inside.listing c.self.inside.named c.self.inside.memberships c.args.t.now (changed_value c.args.change) step c.in-Some.at c.one_at.result.now first c.one_at.ensures
 
 pub returns-in_ok-after-in-None-clause-changed : goal.returns-in_ok-after-in-None-clause-changed
 returns-in_ok-after-in-None-clause-changed c =
     let step : IsStep c.args.self.now c.self.inside.listing c.self.inside.named c.self.inside.memberships c.args.t.now (changed_value c.args.change) = record { is = c.self.view_is; kept = c.self.invariant; line = c.requires.line; room = c.requires.few; space = c.requires.space } in
-    let none : list_any (is_there_as c.args.t.now) c.self.inside.listing ≡ false = c.in-None.ensures.none in
+    let none : list_any (is_there_as c.args.t.now) c.self.inside.listing ≡ false = (nobody_in c.args.self.now c.self.inside.listing c.self.inside.named c.args.t.now c.args.at c.self.view_is c.requires.place c.in-None.is) in
     let named : c.in_ok-named-in-None.named ≡ c.self.inside.named + 1 = search rules in
     ap (λ l. record { list = l; named = c.in_ok-named-in-None.named }) c.in_ok-after-in-None.ensures.changed
     ∙ ap (λ n. record { list = put_behind c.self.inside.listing (changed_value c.args.change (new_participant c.self.inside.named c.args.t.now)); named = n }) named ∙ pushed_is c.args.self.now c.self.inside.listing c.self.inside.named c.self.inside.memberships c.args.t.now (changed_value c.args.change) step none
-
-pub place_of-requires : goal.place_of-requires
-place_of-requires c = in_order _ c.self.inside.memberships c.self.invariant
 
 pub change_at-requires-clause-order : goal.change_at-requires-clause-order
 change_at-requires-clause-order c = in_order _ c.self.inside.memberships c.self.invariant
 
 pub change_behind-requires-clause-nobody : goal.change_behind-requires-clause-nobody
-change_behind-requires-clause-nobody c = c.in-None.ensures.none
+change_behind-requires-clause-nobody c = (nobody_in c.args.self.now c.self.inside.listing c.self.inside.named c.args.t.now c.args.at c.self.view_is c.requires.place c.in-None.is)

@@ -4,10 +4,11 @@ use Rattle.std.specs.Option.{option_copied, option_map}
 use Rattle.monitor_laws.specs.Lines.{PlaysOneOf}
 use Rattle.monitor_laws.specs.States.{Participant, after_line, is_there_as}
 use Rattle.monitor_laws.specs.Faults.{LineFault, is_wildcard_in, memberships_in, most_memberships}
-use Rattle.monitor_laws.proofs.Lawful.{IsLawfulState}
+use Rattle.monitor_laws.specs.Lawful.{IsLawfulState}
 use Rattle.trace_lines.specs.inside.Reading.{spaced_words}
 use Rattle.monitor_state.specs.Values.{fault_of_line}
 use Rattle.monitor_state.specs.inside.FirstFaults.{first_of_two, many_fault, one_of_fault}
+use Rattle.monitor_state.proofs.KeptStates.{place_within}
 use Rattle.monitor_state.proofs.TableRows.{one_of_first, one_of_space, where_none}
 use Rattle.monitor_state.proofs.state.MonitorState.one_of_fault.Goals as goal
 
@@ -22,7 +23,7 @@ returns-clause-first c =
     one_of_first s w names lawful
     ∙ ap (λ (o : Option LineFault). first_of_two o (many_fault (nat_lt most_memberships (memberships_in (after_line s (PlaysOneOf w names))))))
     (sym (c.one_of_fault.ensures
-    ∙ ap (λ (o : Option Participant). one_of_fault w o (option_copied c.first_misnamed.result) c.is_full.result) c.found.ensures
+    ∙ ap (λ (o : Option Participant). one_of_fault w o (option_copied c.first_misnamed.result) c.is_full.result) (c.found.ensures w c.place_of.ensures)
     ∙ ap (λ (o : Option (List ℕ)). one_of_fault w found o c.is_full.result) c.first_misnamed.ensures
     ∙ ap (λ (b : Bool). one_of_fault w found misnamed b) c.is_full.ensures))
 
@@ -33,6 +34,9 @@ returns-clause-space c =
     where_none c.one_of_fault.result (λ none.
     one_of_space s w (option_copied c.first_misnamed.result)
     (sym (c.one_of_fault.ensures
-    ∙ ap (λ (o : Option Participant). one_of_fault w o (option_copied c.first_misnamed.result) c.is_full.result) c.found.ensures
+    ∙ ap (λ (o : Option Participant). one_of_fault w o (option_copied c.first_misnamed.result) c.is_full.result) (c.found.ensures w c.place_of.ensures)
     ∙ ap (λ (b : Bool). one_of_fault w (find (is_there_as w) s.list) (option_copied c.first_misnamed.result) b) c.is_full.ensures)
     ∙ ap (option_map fault_of_line) none))
+
+pub found-requires : goal.found-requires
+found-requires c = place_within c.args.self.now.list c.args.w.now c.place_of.result c.place_of.ensures

@@ -4,9 +4,8 @@ use Rattle.std.specs.List.{slice_split}
 use Rattle.monitor_laws.specs.Lines.{PlaysOneOf}
 use Rattle.monitor_laws.specs.States.{OneOf, TraceState, changed_at}
 use Rattle.monitor_laws.specs.Faults.{memberships_in, most_memberships}
-use Rattle.monitor_laws.proofs.Lawful.{IsLawfulState}
+use Rattle.monitor_laws.specs.Lawful.{AreAscending, IsLawfulState}
 use Rattle.trace_lines.specs.inside.Reading.{spaced_words}
-use Rattle.monitor_state.specs.NumberedLists.{AreAscending}
 use Rattle.monitor_state.proofs.KeptStates.{room_after}
 use Rattle.monitor_state.proofs.state.MonitorState.play.Goals as goal
 
