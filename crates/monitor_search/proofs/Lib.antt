@@ -1,5 +1,7 @@
 pub mod Carried
 pub mod Filtered
+pub mod KeptByTable
+pub mod LeastPhases
 pub mod LeftByLines
 pub mod OneChanged
 pub mod Parted

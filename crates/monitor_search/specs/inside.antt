@@ -1,2 +1,3 @@
+pub mod LeastPhases
 pub mod Leaving
 pub mod Partings

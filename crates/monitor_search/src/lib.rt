@@ -7,6 +7,7 @@ mod known_tasks;
 mod laws;
 mod leaving;
 mod parting;
+mod phases;
 mod stuck;
 
 pub use known_tasks::{StuckTask, StuckTasks};

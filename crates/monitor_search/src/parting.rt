@@ -9,8 +9,9 @@ ghost use Rattle.monitor_search.specs.Known.{known_task};
 ghost use Rattle.monitor_search.specs.inside.Partings.{AreAllKept, IsParting, is_kept_by, plays_one_of, referred};
 
 use crate::StuckTasks;
+use crate::phases::keepers_of;
 use armus_base::NoMemory;
-use monitor_state::{ListedCondition, ListedParticipant, MonitorState};
+use monitor_state::{ListedParticipant, MonitorState};
 use std::alloc::Global;
 
 /// Those who may still stand in a closed set, in list order, and those who stand in none.
@@ -37,49 +38,11 @@ pub(crate) fn is_among(tasks: &[u64], number: u64) -> bool
     tasks.iter().any(|k| *k == number)
 }
 
-// Whether u is a task that has not ended and has one of these numbers.
-fn plays_one_of(u: &ListedParticipant, tasks: &[u64]) -> bool
-    ensures { result ≡ plays_one_of tasks.now u.now }
-{
-    u.condition().is_live_task() && is_among(tasks, u.number())
-}
-
-// Whether one of these is a member of phaser p with a phase below n.
-fn some_below(these: &[&ListedParticipant], p: &[u8], n: u32) -> bool
-    ensures { result ≡ list_any (λ u. has_phase_below u.now p.now n) these.now }
-{
-    these.iter().any(|u| has_phase_below(u, p, n))
-}
-
-// Whether one of these is a task that has not ended.
-fn some_live(these: &[&ListedParticipant]) -> bool
+/// Whether one of these is a task that has not ended.
+pub(crate) fn some_live(these: &[&ListedParticipant]) -> bool
     ensures { result ≡ list_any (λ u. is_live_task u.now.condition) these.now }
 {
     these.iter().any(|u| u.condition().is_live_task())
-}
-
-// Whether one of these is a task that has not ended and has one of these numbers.
-fn some_player(these: &[&ListedParticipant], tasks: &[u64]) -> bool
-    ensures { result ≡ list_any (λ u. plays_one_of tasks.now u.now) these.now }
-{
-    these.iter().any(|u| plays_one_of(u, tasks))
-}
-
-// Whether those inside keep whoever is in this condition, where the others stand outside.
-fn is_kept_by(
-    inside: &[&ListedParticipant],
-    outside: &[&ListedParticipant],
-    condition: &ListedCondition,
-) -> bool
-    ensures { result ≡ is_kept_by (referred inside.now) (referred outside.now) (condition_value condition.now) }
-{
-    match condition {
-        ListedCondition::Running => false,
-        ListedCondition::Waiting(p, n) => some_below(inside, p, *n),
-        ListedCondition::Ended => true,
-        ListedCondition::AnyTask => !some_live(outside),
-        ListedCondition::OneOf(_, tasks) => !some_player(outside, tasks),
-    }
 }
 
 // Parts those inside anew: whoever is kept by them stays.
@@ -87,10 +50,11 @@ fn part_anew<'a>(alloc: Global, parting: &Parting<'a>) -> Result<Parting<'a>, No
     ensures inside { IfOk result (λ next. referred next.inside.items ≡ filter (λ u. is_kept_by (referred parting.now.inside.items) (referred parting.now.outside.items) u.condition) (referred parting.now.inside.items)) }
     ensures outside { IfOk result (λ next. referred next.outside.items ≡ referred parting.now.outside.items ++ filter (λ u. not (is_kept_by (referred parting.now.inside.items) (referred parting.now.outside.items) u.condition)) (referred parting.now.inside.items)) }
 {
+    let keepers = keepers_of(alloc, parting)?;
     let mut inside = Vec::new(alloc);
     let mut outside = Vec::from_slice(alloc, &parting.outside)?;
     for u in &parting.inside {
-        if is_kept_by(&parting.inside, &parting.outside, u.condition()) {
+        if keepers.keep(u.condition()) {
             inside.push(*u)?;
         } else {
             outside.push(*u)?;
