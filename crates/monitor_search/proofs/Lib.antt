@@ -5,5 +5,6 @@ pub mod LeastPhases
 pub mod LeftByLines
 pub mod OneChanged
 pub mod Parted
+pub mod QuietEnds
 pub mod References
 pub mod SurelyOut

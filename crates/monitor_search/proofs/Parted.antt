@@ -202,6 +202,11 @@ module _ (s : TraceState) (inside outside : List Participant) (parting : IsParti
               ∙ filter_agrees (λ v. parting.chosen.0 v && waits_now v.condition) (λ u. has_stuck_number (map known_task waiting) u.number) s.list passes_told);
         }
 
+-- of nobody who is known there is nobody
+pub none_known : (us : List Participant) → filter (λ u. has_stuck_number [] u.number) us ≡ []
+none_known [] = refl
+none_known (u ∷ us) = none_known us
+
 -- where nobody waits nobody is stuck
 pub none_stuck : (s : TraceState) → list_any (λ u. waits_now u.condition) s.list ≡ false → AreStuckTasks s []
 none_stuck s none =
@@ -210,12 +215,8 @@ none_stuck s none =
         λ on. absurd (cc),
         λ told. absurd (let w = ap waits_now told.1.waits.2 in let some = any_from (λ u. waits_now u.condition) s.list told.0 told.1.listed w in cc),
       );
-      ordered = ap (map known_task) (sym (none_of s.list));
+      ordered = ap (map known_task) (sym (none_known s.list));
     }
-  where
-    none_of : (us : List Participant) → filter (λ u. has_stuck_number [] u.number) us ≡ []
-    none_of [] = refl
-    none_of (u ∷ us) = none_of us
 
 -- the stuck tasks of a state are known in one way
 pub one_known : OneKnown
