@@ -9,8 +9,9 @@ use Rattle.monitor_laws.specs.Stuck.{IsKeptIn}
 use Rattle.monitor_laws.proofs.Changes.{changed_there, from_change, from_named, in_change, in_named, other_is, there_is}
 use Rattle.monitor_laws.proofs.Filters.{any_from, any_is, none_passes}
 use Rattle.monitor_laws.proofs.Lawful.{IsLawfulState}
+use Rattle.monitor_words.specs.Reasons.{has_ended}
 use Rattle.monitor_search.specs.Known.{AreStuckTasks, known_task}
-use Rattle.monitor_search.specs.inside.Leaving.{ends_quietly, has_ended, has_ended_as, is_for_any, is_for_some, is_nobody, runs_now}
+use Rattle.monitor_search.specs.inside.Leaving.{ends_quietly, has_ended_as, is_for_any, is_for_some, is_nobody, runs_now}
 use Rattle.monitor_search.proofs.Carried.{AsksFor, IsApart, IsCarried, NoneAsks, apart_outside, still_stuck}
 use Rattle.monitor_search.proofs.Parted.{none_known}
 use Rattle.monitor_search.proofs.SurelyOut.{runs_is}

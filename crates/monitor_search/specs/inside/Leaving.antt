@@ -3,6 +3,7 @@ use Rattle.std.specs.Prelude.{◌≡◌, ℕ, Bool, true, false, not, ◌&&◌, 
 use Rattle.std.specs.List.{list_any}
 use Rattle.monitor_laws.specs.States.{Condition, Running, Waiting, Ended, AnyTask, OneOf, Participant, is_live_wildcard, is_there_as}
 use Rattle.monitor_laws.specs.Stuck.{has_phase_below}
+use Rattle.monitor_words.specs.Reasons.{has_ended}
 use Rattle.monitor_search.specs.Known.{has_stuck_number}
 
 -- a task runs in this condition
@@ -12,14 +13,6 @@ runs_now (Waiting p n) = false
 runs_now Ended = false
 runs_now AnyTask = false
 runs_now (OneOf names tasks) = false
-
--- a task has ended, or a wildcard is gone, in this condition
-abbrev pub has_ended : Condition → Bool
-has_ended Running = false
-has_ended (Waiting p n) = false
-has_ended Ended = true
-has_ended AnyTask = false
-has_ended (OneOf names tasks) = false
 
 -- any task may play a wildcard in this condition
 abbrev pub is_for_any : Condition → Bool
