@@ -1,5 +1,6 @@
 pub mod Carried
 pub mod Filtered
+pub mod Groups
 pub mod KeptByTable
 pub mod LeastPhases
 pub mod LeftByLines
@@ -8,3 +9,4 @@ pub mod Parted
 pub mod QuietEnds
 pub mod References
 pub mod SurelyOut
+pub mod TakenOut

@@ -27,8 +27,8 @@ fn is_for_any(condition: &ListedCondition) -> bool
     matches!(condition, ListedCondition::AnyTask)
 }
 
-// Whether a task of the list runs.
-fn somebody_runs(list: &[ListedParticipant]) -> bool
+/// Whether a task of the list runs.
+pub(crate) fn somebody_runs(list: &[ListedParticipant]) -> bool
     ensures { result ≡ list_any (λ u. runs_now u.condition) list.now }
 {
     list.iter().any(|u| runs_now(u.condition()))

@@ -3,6 +3,7 @@
 //! The tests of the monitor stand in the gallery.
 #![tactic(auto)]
 
+mod cascade;
 mod known_tasks;
 mod laws;
 mod leaving;

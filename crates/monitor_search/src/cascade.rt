@@ -1,0 +1,351 @@
+// Taking out one after the other who stands in no closed set.
+ghost use Rattle.std.specs.Prelude.{◌≡◌, ◌++◌, ◌∷◌, ◌&&◌, ◌||◌, [], ℕ, false, true, not, Contains, List, IfOk, OnOk, bytes_eq, is_some, nat_eq};
+ghost use Rattle.std.specs.HashSet.{contains};
+ghost use Rattle.std.specs.List.{list_any};
+ghost use Rattle.monitor_laws.specs.Faults.{phase_on};
+ghost use Rattle.monitor_laws.specs.States.{Participant as Listed};
+ghost use Rattle.monitor_laws.specs.Stuck.{has_phase_below, is_phase_below};
+ghost use Rattle.monitor_state.specs.Values.{condition_value};
+ghost use Rattle.monitor_search.specs.inside.Leaving.{is_freed};
+ghost use Rattle.monitor_search.specs.inside.Cascades.{AreOfList, AreOut, HaveMembers, IsFreeWait, IsLeastInside, IsOut, group_of};
+ghost use Rattle.monitor_search.specs.inside.Partings.{referred};
+
+use crate::leaving::somebody_runs;
+use armus_base::NoMemory;
+use monitor_state::{ListedCondition, ListedParticipant, MonitorState};
+use std::alloc::Global;
+use std::collections::{HashMap, HashSet};
+
+// Takes the group with this name out; it may be empty.
+fn take_group<'a>(
+    groups: &mut HashMap<&'a [u8], Vec<&'a ListedParticipant>>,
+    alloc: Global,
+    name: &'a [u8],
+) -> Vec<&'a ListedParticipant>
+    ensures group { referred result.items ≡ group_of groups.old name.now }
+    ensures others { (q : List ℕ) → bytes_eq name.now q ≡ false → group_of groups.new q ≡ group_of groups.old q }
+{
+    match groups.remove(name) {
+        None => Vec::new(alloc),
+        Some(group) => group,
+    }
+}
+
+// Adds u to the group with this name.
+fn add_to_group<'a>(
+    groups: &mut HashMap<&'a [u8], Vec<&'a ListedParticipant>>,
+    alloc: Global,
+    name: &'a [u8],
+    u: &'a ListedParticipant,
+) -> Result<(), NoMemory>
+    ensures own { OnOk result (group_of groups.new name.now ≡ group_of groups.old name.now ++ u.now ∷ []) }
+    ensures others { OnOk result ((q : List ℕ) → bytes_eq name.now q ≡ false → group_of groups.new q ≡ group_of groups.old q) }
+{
+    let mut group = take_group(groups, alloc, name);
+    group.push(u)?;
+    groups.insert(name, group)?;
+    Ok(())
+}
+
+// Adds u to the groups of all phasers of which it is a member.
+fn add_member<'a>(
+    groups: &mut HashMap<&'a [u8], Vec<&'a ListedParticipant>>,
+    alloc: Global,
+    u: &'a ListedParticipant,
+) -> Result<(), NoMemory>
+    ensures own { OnOk result ((q : List ℕ) → is_some (phase_on u.now q) ≡ true → Contains (group_of groups.new q) u.now) }
+    ensures others { OnOk result ((q : List ℕ) (v : Listed) → Contains (group_of groups.old q) v → Contains (group_of groups.new q) v) }
+{
+    for membership in u.memberships().as_slice() {
+        add_to_group(groups, alloc, membership.phaser(), u)?;
+    }
+    Ok(())
+}
+
+// The members of all phasers.
+fn member_groups(
+    alloc: Global,
+    list: &[ListedParticipant],
+) -> Result<HashMap<&[u8], Vec<&ListedParticipant>>, NoMemory>
+    ensures { IfOk result (λ groups. HaveMembers list.now (group_of groups)) }
+{
+    let mut groups = HashMap::new(alloc);
+    for u in list {
+        add_member(&mut groups, alloc, u)?;
+    }
+    Ok(groups)
+}
+
+// Those who wait at all phasers.
+fn waiting_groups(
+    alloc: Global,
+    list: &[ListedParticipant],
+) -> Result<HashMap<&[u8], Vec<&ListedParticipant>>, NoMemory>
+    ensures { IfOk result (λ groups. AreOfList list.now (group_of groups)) }
+{
+    let mut groups = HashMap::new(alloc);
+    for u in list {
+        if let ListedCondition::Waiting(p, _) = u.condition() {
+            add_to_group(&mut groups, alloc, p, u)?;
+        }
+    }
+    Ok(groups)
+}
+
+// The members of all phasers, and those who wait at them.
+#[derive(Drop)]
+struct PhaserTable<'a> {
+    members: HashMap<&'a [u8], Vec<&'a ListedParticipant>>,
+    waiting: HashMap<&'a [u8], Vec<&'a ListedParticipant>>,
+}
+
+// The table of the phasers of a list.
+fn phaser_table(alloc: Global, list: &[ListedParticipant]) -> Result<PhaserTable<'_>, NoMemory>
+    ensures members { IfOk result (λ table. HaveMembers list.now (group_of table.members)) }
+    ensures waiting { IfOk result (λ table. AreOfList list.now (group_of table.waiting)) }
+{
+    let members = member_groups(alloc, list)?;
+    let waiting = waiting_groups(alloc, list)?;
+    Ok(PhaserTable { members, waiting })
+}
+
+// The lesser of two phases.
+fn lesser_phase(one: Option<u32>, other: Option<u32>) -> Option<u32>
+    ensures { (n : ℕ) → is_phase_below result n ≡ (is_phase_below one n || is_phase_below other n) }
+{
+    match (one, other) {
+        (Some(m), Some(k)) => Some(m.min(k)),
+        (Some(m), None) => Some(m),
+        (None, k) => k,
+    }
+}
+
+// The phase of u on phaser p, where its number is not out.
+fn phase_inside(u: &ListedParticipant, p: &[u8], out: &HashSet<u64>) -> Option<u32>
+    ensures { (n : ℕ) → is_phase_below result n ≡ (not (contains nat_eq out.now u.now.number) && has_phase_below u.now p.now n) }
+{
+    if out.contains(&u.number()) {
+        return None;
+    }
+    u.phase_on(p)
+}
+
+// The least phase on phaser p of those of these whose numbers are not out.
+fn least_inside(these: &[&ListedParticipant], p: &[u8], out: &HashSet<u64>) -> Option<u32>
+    ensures { (n : ℕ) → is_phase_below result n ≡ list_any (λ u. not (contains nat_eq out.now u.number) && has_phase_below u p.now n) (referred these.now) }
+{
+    let mut least = None;
+    for u in these {
+        least = lesser_phase(least, phase_inside(*u, p, out));
+    }
+    least
+}
+
+// Whether the phase is below n.
+fn is_below(phase: Option<u32>, n: u32) -> bool
+    ensures { result ≡ is_phase_below phase n }
+{
+    match phase {
+        None => false,
+        Some(m) => m < n,
+    }
+}
+
+// Whether t waits at phaser p for a phase that is not above the least one.
+fn is_free_wait(t: &ListedParticipant, p: &[u8], least: Option<u32>) -> bool
+    ensures { result ≡ true → IsFreeWait t.now p.now least }
+{
+    match t.condition() {
+        ListedCondition::Waiting(q, n) => q.as_slice() == p && !is_below(least, *n),
+        _ => false,
+    }
+}
+
+// The least phase on phaser p of its members whose numbers are not out.
+fn least_on<'a>(
+    members: &HashMap<&'a [u8], Vec<&'a ListedParticipant>>,
+    p: &[u8],
+    out: &HashSet<u64>,
+) -> Option<u32>
+    ensures { (n : ℕ) → is_phase_below result n ≡ list_any (λ u. not (contains nat_eq out.now u.number) && has_phase_below u p.now n) (group_of members.now p.now) }
+{
+    match members.get(p) {
+        None => None,
+        Some(group) => least_inside(group, p, out),
+    }
+}
+
+// Takes out t, which stands in no closed set; who is taken out first now is fresh.
+fn take_out<'a>(
+    state: &MonitorState,
+    t: &'a ListedParticipant,
+    out: &mut HashSet<u64>,
+    fresh: &mut Vec<&'a ListedParticipant>,
+) -> Result<(), NoMemory>
+    requires alone { IsOut state.now t.now }
+    requires out { AreOut state.now (contains nat_eq out.old) }
+    ensures { OnOk result (AreOut state.now (contains nat_eq out.new)) }
+{
+    if out.insert(t.number())? {
+        fresh.push(t)?;
+    }
+    Ok(())
+}
+
+// Takes out those of these who wait at phaser p for a phase that is not above the least one.
+fn free_waiting<'a>(
+    state: &MonitorState,
+    these: &[&'a ListedParticipant],
+    p: &[u8],
+    least: Option<u32>,
+    out: &mut HashSet<u64>,
+    fresh: &mut Vec<&'a ListedParticipant>,
+) -> Result<(), NoMemory>
+    requires listed { (u : Listed) → Contains (referred these.now) u → Contains state.now.list u }
+    requires least { IsLeastInside state.now p.now least }
+    requires out { AreOut state.now (contains nat_eq out.old) }
+    ensures { OnOk result (AreOut state.now (contains nat_eq out.new)) }
+{
+    for t in these {
+        if is_free_wait(t, p, least) {
+            take_out(state, *t, out, fresh)?;
+        }
+    }
+    Ok(())
+}
+
+// Takes out whoever waits at phaser p and is kept by nobody who is not out.
+fn free_at<'a>(
+    state: &MonitorState,
+    table: &PhaserTable<'a>,
+    p: &[u8],
+    out: &mut HashSet<u64>,
+    fresh: &mut Vec<&'a ListedParticipant>,
+) -> Result<(), NoMemory>
+    requires members { HaveMembers state.now.list (group_of table.now.members) }
+    requires waiting { AreOfList state.now.list (group_of table.now.waiting) }
+    requires out { AreOut state.now (contains nat_eq out.old) }
+    ensures { OnOk result (AreOut state.now (contains nat_eq out.new)) }
+{
+    match table.waiting.get(p) {
+        None => Ok(()),
+        Some(group) => {
+            let least = least_on(&table.members, p, out);
+            free_waiting(state, group, p, least, out, fresh)
+        }
+    }
+}
+
+// Takes out whoever waits at one of these phasers and is kept by nobody who is not out; tells whom.
+fn free_at_all<'a>(
+    alloc: Global,
+    state: &MonitorState,
+    table: &PhaserTable<'a>,
+    phasers: &[&[u8]],
+    out: &mut HashSet<u64>,
+) -> Result<Vec<&'a ListedParticipant>, NoMemory>
+    requires members { HaveMembers state.now.list (group_of table.now.members) }
+    requires waiting { AreOfList state.now.list (group_of table.now.waiting) }
+    requires out { AreOut state.now (contains nat_eq out.old) }
+    ensures { OnOk result (AreOut state.now (contains nat_eq out.new)) }
+{
+    let mut fresh = Vec::new(alloc);
+    for p in phasers {
+        free_at(state, table, *p, out, &mut fresh)?;
+    }
+    Ok(fresh)
+}
+
+// Whether who is in this condition runs, or is a wildcard that any task may play where somebody runs.
+fn is_freed_at_once(list: &[ListedParticipant], condition: &ListedCondition) -> bool
+    ensures { result ≡ true → is_freed list.now (condition_value condition.now) ≡ true }
+{
+    match condition {
+        ListedCondition::Running => true,
+        ListedCondition::AnyTask => somebody_runs(list),
+        _ => false,
+    }
+}
+
+// Takes out whoever runs, and the wildcards that any task may play where somebody runs.
+fn free_runners(alloc: Global, state: &MonitorState, out: &mut HashSet<u64>) -> Result<(), NoMemory>
+    requires out { AreOut state.now (contains nat_eq out.old) }
+    ensures { OnOk result (AreOut state.now (contains nat_eq out.new)) }
+{
+    let list = state.participants();
+    let mut fresh = Vec::new(alloc);
+    for u in list {
+        if is_freed_at_once(list, u.condition()) {
+            take_out(state, u, out, &mut fresh)?;
+        }
+    }
+    Ok(())
+}
+
+// Notes a phaser, once.
+fn note_phaser<'a>(
+    phasers: &mut Vec<&'a [u8]>,
+    noted: &mut HashSet<&'a [u8]>,
+    p: &'a [u8],
+) -> Result<(), NoMemory> {
+    if noted.insert(p)? {
+        phasers.push(p)?;
+    }
+    Ok(())
+}
+
+// The phasers at which somebody of the list waits.
+fn waited_phasers(alloc: Global, list: &[ListedParticipant]) -> Result<Vec<&[u8]>, NoMemory> {
+    let mut noted = HashSet::new(alloc);
+    let mut phasers = Vec::new(alloc);
+    for u in list {
+        if let ListedCondition::Waiting(p, _) = u.condition() {
+            note_phaser(&mut phasers, &mut noted, p)?;
+        }
+    }
+    Ok(phasers)
+}
+
+// Notes the phasers of which u is a member.
+fn note_phasers<'a>(
+    phasers: &mut Vec<&'a [u8]>,
+    noted: &mut HashSet<&'a [u8]>,
+    u: &'a ListedParticipant,
+) -> Result<(), NoMemory> {
+    for membership in u.memberships().as_slice() {
+        note_phaser(phasers, noted, membership.phaser())?;
+    }
+    Ok(())
+}
+
+// The phasers of which these are members.
+fn phasers_of<'a>(
+    alloc: Global,
+    these: &[&'a ListedParticipant],
+) -> Result<Vec<&'a [u8]>, NoMemory> {
+    let mut noted = HashSet::new(alloc);
+    let mut phasers = Vec::new(alloc);
+    for u in these {
+        note_phasers(&mut phasers, &mut noted, *u)?;
+    }
+    Ok(phasers)
+}
+
+/// Numbers of tasks and wildcards that stand in no closed set: of those who run, and of whoever is kept by nobody but such.
+pub(crate) fn numbers_out(alloc: Global, state: &MonitorState) -> Result<HashSet<u64>, NoMemory>
+    ensures { IfOk result (λ out. AreOut state.now (contains nat_eq out)) }
+{
+    let list = state.participants();
+    let table = phaser_table(alloc, list)?;
+    let mut out = HashSet::new(alloc);
+    free_runners(alloc, state, &mut out)?;
+    let mut phasers = waited_phasers(alloc, list)?;
+    for _ in 0..list.len() {
+        let fresh = free_at_all(alloc, state, &table, &phasers, &mut out)?;
+        if fresh.is_empty() {
+            return Ok(out);
+        }
+        phasers = phasers_of(alloc, &fresh)?;
+    }
+    Ok(out)
+}
