@@ -7,7 +7,7 @@ ghost use Rattle.monitor_laws.specs.States.{Participant as Listed};
 ghost use Rattle.monitor_laws.specs.Stuck.{has_phase_below, is_phase_below};
 ghost use Rattle.monitor_state.specs.Values.{condition_value};
 ghost use Rattle.monitor_search.specs.inside.Leaving.{is_freed};
-ghost use Rattle.monitor_search.specs.inside.Cascades.{AreOfList, AreOut, HaveMembers, IsFreeWait, IsLeastInside, IsOut, group_of};
+ghost use Rattle.monitor_search.specs.inside.Cascades.{AreOfList, AreOut, HaveMembers, IsFreeWait, IsLeastInside, IsOut, named_group};
 ghost use Rattle.monitor_search.specs.inside.Partings.{referred};
 
 use crate::leaving::somebody_runs;
@@ -22,8 +22,8 @@ fn take_group<'a>(
     alloc: Global,
     name: &'a [u8],
 ) -> Vec<&'a ListedParticipant>
-    ensures group { referred result.items ≡ group_of groups.old name.now }
-    ensures others { (q : List ℕ) → bytes_eq name.now q ≡ false → group_of groups.new q ≡ group_of groups.old q }
+    ensures group { referred result.items ≡ named_group groups.old name.now }
+    ensures others { (q : List ℕ) → bytes_eq name.now q ≡ false → named_group groups.new q ≡ named_group groups.old q }
 {
     match groups.remove(name) {
         None => Vec::new(alloc),
@@ -38,8 +38,8 @@ fn add_to_group<'a>(
     name: &'a [u8],
     u: &'a ListedParticipant,
 ) -> Result<(), NoMemory>
-    ensures own { OnOk result (group_of groups.new name.now ≡ group_of groups.old name.now ++ u.now ∷ []) }
-    ensures others { OnOk result ((q : List ℕ) → bytes_eq name.now q ≡ false → group_of groups.new q ≡ group_of groups.old q) }
+    ensures own { OnOk result (named_group groups.new name.now ≡ named_group groups.old name.now ++ u.now ∷ []) }
+    ensures others { OnOk result ((q : List ℕ) → bytes_eq name.now q ≡ false → named_group groups.new q ≡ named_group groups.old q) }
 {
     let mut group = take_group(groups, alloc, name);
     group.push(u)?;
@@ -53,8 +53,8 @@ fn add_member<'a>(
     alloc: Global,
     u: &'a ListedParticipant,
 ) -> Result<(), NoMemory>
-    ensures own { OnOk result ((q : List ℕ) → is_some (phase_on u.now q) ≡ true → Contains (group_of groups.new q) u.now) }
-    ensures others { OnOk result ((q : List ℕ) (v : Listed) → Contains (group_of groups.old q) v → Contains (group_of groups.new q) v) }
+    ensures own { OnOk result ((q : List ℕ) → is_some (phase_on u.now q) ≡ true → Contains (named_group groups.new q) u.now) }
+    ensures others { OnOk result ((q : List ℕ) (v : Listed) → Contains (named_group groups.old q) v → Contains (named_group groups.new q) v) }
 {
     for membership in u.memberships().as_slice() {
         add_to_group(groups, alloc, membership.phaser(), u)?;
@@ -67,7 +67,7 @@ fn member_groups(
     alloc: Global,
     list: &[ListedParticipant],
 ) -> Result<HashMap<&[u8], Vec<&ListedParticipant>>, NoMemory>
-    ensures { IfOk result (λ groups. HaveMembers list.now (group_of groups)) }
+    ensures { IfOk result (λ groups. HaveMembers list.now (named_group groups)) }
 {
     let mut groups = HashMap::new(alloc);
     for u in list {
@@ -81,7 +81,7 @@ fn waiting_groups(
     alloc: Global,
     list: &[ListedParticipant],
 ) -> Result<HashMap<&[u8], Vec<&ListedParticipant>>, NoMemory>
-    ensures { IfOk result (λ groups. AreOfList list.now (group_of groups)) }
+    ensures { IfOk result (λ groups. AreOfList list.now (named_group groups)) }
 {
     let mut groups = HashMap::new(alloc);
     for u in list {
@@ -101,8 +101,8 @@ struct PhaserTable<'a> {
 
 // The table of the phasers of a list.
 fn phaser_table(alloc: Global, list: &[ListedParticipant]) -> Result<PhaserTable<'_>, NoMemory>
-    ensures members { IfOk result (λ table. HaveMembers list.now (group_of table.members)) }
-    ensures waiting { IfOk result (λ table. AreOfList list.now (group_of table.waiting)) }
+    ensures members { IfOk result (λ table. HaveMembers list.now (named_group table.members)) }
+    ensures waiting { IfOk result (λ table. AreOfList list.now (named_group table.waiting)) }
 {
     let members = member_groups(alloc, list)?;
     let waiting = waiting_groups(alloc, list)?;
@@ -167,7 +167,7 @@ fn least_on<'a>(
     p: &[u8],
     out: &HashSet<u64>,
 ) -> Option<u32>
-    ensures { (n : ℕ) → is_phase_below result n ≡ list_any (λ u. not (contains nat_eq out.now u.number) && has_phase_below u p.now n) (group_of members.now p.now) }
+    ensures { (n : ℕ) → is_phase_below result n ≡ list_any (λ u. not (contains nat_eq out.now u.number) && has_phase_below u p.now n) (named_group members.now p.now) }
 {
     match members.get(p) {
         None => None,
@@ -222,8 +222,8 @@ fn free_at<'a>(
     out: &mut HashSet<u64>,
     fresh: &mut Vec<&'a ListedParticipant>,
 ) -> Result<(), NoMemory>
-    requires members { HaveMembers state.now.list (group_of table.now.members) }
-    requires waiting { AreOfList state.now.list (group_of table.now.waiting) }
+    requires members { HaveMembers state.now.list (named_group table.now.members) }
+    requires waiting { AreOfList state.now.list (named_group table.now.waiting) }
     requires out { AreOut state.now (contains nat_eq out.old) }
     ensures { OnOk result (AreOut state.now (contains nat_eq out.new)) }
 {
@@ -244,8 +244,8 @@ fn free_at_all<'a>(
     phasers: &[&[u8]],
     out: &mut HashSet<u64>,
 ) -> Result<Vec<&'a ListedParticipant>, NoMemory>
-    requires members { HaveMembers state.now.list (group_of table.now.members) }
-    requires waiting { AreOfList state.now.list (group_of table.now.waiting) }
+    requires members { HaveMembers state.now.list (named_group table.now.members) }
+    requires waiting { AreOfList state.now.list (named_group table.now.waiting) }
     requires out { AreOut state.now (contains nat_eq out.old) }
     ensures { OnOk result (AreOut state.now (contains nat_eq out.new)) }
 {

@@ -14,8 +14,8 @@ those_of None = []
 those_of (Some group) = referred group.items
 
 -- the group with a name
-abbrev pub group_of : {S : Type 0} → HashMap (Bor (List ℕ)) (Vec (Bor Participant)) S → List ℕ → List Participant
-group_of groups q = those_of (get_by (λ k. bytes_eq q k.now) groups)
+abbrev pub named_group : {S : Type 0} → HashMap (Bor (List ℕ)) (Vec (Bor Participant)) S → List ℕ → List Participant
+named_group groups q = those_of (get_by (λ k. bytes_eq q k.now) groups)
 
 -- nobody with one of these numbers stands in a closed set
 abbrev pub AreOut : TraceState → (ℕ → Bool) → Type 0

@@ -1,6 +1,6 @@
 use Rattle.std.proofs.Common.{◌≡◌, ◌<◌, ℕ, List, length, get_or, ◌∙◌, ap, inl, inr, rules}
 use Rattle.std.specs.Prelude.{bytes_eq}
-use Rattle.monitor_search.specs.inside.Cascades.{group_of}
+use Rattle.monitor_search.specs.inside.Cascades.{named_group}
 use Rattle.monitor_search.proofs.Groups.{kept_added, now_added, some_more}
 use Rattle.monitor_search.proofs.cascade.add_member.Goals as goal
 
@@ -13,8 +13,8 @@ loop-membership-preserved c =
     let is : m ≡ get_or ms i m = c.membership-item.is ∙ ap (λ (l : List (List ℕ × ℕ)). get_or l i m) items in
     let within : i < length ms = search rules in
     let name = c.phaser.result.now in
-    let before = group_of c.loop-membership.groups in
-    let after = group_of c.add_to_group.new.groups in
+    let before = named_group c.loop-membership.groups in
+    let after = named_group c.add_to_group.new.groups in
     let now = c.in_ok-add_to_group.ensures in
     record {
       own = λ q some. elim (some_more ms i m q within is some) [
