@@ -3,11 +3,11 @@ use Rattle.std.proofs.Common.{◌≡◌, ℕ, Bool, true, false, ◌&&◌, not, 
 use Rattle.std.specs.Prelude.{Contains, filter, is_some}
 use Rattle.std.specs.List.{list_any}
 use Rattle.std.proofs.lemmas.Bool.{and_from, cases_Bool, cond-false, eqb-true, not_from_false}
-use Rattle.monitor_laws.specs.States.{Waiting, Participant, TraceState}
+use Rattle.monitor_laws.specs.States.{Condition, Running, Waiting, Ended, AnyTask, OneOf, Participant, TraceState}
 use Rattle.monitor_laws.specs.Faults.{phase_on}
 use Rattle.monitor_laws.specs.Stuck.{IsClosedSet, IsKeptIn, has_phase_below, is_phase_below}
 use Rattle.monitor_laws.proofs.Filters.{any_from, from_filter, in_filter}
-use Rattle.monitor_search.specs.inside.Cascades.{AreOut, HaveMembers, IsFreeWait, IsLeastInside, IsOut}
+use Rattle.monitor_search.specs.inside.Cascades.{AreOut, HaveMembers, IsFreeWait, IsLeastInside, IsOut, IsPlayedOut}
 use Rattle.monitor_search.specs.inside.Leaving.{is_freed}
 use Rattle.monitor_search.specs.inside.Partings.{IsParting}
 use Rattle.monitor_search.proofs.SurelyOut.{freed_out}
@@ -61,3 +61,19 @@ parting_of_out s out are_out =
       ];
       out = λ set closed u within. are_out set closed u.number (from_filter (λ v. out v.number) s.list u within).1;
     }
+
+pub played_is_out : (s : TraceState) (out : ℕ → Bool) → AreOut s out → (t : Participant) → Contains s.list t → IsPlayedOut s.list t.condition out → IsOut s t
+played_is_out s out are_out t within played set closed = elim (cases_Bool (set t.number)) [
+  | inr off ↦ off
+  | inl on ↦ absurd (by_condition t.condition played (closed t within on))
+]
+  where
+    by_condition : (c : Condition) → IsPlayedOut s.list c out → IsKeptIn s set c → ⊥
+    by_condition Running none kept = none
+    by_condition (Waiting p n) none kept = none
+    by_condition Ended none kept = none
+    by_condition AnyTask none kept = none
+    by_condition (OneOf names tasks) (k, has, is_out, (u, listed, same, live)) all =
+        let on = all u listed live (subst (Contains tasks) (sym same) has) in
+        let off = ap set same ∙ are_out set closed k is_out in
+        absurd (cc)

@@ -7,7 +7,7 @@ ghost use Rattle.monitor_laws.specs.States.{Participant as Listed};
 ghost use Rattle.monitor_laws.specs.Stuck.{has_phase_below, is_phase_below};
 ghost use Rattle.monitor_state.specs.Values.{condition_value};
 ghost use Rattle.monitor_search.specs.inside.Leaving.{is_freed};
-ghost use Rattle.monitor_search.specs.inside.Cascades.{AreOfList, AreOut, HaveMembers, IsFreeWait, IsLeastInside, IsOut, named_group};
+ghost use Rattle.monitor_search.specs.inside.Cascades.{AreOfList, AreOut, HasLiveNumber, HasLiveOut, HaveMembers, IsFreeWait, IsLeastInside, IsOut, IsPlayedOut, named_group};
 ghost use Rattle.monitor_search.specs.inside.Partings.{referred};
 
 use crate::leaving::somebody_runs;
@@ -282,6 +282,142 @@ fn free_runners(alloc: Global, state: &MonitorState, out: &mut HashSet<u64>) -> 
     Ok(())
 }
 
+// Whether a task of the list that has not ended has this number.
+fn is_live_number(list: &[ListedParticipant], number: u64) -> bool
+    ensures { result ≡ true → HasLiveNumber list.now number }
+{
+    let place = list.partition_point(|u| u.number() < number);
+    if place >= list.len() {
+        return false;
+    }
+    let u = &list[place];
+    u.number() == number && u.condition().is_live_task()
+}
+
+// Whether one of these numbers is out, and is that of a task of the list that has not ended.
+fn some_live_out(list: &[ListedParticipant], tasks: &[u64], out: &HashSet<u64>) -> bool
+    ensures { result ≡ true → HasLiveOut list.now tasks.now (contains nat_eq out.now) }
+{
+    for k in tasks {
+        if out.contains(k) && is_live_number(list, *k) {
+            return true;
+        }
+    }
+    false
+}
+
+// Whether who is in this condition is a wildcard of which one is out who may play it.
+fn is_played_out(
+    list: &[ListedParticipant],
+    condition: &ListedCondition,
+    out: &HashSet<u64>,
+) -> bool
+    ensures { result ≡ true → IsPlayedOut list.now (condition_value condition.now) (contains nat_eq out.now) }
+{
+    match condition {
+        ListedCondition::OneOf(_, tasks) => some_live_out(list, tasks, out),
+        _ => false,
+    }
+}
+
+// Takes out u, where it is a wildcard of which one is out who may play it.
+fn free_played<'a>(
+    state: &MonitorState,
+    u: &'a ListedParticipant,
+    out: &mut HashSet<u64>,
+    fresh: &mut Vec<&'a ListedParticipant>,
+) -> Result<(), NoMemory>
+    requires listed { Contains state.now.list u.now }
+    requires out { AreOut state.now (contains nat_eq out.old) }
+    ensures { OnOk result (AreOut state.now (contains nat_eq out.new)) }
+{
+    if is_played_out(state.participants(), u.condition(), out) {
+        take_out(state, u, out, fresh)?;
+    }
+    Ok(())
+}
+
+// Takes out the wildcards of which one is out who may play them.
+fn free_all_played<'a>(
+    alloc: Global,
+    state: &'a MonitorState,
+    out: &mut HashSet<u64>,
+) -> Result<(), NoMemory>
+    requires out { AreOut state.now (contains nat_eq out.old) }
+    ensures { OnOk result (AreOut state.now (contains nat_eq out.new)) }
+{
+    let mut fresh = Vec::new(alloc);
+    for u in state.participants() {
+        free_played(state, u, out, &mut fresh)?;
+    }
+    Ok(())
+}
+
+// Takes out the wildcards at these places of the list of which one is out who may play them.
+fn free_played_at<'a>(
+    state: &'a MonitorState,
+    places: &[usize],
+    out: &mut HashSet<u64>,
+    fresh: &mut Vec<&'a ListedParticipant>,
+) -> Result<(), NoMemory>
+    requires out { AreOut state.now (contains nat_eq out.old) }
+    ensures { OnOk result (AreOut state.now (contains nat_eq out.new)) }
+{
+    let list = state.participants();
+    for place in places {
+        if *place < list.len() {
+            free_played(state, &list[*place], out, fresh)?;
+        }
+    }
+    Ok(())
+}
+
+// Takes out the wildcards that these may play, where one is out who may play them; tells which.
+fn free_played_by<'a>(
+    alloc: Global,
+    state: &'a MonitorState,
+    wildcards: &HashMap<u64, Vec<usize>>,
+    these: &[&'a ListedParticipant],
+    out: &mut HashSet<u64>,
+) -> Result<Vec<&'a ListedParticipant>, NoMemory>
+    requires out { AreOut state.now (contains nat_eq out.old) }
+    ensures { OnOk result (AreOut state.now (contains nat_eq out.new)) }
+{
+    let mut fresh = Vec::new(alloc);
+    for u in these {
+        if let Some(places) = wildcards.get(&u.number()) {
+            free_played_at(state, places, out, &mut fresh)?;
+        }
+    }
+    Ok(fresh)
+}
+
+// Notes that a wildcard at this place has these tasks.
+fn note_wildcard(
+    wildcards: &mut HashMap<u64, Vec<usize>>,
+    tasks: &[u64],
+    place: usize,
+) -> Result<(), NoMemory> {
+    for k in tasks {
+        wildcards.entry(*k)?.or_default().push(place)?;
+    }
+    Ok(())
+}
+
+// The places of the wildcards that each task may play, by its number.
+fn wildcard_places(
+    alloc: Global,
+    list: &[ListedParticipant],
+) -> Result<HashMap<u64, Vec<usize>>, NoMemory> {
+    let mut wildcards = HashMap::new(alloc);
+    for (place, u) in list.iter().enumerate() {
+        if let ListedCondition::OneOf(_, tasks) = u.condition() {
+            note_wildcard(&mut wildcards, tasks, place)?;
+        }
+    }
+    Ok(wildcards)
+}
+
 // Notes a phaser, once.
 fn note_phaser<'a>(
     phasers: &mut Vec<&'a [u8]>,
@@ -318,14 +454,15 @@ fn note_phasers<'a>(
     Ok(())
 }
 
-// The phasers of which these are members.
+// The phasers of which these are members, or the others.
 fn phasers_of<'a>(
     alloc: Global,
     these: &[&'a ListedParticipant],
+    others: &[&'a ListedParticipant],
 ) -> Result<Vec<&'a [u8]>, NoMemory> {
     let mut noted = HashSet::new(alloc);
     let mut phasers = Vec::new(alloc);
-    for u in these {
+    for u in these.iter().chain(others) {
         note_phasers(&mut phasers, &mut noted, *u)?;
     }
     Ok(phasers)
@@ -337,15 +474,18 @@ pub(crate) fn numbers_out(alloc: Global, state: &MonitorState) -> Result<HashSet
 {
     let list = state.participants();
     let table = phaser_table(alloc, list)?;
+    let wildcards = wildcard_places(alloc, list)?;
     let mut out = HashSet::new(alloc);
     free_runners(alloc, state, &mut out)?;
+    free_all_played(alloc, state, &mut out)?;
     let mut phasers = waited_phasers(alloc, list)?;
     for _ in 0..list.len() {
         let fresh = free_at_all(alloc, state, &table, &phasers, &mut out)?;
         if fresh.is_empty() {
             return Ok(out);
         }
-        phasers = phasers_of(alloc, &fresh)?;
+        let played = free_played_by(alloc, state, &wildcards, &fresh, &mut out)?;
+        phasers = phasers_of(alloc, &fresh, &played)?;
     }
     Ok(out)
 }

@@ -3,7 +3,7 @@ use Rattle.std.specs.Prelude.{◌≡◌, ℕ, Bool, true, false, Option, Some, N
 use Rattle.std.specs.Borrow.{Bor}
 use Rattle.std.specs.Global.{Vec}
 use Rattle.std.specs.HashMap.{HashMap, get_by}
-use Rattle.monitor_laws.specs.States.{Waiting, Participant, TraceState}
+use Rattle.monitor_laws.specs.States.{Condition, Running, Waiting, Ended, AnyTask, OneOf, Participant, TraceState, is_live_task}
 use Rattle.monitor_laws.specs.Faults.{phase_on}
 use Rattle.monitor_laws.specs.Stuck.{IsClosedSet, has_phase_below, is_phase_below}
 use Rattle.monitor_search.specs.inside.Partings.{referred}
@@ -42,3 +42,19 @@ IsFreeWait t p least = (n : ℕ) × (t.condition ≡ Waiting p n) × (is_phase_b
 -- it stands in no closed set
 abbrev pub IsOut : TraceState → Participant → Type 0
 IsOut s t = (set : ℕ → Bool) → IsClosedSet s set → set t.number ≡ false
+
+-- a task of the list that has not ended has this number
+abbrev pub HasLiveNumber : List Participant → ℕ → Type 0
+HasLiveNumber list k = (u : Participant) × Contains list u × (u.number ≡ k) × (is_live_task u.condition ≡ true)
+
+-- one of these numbers is out, and is that of a task of the list that has not ended
+abbrev pub HasLiveOut : List Participant → List ℕ → (ℕ → Bool) → Type 0
+HasLiveOut list tasks out = (k : ℕ) × Contains tasks k × (out k ≡ true) × HasLiveNumber list k
+
+-- who is in this condition is a wildcard of such tasks
+abbrev pub IsPlayedOut : List Participant → Condition → (ℕ → Bool) → Type 0
+IsPlayedOut list Running out = ⊥
+IsPlayedOut list (Waiting p n) out = ⊥
+IsPlayedOut list Ended out = ⊥
+IsPlayedOut list AnyTask out = ⊥
+IsPlayedOut list (OneOf names tasks) out = HasLiveOut list tasks out
