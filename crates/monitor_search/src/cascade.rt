@@ -1,8 +1,7 @@
 // Taking out one after the other who stands in no closed set.
-ghost use Rattle.std.specs.Prelude.{◌≡◌, ◌++◌, ◌∷◌, ◌&&◌, ◌||◌, [], ℕ, false, true, not, Contains, List, IfOk, OnOk, bytes_eq, is_some, nat_eq};
+ghost use Rattle.std.specs.Prelude.{◌≡◌, ◌&&◌, ◌||◌, ℕ, true, not, Contains, IfOk, OnOk, nat_eq};
 ghost use Rattle.std.specs.HashSet.{contains};
 ghost use Rattle.std.specs.List.{list_any};
-ghost use Rattle.monitor_laws.specs.Faults.{phase_on};
 ghost use Rattle.monitor_laws.specs.States.{Participant as Listed};
 ghost use Rattle.monitor_laws.specs.Stuck.{has_phase_below, is_phase_below};
 ghost use Rattle.monitor_state.specs.Values.{condition_value};
@@ -10,104 +9,13 @@ ghost use Rattle.monitor_search.specs.inside.Leaving.{is_freed};
 ghost use Rattle.monitor_search.specs.inside.Cascades.{AreOfList, AreOut, HasLiveNumber, HasLiveOut, HaveMembers, IsFreeWait, IsLeastInside, IsOut, IsPlayedOut, named_group};
 ghost use Rattle.monitor_search.specs.inside.Partings.{referred};
 
+use crate::grouping::{PhaserTable, phaser_table};
 use crate::leaving::somebody_runs;
+use crate::noting::{phasers_of, waited_phasers, wildcard_places};
 use armus_base::NoMemory;
 use monitor_state::{ListedCondition, ListedParticipant, MonitorState};
 use std::alloc::Global;
 use std::collections::{HashMap, HashSet};
-
-// Takes the group with this name out; it may be empty.
-fn take_group<'a>(
-    groups: &mut HashMap<&'a [u8], Vec<&'a ListedParticipant>>,
-    alloc: Global,
-    name: &'a [u8],
-) -> Vec<&'a ListedParticipant>
-    ensures group { referred result.items ≡ named_group groups.old name.now }
-    ensures others { (q : List ℕ) → bytes_eq name.now q ≡ false → named_group groups.new q ≡ named_group groups.old q }
-{
-    match groups.remove(name) {
-        None => Vec::new(alloc),
-        Some(group) => group,
-    }
-}
-
-// Adds u to the group with this name.
-fn add_to_group<'a>(
-    groups: &mut HashMap<&'a [u8], Vec<&'a ListedParticipant>>,
-    alloc: Global,
-    name: &'a [u8],
-    u: &'a ListedParticipant,
-) -> Result<(), NoMemory>
-    ensures own { OnOk result (named_group groups.new name.now ≡ named_group groups.old name.now ++ u.now ∷ []) }
-    ensures others { OnOk result ((q : List ℕ) → bytes_eq name.now q ≡ false → named_group groups.new q ≡ named_group groups.old q) }
-{
-    let mut group = take_group(groups, alloc, name);
-    group.push(u)?;
-    groups.insert(name, group)?;
-    Ok(())
-}
-
-// Adds u to the groups of all phasers of which it is a member.
-fn add_member<'a>(
-    groups: &mut HashMap<&'a [u8], Vec<&'a ListedParticipant>>,
-    alloc: Global,
-    u: &'a ListedParticipant,
-) -> Result<(), NoMemory>
-    ensures own { OnOk result ((q : List ℕ) → is_some (phase_on u.now q) ≡ true → Contains (named_group groups.new q) u.now) }
-    ensures others { OnOk result ((q : List ℕ) (v : Listed) → Contains (named_group groups.old q) v → Contains (named_group groups.new q) v) }
-{
-    for membership in u.memberships().as_slice() {
-        add_to_group(groups, alloc, membership.phaser(), u)?;
-    }
-    Ok(())
-}
-
-// The members of all phasers.
-fn member_groups(
-    alloc: Global,
-    list: &[ListedParticipant],
-) -> Result<HashMap<&[u8], Vec<&ListedParticipant>>, NoMemory>
-    ensures { IfOk result (λ groups. HaveMembers list.now (named_group groups)) }
-{
-    let mut groups = HashMap::new(alloc);
-    for u in list {
-        add_member(&mut groups, alloc, u)?;
-    }
-    Ok(groups)
-}
-
-// Those who wait at all phasers.
-fn waiting_groups(
-    alloc: Global,
-    list: &[ListedParticipant],
-) -> Result<HashMap<&[u8], Vec<&ListedParticipant>>, NoMemory>
-    ensures { IfOk result (λ groups. AreOfList list.now (named_group groups)) }
-{
-    let mut groups = HashMap::new(alloc);
-    for u in list {
-        if let ListedCondition::Waiting(p, _) = u.condition() {
-            add_to_group(&mut groups, alloc, p, u)?;
-        }
-    }
-    Ok(groups)
-}
-
-// The members of all phasers, and those who wait at them.
-#[derive(Drop)]
-struct PhaserTable<'a> {
-    members: HashMap<&'a [u8], Vec<&'a ListedParticipant>>,
-    waiting: HashMap<&'a [u8], Vec<&'a ListedParticipant>>,
-}
-
-// The table of the phasers of a list.
-fn phaser_table(alloc: Global, list: &[ListedParticipant]) -> Result<PhaserTable<'_>, NoMemory>
-    ensures members { IfOk result (λ table. HaveMembers list.now (named_group table.members)) }
-    ensures waiting { IfOk result (λ table. AreOfList list.now (named_group table.waiting)) }
-{
-    let members = member_groups(alloc, list)?;
-    let waiting = waiting_groups(alloc, list)?;
-    Ok(PhaserTable { members, waiting })
-}
 
 // The lesser of two phases.
 fn lesser_phase(one: Option<u32>, other: Option<u32>) -> Option<u32>
@@ -390,82 +298,6 @@ fn free_played_by<'a>(
         }
     }
     Ok(fresh)
-}
-
-// Notes that a wildcard at this place has these tasks.
-fn note_wildcard(
-    wildcards: &mut HashMap<u64, Vec<usize>>,
-    tasks: &[u64],
-    place: usize,
-) -> Result<(), NoMemory> {
-    for k in tasks {
-        wildcards.entry(*k)?.or_default().push(place)?;
-    }
-    Ok(())
-}
-
-// The places of the wildcards that each task may play, by its number.
-fn wildcard_places(
-    alloc: Global,
-    list: &[ListedParticipant],
-) -> Result<HashMap<u64, Vec<usize>>, NoMemory> {
-    let mut wildcards = HashMap::new(alloc);
-    for (place, u) in list.iter().enumerate() {
-        if let ListedCondition::OneOf(_, tasks) = u.condition() {
-            note_wildcard(&mut wildcards, tasks, place)?;
-        }
-    }
-    Ok(wildcards)
-}
-
-// Notes a phaser, once.
-fn note_phaser<'a>(
-    phasers: &mut Vec<&'a [u8]>,
-    noted: &mut HashSet<&'a [u8]>,
-    p: &'a [u8],
-) -> Result<(), NoMemory> {
-    if noted.insert(p)? {
-        phasers.push(p)?;
-    }
-    Ok(())
-}
-
-// The phasers at which somebody of the list waits.
-fn waited_phasers(alloc: Global, list: &[ListedParticipant]) -> Result<Vec<&[u8]>, NoMemory> {
-    let mut noted = HashSet::new(alloc);
-    let mut phasers = Vec::new(alloc);
-    for u in list {
-        if let ListedCondition::Waiting(p, _) = u.condition() {
-            note_phaser(&mut phasers, &mut noted, p)?;
-        }
-    }
-    Ok(phasers)
-}
-
-// Notes the phasers of which u is a member.
-fn note_phasers<'a>(
-    phasers: &mut Vec<&'a [u8]>,
-    noted: &mut HashSet<&'a [u8]>,
-    u: &'a ListedParticipant,
-) -> Result<(), NoMemory> {
-    for membership in u.memberships().as_slice() {
-        note_phaser(phasers, noted, membership.phaser())?;
-    }
-    Ok(())
-}
-
-// The phasers of which these are members, or the others.
-fn phasers_of<'a>(
-    alloc: Global,
-    these: &[&'a ListedParticipant],
-    others: &[&'a ListedParticipant],
-) -> Result<Vec<&'a [u8]>, NoMemory> {
-    let mut noted = HashSet::new(alloc);
-    let mut phasers = Vec::new(alloc);
-    for u in these.iter().chain(others) {
-        note_phasers(&mut phasers, &mut noted, *u)?;
-    }
-    Ok(phasers)
 }
 
 /// Numbers of tasks and wildcards that stand in no closed set: of those who run, and of whoever is kept by nobody but such.

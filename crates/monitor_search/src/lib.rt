@@ -4,9 +4,11 @@
 #![tactic(auto)]
 
 mod cascade;
+mod grouping;
 mod known_tasks;
 mod laws;
 mod leaving;
+mod noting;
 mod parting;
 mod phases;
 mod stuck;

@@ -1,6 +1,6 @@
 use Rattle.std.proofs.Common.{take}
 use Rattle.monitor_search.specs.inside.Cascades.{HaveMembers, named_group}
-use Rattle.monitor_search.proofs.cascade.member_groups.Given as goal
+use Rattle.monitor_search.proofs.grouping.member_groups.Given as goal
 
 -- so far
 abbrev pub invariant-loop-u : goal.invariant-loop-u

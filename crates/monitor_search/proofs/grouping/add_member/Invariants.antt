@@ -3,7 +3,7 @@ use Rattle.std.specs.Prelude.{Contains, bytes_eq, is_some}
 use Rattle.std.specs.Map.{lookup}
 use Rattle.monitor_laws.specs.States.{Participant}
 use Rattle.monitor_search.specs.inside.Cascades.{named_group}
-use Rattle.monitor_search.proofs.cascade.add_member.Given as goal
+use Rattle.monitor_search.proofs.grouping.add_member.Given as goal
 
 -- so far
 abbrev pub invariant-loop-membership : goal.invariant-loop-membership

@@ -1,8 +1,8 @@
 use Rattle.std.proofs.Common.{◌<◌, length, sym, subst, rules}
 use Rattle.monitor_search.specs.inside.Cascades.{AreOfList, named_group}
 use Rattle.monitor_search.proofs.Groups.{of_list_added}
-use Rattle.monitor_search.proofs.cascade.waiting_groups.Goals as goal
-use Rattle.monitor_search.proofs.cascade.waiting_groups.Goals.{in-Waiting+in_ok-add_to_group, in_default}
+use Rattle.monitor_search.proofs.grouping.waiting_groups.Goals as goal
+use Rattle.monitor_search.proofs.grouping.waiting_groups.Goals.{in-Waiting+in_ok-add_to_group, in_default}
 
 pub loop-u-preserved : goal.loop-u-preserved
 loop-u-preserved c =

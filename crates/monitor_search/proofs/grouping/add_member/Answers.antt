@@ -2,7 +2,7 @@ use Rattle.std.proofs.Common.{◌≡◌, ◌<◌, ℕ, List, length, get_or, ◌
 use Rattle.std.specs.Prelude.{bytes_eq}
 use Rattle.monitor_search.specs.inside.Cascades.{named_group}
 use Rattle.monitor_search.proofs.Groups.{kept_added, now_added, some_more}
-use Rattle.monitor_search.proofs.cascade.add_member.Goals as goal
+use Rattle.monitor_search.proofs.grouping.add_member.Goals as goal
 
 pub loop-membership-preserved : goal.loop-membership-preserved
 loop-membership-preserved c =

@@ -3,7 +3,7 @@ use Rattle.std.proofs.lemmas.List.{take_all}
 use Rattle.monitor_laws.specs.States.{Participant}
 use Rattle.monitor_search.specs.inside.Cascades.{HaveMembers, named_group}
 use Rattle.monitor_search.proofs.Groups.{members_more}
-use Rattle.monitor_search.proofs.cascade.member_groups.Goals as goal
+use Rattle.monitor_search.proofs.grouping.member_groups.Goals as goal
 
 pub loop-u-preserved : goal.loop-u-preserved
 loop-u-preserved c =

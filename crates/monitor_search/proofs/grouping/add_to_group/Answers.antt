@@ -4,7 +4,7 @@ use Rattle.std.specs.HashMap.{get_by}
 use Rattle.std.proofs.lemmas.Bool.{cond-false}
 use Rattle.std.proofs.lemmas.Map.Text.{hash_map_updates_str}
 use Rattle.monitor_search.specs.inside.Cascades.{those_of}
-use Rattle.monitor_search.proofs.cascade.add_to_group.Goals as goal
+use Rattle.monitor_search.proofs.grouping.add_to_group.Goals as goal
 
 pub returns-clause-others : goal.returns-clause-others
 returns-clause-others c = λ q apart.
