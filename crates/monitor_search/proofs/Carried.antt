@@ -63,31 +63,37 @@ module _ (s : TraceState) (k : ℕ) where
 abbrev pub LivesIn : TraceState → ℕ → Type 0
 LivesIn s k = (x : Participant) × Contains s.list x × (x.number ≡ k) × (is_live_task x.condition ≡ true)
 
+-- a wildcard in this condition asks for the task with this number
+abbrev pub AsksFor : Condition → ℕ → Type 0
+AsksFor Running k = ⊥
+AsksFor (Waiting p n) k = ⊥
+AsksFor Ended k = ⊥
+AsksFor AnyTask k = Unit {0}
+AsksFor (OneOf names tasks) k = Contains tasks k
+
+-- of no closed set a wildcard asks for him
+abbrev pub NoneAsks : TraceState → ℕ → Type 0
+NoneAsks s k = (set : ℕ → Bool) → IsClosedSet s set → (w : Participant) → Contains s.list w → set w.number ≡ true → AsksFor w.condition k → ⊥
+
 -- both lists have the same apart from who has this number; who has it in the second as a task that has not ended lives in the first, or no wildcard asks for him
 pub record IsCarried (s after : TraceState) (k : ℕ) : Type 0 where
   pub back : (v : Participant) → Contains after.list v → (v.number ≡ k → ⊥) → Contains s.list v
   pub onward : (u : Participant) → Contains s.list u → (u.number ≡ k → ⊥) → Contains after.list u
-  pub lives :
-      LivesIn after k →
-      LivesIn s k
-      ⊎ (((w : Participant) → Contains s.list w → w.condition ≡ AnyTask → ⊥)
-      × ((w : Participant) (names : List (List ℕ)) (tasks : List ℕ) → Contains s.list w → w.condition ≡ OneOf names tasks → Contains tasks k → ⊥))
+  pub lives : LivesIn after k → LivesIn s k ⊎ NoneAsks s k
 
 module _ (s after : TraceState) (k : ℕ) (carried : IsCarried s after k) where
   -- a closed set without the number is closed in the other state
   closed_carried : (set : ℕ → Bool) → (set k ≡ true → ⊥) → IsClosedSet s set → IsClosedSet after set
   closed_carried set out closed v within inside =
       let old = carried.back v within (apart v inside) in
-      kept v old v.condition refl (closed v old inside)
+      kept v old inside v.condition refl (closed v old inside)
     where
       apart : (u : Participant) → set u.number ≡ true → u.number ≡ k → ⊥
       apart u inside same = out (ap set (sym same) ∙ inside)
 
       -- who lives in the second list is in the set
       by_number : (u : Participant) → Contains after.list u → is_live_task u.condition ≡ true →
-          ((u.number ≡ k → ⊥) → set u.number ≡ true) → (LivesIn s k → u.number ≡ k → set k ≡ true) →
-          ((((w : Participant) → Contains s.list w → w.condition ≡ AnyTask → ⊥)
-          × ((w : Participant) (names : List (List ℕ)) (tasks : List ℕ) → Contains s.list w → w.condition ≡ OneOf names tasks → Contains tasks k → ⊥)) → u.number ≡ k → ⊥) →
+          ((u.number ≡ k → ⊥) → set u.number ≡ true) → (LivesIn s k → u.number ≡ k → set k ≡ true) → (NoneAsks s k → u.number ≡ k → ⊥) →
           set u.number ≡ true
       by_number u listed live other own none = elim (cases_Bool (u.number == k)) [
         | inr different ↦ other (λ same. let e = eq-eqb u.number k same in absurd (cc))
@@ -99,20 +105,23 @@ module _ (s after : TraceState) (k : ℕ) (carried : IsCarried s after k) where
             ])
       ]
 
-      kept : (w : Participant) → Contains s.list w → (c : Condition) → w.condition ≡ c → IsKeptIn s set c → IsKeptIn after set c
-      kept w old Running is on = on
-      kept w old (Waiting p n) is (u, listed, below, on) = (u, carried.onward u listed (apart u on), below, on)
-      kept w old Ended is on = tt
-      kept w old AnyTask is all = λ u listed live.
+      asked : (w : Participant) → Contains s.list w → set w.number ≡ true → (c : Condition) → w.condition ≡ c → AsksFor c k → NoneAsks s k → ⊥
+      asked w old inside c is asks none = none set closed w old inside (subst (λ x. AsksFor x k) (sym is) asks)
+
+      kept : (w : Participant) → Contains s.list w → set w.number ≡ true → (c : Condition) → w.condition ≡ c → IsKeptIn s set c → IsKeptIn after set c
+      kept w old in_w Running is on = on
+      kept w old in_w (Waiting p n) is (u, listed, below, on) = (u, carried.onward u listed (apart u on), below, on)
+      kept w old in_w Ended is on = tt
+      kept w old in_w AnyTask is all = λ u listed live.
           by_number u listed live
           (λ different. all u (carried.back u listed different) live)
           (λ lived same. ap set (sym lived.2) ∙ all lived.0 lived.1 lived.3)
-          (λ asks same. asks.0 w old is)
-      kept w old (OneOf names tasks) is all = λ u listed live has.
+          (λ none same. asked w old in_w AnyTask is tt none)
+      kept w old in_w (OneOf names tasks) is all = λ u listed live has.
           by_number u listed live
           (λ different. all u (carried.back u listed different) live has)
           (λ lived same. ap set (sym lived.2) ∙ all lived.0 lived.1 lived.3 (subst (Contains tasks) (same ∙ sym lived.2) has))
-          (λ asks same. asks.1 w names tasks old is (subst (Contains tasks) same has))
+          (λ none same. asked w old in_w (OneOf names tasks) is (subst (Contains tasks) same has) none)
 
   pub still_stuck : IsApart s k → (u : Participant) → IsStuck s u → (u.number ≡ k → ⊥) → IsStuck after u
   still_stuck apart u stuck different =

@@ -19,11 +19,6 @@ module _ {A : Type 0} where
           ap (filter p) (kept q x xs on) ∙ left_out p x (filter q xs) off ∙ rest ∙ sym (left_out (λ y. q y && p y) x xs (ap (λ b. b && p x) on ∙ off))
       by_test rest (inr off) other = ap (filter p) (left_out q x xs off) ∙ rest ∙ sym (left_out (λ y. q y && p y) x xs (ap (λ b. b && p x) off))
 
-  -- a test that all pass
-  pub filter_all : (xs : List A) → filter (λ x. true) xs ≡ xs
-  filter_all [] = refl
-  filter_all (x ∷ xs) = ap (λ l. x ∷ l) (filter_all xs)
-
   -- two tests that agree on all of the list
   pub filter_agrees : (p q : A → Bool) (xs : List A) → ((x : A) → Contains xs x → p x ≡ q x) → filter p xs ≡ filter q xs
   filter_agrees p q [] same = refl

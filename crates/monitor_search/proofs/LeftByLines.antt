@@ -1,19 +1,20 @@
 -- Lines by which nobody becomes stuck and nobody is stuck no longer.
-use Rattle.std.proofs.Common.{◌≡◌, ℕ, ◌<◌, Bool, true, false, ◌&&◌, ◌||◌, not, Option, List, [], ◌∷◌, length, map, refl, sym, ◌∙◌, ap, subst, ◌⊎◌, inl, inr, arith, ltb-true}
-use Rattle.std.specs.Prelude.{Contains, filter, is_some, nat_lt}
+use Rattle.std.proofs.Common.{◌≡◌, ◌==◌, ℕ, Bool, true, false, ◌&&◌, ◌||◌, not, Option, List, [], ◌∷◌, length, map, refl, sym, ◌∙◌, ap, subst, ◌⊎◌, inl, inr, arith}
+use Rattle.std.specs.Prelude.{Contains, filter, is_some}
 use Rattle.std.specs.List.{list_any}
-use Rattle.std.proofs.lemmas.Bool.{and_from, and_parts, cases_Bool, or_cases, or_left}
+use Rattle.std.proofs.lemmas.Bool.{and_from, eq-eqb, and_parts, cases_Bool, or_cases, or_left}
 use Rattle.monitor_laws.specs.Lines.{Announcement, Joins, Arrives, Leaves, Waits, Goes, Ends, Stands, Announces, PlaysAny, PlaysOneOf}
 use Rattle.monitor_laws.specs.States.{Condition, Running, Waiting, Ended, AnyTask, OneOf, Participant, TraceState, announced_by, changed_at, is_live_task, is_live_wildcard, is_there_as, new_participant, placed_at, task_numbers}
 use Rattle.monitor_laws.specs.Faults.{NamesTask, TooManyListed, fault_where, faults_of, has_no_room, is_of_tasks, is_task_in, is_wildcard_in}
 use Rattle.monitor_laws.specs.Stuck.{IsClosedSet, IsKeptIn, IsStuck}
 use Rattle.monitor_laws.proofs.Filters.{any_from, any_is}
-use Rattle.monitor_laws.proofs.Lawful.{IsLawfulState, announced_number, lawful_after, placed_condition, placed_number}
+use Rattle.monitor_laws.proofs.Lawful.{IsLawfulState, announced_name, announced_number, lawful_after, placed_condition, placed_name, placed_number}
+use Rattle.monitor_search.proofs.QuietEnds.{quietly_ended}
 use Rattle.monitor_laws.proofs.Rows.{both_tables, has_no_fault, is_task, is_wildcard, no_row, no_task_row, task_or_wildcard}
 use Rattle.monitor_search.specs.Known.{AreStuckTasks, KeepsStuck, has_stuck_number, known_task}
-use Rattle.monitor_search.specs.inside.Leaving.{HasNoPhase, LeavesStuckBy, is_for_any, is_freed, is_nobody, is_surely_out, leaves_stuck}
-use Rattle.monitor_search.proofs.Carried.{IsApart, IsCarried, LivesIn, apart_idle, apart_outside, still_stuck}
-use Rattle.monitor_search.proofs.OneChanged.{WasThere, had_number, new_number, none_after, one_there, others_are, others_were, same_number, same_passed, was_there}
+use Rattle.monitor_search.specs.inside.Leaving.{HasNoPhase, LeavesStuckBy, is_for_any, is_freed, ends_quietly, is_nobody, is_surely_out, leaves_stuck, runs_beside, runs_now}
+use Rattle.monitor_search.proofs.Carried.{AsksFor, IsApart, IsCarried, NoneAsks, apart_idle, apart_outside, still_stuck}
+use Rattle.monitor_search.proofs.OneChanged.{WasThere, had_number, new_number, one_there, others_are, others_were, same_number, same_passed, was_there}
 use Rattle.monitor_search.proofs.SurelyOut.{freed_out, runs_is, surely_out}
 
 -- a condition is of a task or of a wildcard
@@ -132,45 +133,50 @@ module _ (s : TraceState) (lawful : IsLawfulState s) (t : List ℕ) (change : Pa
               lives = λ lived. inl (u, within, refl, live);
             }
 
+        -- a new task has a number that no wildcard has
+        new_is_last : (list_any (is_there_as t) s.list ≡ false) × (old.was ≡ new_participant s.named t) → u.number ≡ s.named
+        new_is_last fresh = new_number s lawful t change number u old fresh.1
+
+        none_asks : u.number ≡ s.named → ((set : ℕ → Bool) → IsClosedSet s set → (w : Participant) → Contains s.list w → set w.number ≡ true → w.condition ≡ AnyTask → ⊥) → NoneAsks s u.number
+        none_asks last none set closed w listed inside asks = by_condition w.condition refl asks
+          where
+            by_condition : (c : Condition) → w.condition ≡ c → AsksFor c u.number → ⊥
+            by_condition Running same asked = asked
+            by_condition (Waiting p n) same asked = asked
+            by_condition Ended same asked = asked
+            by_condition AnyTask same asked = none set closed w listed inside same
+            by_condition (OneOf names tasks) same asked = let n = lawful.tasks w names tasks listed same u.number asked in absurd (omega arith)
+
+        carried_where : ((list_any (is_there_as t) s.list ≡ false) × (old.was ≡ new_participant s.named t) → NoneAsks s u.number) → IsCarried s after u.number
+        carried_where asks =
+            record {
+              back = others_were s lawful t change number u old;
+              onward = others_are s lawful t change number u old;
+              lives = λ lived. elim old.from [
+                | inl listed ↦ inl (old.was, listed, sym (same_number s lawful t change number u old), was_live listed)
+                | inr fresh ↦ inr (asks fresh)
+              ];
+            }
+
         task_onward :
-            ((((is_live_wildcard u.condition ≡ true) ⊎ (is_nobody known ≡ true)) ⊎ (list_any (λ v. is_for_any v.condition) after.list ≡ false)) ⊎ ((v : Participant) × Contains after.list v × (u.number < v.number))) →
+            ((((is_live_wildcard u.condition ≡ true) ⊎ (is_nobody known ≡ true)) ⊎ (list_any (λ v. is_for_any v.condition) after.list ≡ false)) ⊎ ((v : Participant) × Contains after.list v × (runs_beside u.number v ≡ true))) →
             IsCarried s after u.number ⊎ (known ≡ [])
         task_onward (inl (inl (inl wild))) = absurd (wild_not_live u.condition wild live)
         task_onward (inl (inl (inr none))) = inr (nobody_is known none)
         task_onward (inl (inr none)) =
-            inl (record {
-              back = others_were s lawful t change number u old;
-              onward = others_are s lawful t change number u old;
-              lives = λ lived. by_from old.from;
-            })
-          where
-            by_from : (Contains s.list old.was ⊎ ((list_any (is_there_as t) s.list ≡ false) × (old.was ≡ new_participant s.named t))) →
-                LivesIn s u.number
-                ⊎ (((w : Participant) → Contains s.list w → w.condition ≡ AnyTask → ⊥)
-                × ((w : Participant) (names : List (List ℕ)) (tasks : List ℕ) → Contains s.list w → w.condition ≡ OneOf names tasks → Contains tasks u.number → ⊥))
-            by_from (inl listed) = inl (old.was, listed, sym (same_number s lawful t change number u old), was_live listed)
-            by_from (inr fresh) =
-                let last = new_number s lawful t change number u old fresh.1 in
-                inr (
-                  λ w listed any.
-                      let in_after = others_are s lawful t change number u old w listed (λ e. let n = lawful.numbers w listed in absurd (omega arith)) in
-                      let some = any_from (λ v. is_for_any v.condition) after.list w in_after (ap is_for_any any) in
-                      absurd (cc),
-                  λ w names tasks listed one has. let n = lawful.tasks w names tasks listed one u.number has in absurd (omega arith),
-                )
-        task_onward (inr (v, listed, more)) =
-            inl (record {
-              back = others_were s lawful t change number u old;
-              onward = others_are s lawful t change number u old;
-              lives = λ lived. by_from old.from;
-            })
-          where
-            by_from : (Contains s.list old.was ⊎ ((list_any (is_there_as t) s.list ≡ false) × (old.was ≡ new_participant s.named t))) →
-                LivesIn s u.number
-                ⊎ (((w : Participant) → Contains s.list w → w.condition ≡ AnyTask → ⊥)
-                × ((w : Participant) (names : List (List ℕ)) (tasks : List ℕ) → Contains s.list w → w.condition ≡ OneOf names tasks → Contains tasks u.number → ⊥))
-            by_from (inl listed_s) = inl (old.was, listed_s, sym (same_number s lawful t change number u old), was_live listed_s)
-            by_from (inr fresh) = absurd (none_after s lawful t change number u old v listed more (new_number s lawful t change number u old fresh.1))
+            inl (carried_where (λ fresh. none_asks (new_is_last fresh) (λ set closed w listed inside any.
+            let last = new_is_last fresh in
+            let in_after = others_are s lawful t change number u old w listed (λ e. let n = lawful.numbers w listed in absurd (omega arith)) in
+            let some = any_from (λ v. is_for_any v.condition) after.list w in_after (ap is_for_any any) in
+            absurd (cc))))
+        task_onward (inr (v, listed_v, beside)) =
+            inl (carried_where (λ fresh. none_asks (new_is_last fresh) (λ set closed w listed inside any.
+            let parts = and_parts (runs_now v.condition) (not (v.number == u.number)) beside in
+            let runs = runs_is v.condition parts.0 in
+            let differs : v.number ≡ u.number → ⊥ = λ e. let f = ap not (eq-eqb v.number u.number e) in let g = parts.1 in absurd (cc) in
+            let in_s = others_were s lawful t change number u old v listed_v differs in
+            let all : IsKeptIn s set AnyTask = subst (IsKeptIn s set) any (closed w listed inside) in
+            subst (IsKeptIn s set) runs (closed v in_s (all v in_s (ap is_live_task runs))))))
 
       -- of a wildcard that stays what it is
       module _ (wild : is_live_wildcard u.condition ≡ true) (same_condition : old.was.condition ≡ u.condition) where
@@ -309,7 +315,7 @@ module _ (s : TraceState) (lawful : IsLawfulState s) (t : List ℕ) (what : Anno
       new_and_out = not (has_stuck_number known u.number) && is_surely_out later.list u.condition
 
       kinds : Bool
-      kinds = (((is_live_wildcard u.condition || is_nobody known) || not (list_any (λ v. is_for_any v.condition) later.list)) || list_any (λ v. nat_lt u.number v.number) later.list)
+      kinds = (((is_live_wildcard u.condition || is_nobody known) || not (list_any (λ v. is_for_any v.condition) later.list)) || list_any (runs_beside u.number) later.list)
 
       parts : (new_and_out ≡ true) × (kinds ≡ true)
       parts = and_parts new_and_out kinds leaves
@@ -320,13 +326,13 @@ module _ (s : TraceState) (lawful : IsLawfulState s) (t : List ℕ) (what : Anno
       new : has_stuck_number known u.number ≡ false
       new = from_not (has_stuck_number known u.number) first.0
 
-      kind : (((is_live_wildcard u.condition ≡ true) ⊎ (is_nobody known ≡ true)) ⊎ (list_any (λ v. is_for_any v.condition) later.list ≡ false)) ⊎ ((v : Participant) × Contains later.list v × (u.number < v.number))
-      kind = elim (or_cases ((is_live_wildcard u.condition || is_nobody known) || not (list_any (λ v. is_for_any v.condition) later.list)) (list_any (λ v. nat_lt u.number v.number) later.list) parts.1) [
+      kind : (((is_live_wildcard u.condition ≡ true) ⊎ (is_nobody known ≡ true)) ⊎ (list_any (λ v. is_for_any v.condition) later.list ≡ false)) ⊎ ((v : Participant) × Contains later.list v × (runs_beside u.number v ≡ true))
+      kind = elim (or_cases ((is_live_wildcard u.condition || is_nobody known) || not (list_any (λ v. is_for_any v.condition) later.list)) (list_any (runs_beside u.number) later.list) parts.1) [
         | inl a ↦ elim (or_cases (is_live_wildcard u.condition || is_nobody known) (not (list_any (λ v. is_for_any v.condition) later.list)) a) [
           | inl b ↦ inl (inl (or_cases (is_live_wildcard u.condition) (is_nobody known) b))
           | inr none ↦ inl (inr (from_not (list_any (λ v. is_for_any v.condition) later.list) none))
         ]
-        | inr more ↦ (let v = any_is (λ w. nat_lt u.number w.number) later.list more in inr (v.0, v.1, ltb-true u.number v.0.number v.2))
+        | inr more ↦ (let v = any_is (runs_beside u.number) later.list more in inr (v.0, v.1, v.2))
       ]
 
       was : WasThere s lawful t change number u
@@ -384,10 +390,14 @@ module _ (s : TraceState) (lawful : IsLawfulState s) (w : List ℕ) (c : Conditi
 pub announces_keeps : (state : TraceState) (t : List ℕ) (what : Announcement) (place : Option (List ℕ)) (known : List (ℕ × List ℕ)) →
     LeavesStuckBy state.list known t → KeepsStuck state (Announces t what place) known
 unfolding change
-announces_keeps state t what place known (u, within, there, leaves) s lawful same legal is =
+announces_keeps state t what place known (inl (u, within, there, leaves)) s lawful same legal is =
     subst (λ a. AreStuckTasks a known) (sym same)
     (announced_leaves s lawful t what place legal (lawful_after s (Announces t what place) lawful) known is u
     (subst (λ (a : TraceState). Contains a.list u) same within) there (subst (λ (a : TraceState). leaves_stuck a.list known u ≡ true) same leaves))
+announces_keeps state t what place known (inr (nobody, quiet)) s lawful same legal is =
+    subst (λ a. AreStuckTasks a known) (sym same)
+    (quietly_ended s lawful t (λ u. placed_at place (announced_by what u)) (λ u. placed_name place (announced_by what u) ∙ announced_name what u) known
+    (subst (λ (a : TraceState). list_any (is_there_as t) a.list ≡ false) same nobody) (subst (λ (a : TraceState). ends_quietly a.list known t ≡ true) same quiet) is)
 
 pub any_keeps : (state : TraceState) (w : List ℕ) (known : List (ℕ × List ℕ)) → HasNoPhase state.list w → KeepsStuck state (PlaysAny w) known
 unfolding played

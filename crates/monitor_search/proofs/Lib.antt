@@ -1,7 +1,12 @@
 pub mod Carried
 pub mod Filtered
+pub mod Groups
+pub mod KeptByTable
+pub mod LeastPhases
 pub mod LeftByLines
 pub mod OneChanged
 pub mod Parted
+pub mod QuietEnds
 pub mod References
 pub mod SurelyOut
+pub mod TakenOut

@@ -1,5 +1,5 @@
 -- A line of who is there with a name changes nobody else.
-use Rattle.std.proofs.Common.{◌≡◌, ℕ, ◌+◌, ◌<◌, Bool, true, false, List, [], ◌∷◌, ◌++◌, map, refl, sym, ◌∙◌, ap, subst, ◌⊎◌, inl, inr, arith}
+use Rattle.std.proofs.Common.{◌≡◌, ℕ, ◌+◌, Bool, true, false, List, [], ◌∷◌, ◌++◌, map, refl, sym, ◌∙◌, ap, subst, ◌⊎◌, inl, inr, arith}
 use Rattle.std.specs.Prelude.{Contains, filter}
 use Rattle.std.specs.List.{list_any}
 use Rattle.std.proofs.lemmas.Bool.{cases_Bool, cond-true, cond-false}
@@ -84,13 +84,6 @@ module _ (s : TraceState) (lawful : IsLawfulState s) (t : List ℕ) (change : Pa
 
     pub new_number : old.was ≡ new_participant s.named t → u.number ≡ s.named
     new_number new = same_number ∙ ap (λ (y : Participant). y.number) new
-
-    -- nobody has a greater number than the count
-    pub none_after : (v : Participant) → Contains after.list v → u.number < v.number → u.number ≡ s.named → ⊥
-    none_after v within more new =
-        let old_v = others_were v within (λ same. absurd (let m = more in omega arith)) in
-        let n = lawful.numbers v old_v in
-        omega arith
 
   -- who passes a test that nobody new passes and nobody who is there with the name, passes it after the line
   passed_after : (p : Participant → Bool) → ((x : Participant) → p (change x) ≡ p x) → (xs : List Participant) →

@@ -4,7 +4,6 @@ use Rattle.std.specs.Prelude.{Contains, filter}
 use Rattle.std.specs.List.{list_any}
 use Rattle.std.proofs.lemmas.Bool.{and_from, and_parts, cases_Bool, eq-eqb, eqb-true, not_from_false}
 use Rattle.std.proofs.lemmas.List.Elements.{Contains-append_cases, Contains-append_left, Contains-append_right}
-use Rattle.armus_base.proofs.Elements.{nothing_in_nil}
 use Rattle.monitor_laws.specs.States.{Condition, Running, Waiting, Ended, AnyTask, OneOf, Participant, TraceState, is_live_task}
 use Rattle.monitor_laws.specs.Faults.{waits_now}
 use Rattle.monitor_laws.specs.Stuck.{IsClosedSet, IsKeptIn, IsStuck, has_phase_below}
@@ -12,7 +11,7 @@ use Rattle.monitor_laws.proofs.Filters.{any_from, any_is, from_filter, in_filter
 use Rattle.monitor_laws.proofs.Lawful.{IsLawfulState}
 use Rattle.monitor_search.specs.Known.{AreStuckTasks, OneKnown, has_stuck_number, known_task}
 use Rattle.monitor_search.specs.inside.Partings.{AreAllKept, IsParting, is_kept_by, plays_one_of}
-use Rattle.monitor_search.proofs.Filtered.{any_of_map, filter_agrees, filter_all, filter_twice}
+use Rattle.monitor_search.proofs.Filtered.{any_of_map, filter_agrees, filter_twice}
 
 -- no test passes outside a list
 none_passes_in : (test : Participant → Bool) (us : List Participant) → ((u : Participant) → Contains us u → test u ≡ true → ⊥) → not (list_any test us) ≡ true
@@ -40,15 +39,6 @@ waits_for (Waiting p n) on = (p, n, refl)
 waits_for Ended on = absurd (cc)
 waits_for AnyTask on = absurd (cc)
 waits_for (OneOf names tasks) on = absurd (cc)
-
-pub all_parted : (s : TraceState) → IsParting s s.list []
-all_parted s =
-    record {
-      chosen = (λ u. true, sym (filter_all s.list));
-      listed = λ u within. absurd (nothing_in_nil u within);
-      covered = λ u within. inl within;
-      out = λ set closed u within. absurd (nothing_in_nil u within);
-    }
 
 -- of lists that are the same
 pub parting_of_same : (s : TraceState) (inside outside more_inside more_outside : List Participant) → IsParting s inside outside → more_inside ≡ inside → more_outside ≡ outside → IsParting s more_inside more_outside
@@ -202,6 +192,11 @@ module _ (s : TraceState) (inside outside : List Participant) (parting : IsParti
               ∙ filter_agrees (λ v. parting.chosen.0 v && waits_now v.condition) (λ u. has_stuck_number (map known_task waiting) u.number) s.list passes_told);
         }
 
+-- of nobody who is known there is nobody
+pub none_known : (us : List Participant) → filter (λ u. has_stuck_number [] u.number) us ≡ []
+none_known [] = refl
+none_known (u ∷ us) = none_known us
+
 -- where nobody waits nobody is stuck
 pub none_stuck : (s : TraceState) → list_any (λ u. waits_now u.condition) s.list ≡ false → AreStuckTasks s []
 none_stuck s none =
@@ -210,12 +205,8 @@ none_stuck s none =
         λ on. absurd (cc),
         λ told. absurd (let w = ap waits_now told.1.waits.2 in let some = any_from (λ u. waits_now u.condition) s.list told.0 told.1.listed w in cc),
       );
-      ordered = ap (map known_task) (sym (none_of s.list));
+      ordered = ap (map known_task) (sym (none_known s.list));
     }
-  where
-    none_of : (us : List Participant) → filter (λ u. has_stuck_number [] u.number) us ≡ []
-    none_of [] = refl
-    none_of (u ∷ us) = none_of us
 
 -- the stuck tasks of a state are known in one way
 pub one_known : OneKnown

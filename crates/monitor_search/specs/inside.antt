@@ -1,2 +1,4 @@
+pub mod Cascades
+pub mod LeastPhases
 pub mod Leaving
 pub mod Partings

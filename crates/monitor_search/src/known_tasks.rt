@@ -1,5 +1,5 @@
 // The stuck tasks of a state, as they are known.
-ghost use Rattle.std.specs.Prelude.{◌≡◌, ◌++◌, ◌∷◌, [], OnOk};
+ghost use Rattle.std.specs.Prelude.{◌≡◌, ◌++◌, ◌∷◌, [], true, false, OnOk};
 ghost use Rattle.monitor_search.specs.Known.{has_stuck_number, known_task};
 ghost use Rattle.monitor_search.specs.inside.Leaving.{is_nobody};
 
@@ -37,6 +37,30 @@ impl StuckTask {
     {
         &self.name
     }
+}
+
+// Whether two tasks have the same number and name.
+fn is_same_task(one: &StuckTask, other: &StuckTask) -> bool
+    ensures same { result ≡ true → one.now ≡ other.now }
+    ensures apart { result ≡ false → one.now ≡ other.now → ⊥ }
+{
+    one.number() == other.number() && one.name() == other.name()
+}
+
+// Whether two lists have the same tasks in the same order.
+fn are_same(these: &[StuckTask], others: &[StuckTask]) -> bool
+    ensures same { result ≡ true → these.now ≡ others.now }
+    ensures apart { result ≡ false → these.now ≡ others.now → ⊥ }
+{
+    if these.len() != others.len() {
+        return false;
+    }
+    for place in 0..these.len() {
+        if !is_same_task(&these[place], &others[place]) {
+            return false;
+        }
+    }
+    true
 }
 
 /// The stuck tasks of a state, in list order, as they are known.
@@ -87,6 +111,14 @@ impl StuckTasks {
         ensures { result ≡ is_nobody self.now }
     {
         self.tasks.is_empty()
+    }
+
+    /// Whether they are the same as these.
+    pub(crate) fn is_same(&self, others: &StuckTasks) -> bool
+        ensures same { result ≡ true → self.now ≡ others.now }
+        ensures apart { result ≡ false → self.now ≡ others.now → ⊥ }
+    {
+        are_same(self.as_slice(), others.as_slice())
     }
 
     /// Whether a task with this number is one of them.

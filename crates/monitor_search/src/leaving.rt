@@ -1,12 +1,12 @@
 // Lines by which nobody becomes stuck and nobody is stuck no longer.
-ghost use Rattle.std.specs.Prelude.{◌≡◌, true, ◌&&◌, ◌<◌, not, nat_lt, Contains, IfSome};
+ghost use Rattle.std.specs.Prelude.{◌≡◌, true, false, Contains, IfNone, IfSome};
 ghost use Rattle.std.specs.List.{list_any};
 ghost use Rattle.trace_lines.specs.Values.{line_value};
 ghost use Rattle.monitor_laws.specs.States.{is_there_as};
 ghost use Rattle.monitor_laws.specs.Stuck.{has_phase_below};
 ghost use Rattle.monitor_state.specs.Values.{condition_value};
 ghost use Rattle.monitor_search.specs.Known.{KeepsStuck};
-ghost use Rattle.monitor_search.specs.inside.Leaving.{HasNoPhase, LeavesStuckBy, is_for_any, is_freed, is_nobody, is_surely_out, is_unfreed_below, leaves_stuck, runs_as_one_of, runs_now};
+ghost use Rattle.monitor_search.specs.inside.Leaving.{HasNoPhase, LeavesStuckBy, ends_quietly, frees_nobody, has_ended_as, is_for_any, is_for_some, is_freed, is_surely_out, is_unfreed_below, leaves_stuck, runs_as_one_of, runs_beside, runs_now};
 
 use crate::StuckTasks;
 use crate::parting::{has_phase_below, is_among};
@@ -27,8 +27,8 @@ fn is_for_any(condition: &ListedCondition) -> bool
     matches!(condition, ListedCondition::AnyTask)
 }
 
-// Whether a task of the list runs.
-fn somebody_runs(list: &[ListedParticipant]) -> bool
+/// Whether a task of the list runs.
+pub(crate) fn somebody_runs(list: &[ListedParticipant]) -> bool
     ensures { result ≡ list_any (λ u. runs_now u.condition) list.now }
 {
     list.iter().any(|u| runs_now(u.condition()))
@@ -59,6 +59,13 @@ fn is_freed(list: &[ListedParticipant], condition: &ListedCondition) -> bool
         ListedCondition::AnyTask => somebody_runs(list),
         ListedCondition::OneOf(_, tasks) => somebody_runs_of(list, tasks),
     }
+}
+
+// Whether u has ended with the name t.
+fn has_ended_as(u: &ListedParticipant, t: &[u8]) -> bool
+    ensures { result ≡ has_ended_as t.now u.now }
+{
+    matches!(u.condition(), ListedCondition::Ended) && t == u.name()
 }
 
 // Whether u is a member of phaser p with a phase below n, and not freed.
@@ -95,30 +102,64 @@ fn some_for_any(list: &[ListedParticipant]) -> bool
     list.iter().any(|u| is_for_any(u.condition()))
 }
 
-// Whether somebody of the list was named after so many.
-fn some_named_after(list: &[ListedParticipant], number: u64) -> bool
-    ensures { result ≡ list_any (λ v. nat_lt number v.number) list.now }
+// Whether only some tasks may play a wildcard of the list.
+fn some_for_some(list: &[ListedParticipant]) -> bool
+    ensures { result ≡ list_any (λ u. is_for_some u.condition) list.now }
 {
-    list.iter().any(|v| number < v.number())
+    list.iter()
+        .any(|u| matches!(u.condition(), ListedCondition::OneOf(_, _)))
 }
 
-// Whether u was not stuck and cannot be, and is no new task among stuck tasks and wildcards that any task may play.
+// Whether a task of the list that has another number runs.
+fn somebody_runs_beside(list: &[ListedParticipant], number: u64) -> bool
+    ensures { result ≡ list_any (runs_beside number) list.now }
+{
+    list.iter()
+        .any(|u| runs_now(u.condition()) && u.number() != number)
+}
+
+// Whether u is no new task among stuck tasks and wildcards that only now somebody who runs may play.
+fn frees_nobody(list: &[ListedParticipant], was: &StuckTasks, u: &ListedParticipant) -> bool
+    ensures { result ≡ frees_nobody list.now was.now u.now }
+{
+    u.condition().is_live_wildcard()
+        || was.is_empty()
+        || !some_for_any(list)
+        || somebody_runs_beside(list, u.number())
+}
+
+// Whether so it is, and u was not stuck and cannot be.
 fn leaves_stuck(list: &[ListedParticipant], was: &StuckTasks, u: &ListedParticipant) -> bool
     ensures { result ≡ leaves_stuck list.now was.now u.now }
 {
     if was.has_number(u.number()) || !is_surely_out(list, u.condition()) {
         return false;
     }
-    u.condition().is_live_wildcard()
-        || was.is_empty()
-        || !some_for_any(list)
-        || some_named_after(list, u.number())
+    frees_nobody(list, was, u)
+}
+
+// Whether somebody of the list has ended with the name t.
+fn some_ended_as(list: &[ListedParticipant], t: &[u8]) -> bool
+    ensures { result ≡ list_any (has_ended_as t.now) list.now }
+{
+    list.iter().any(|u| has_ended_as(u, t))
+}
+
+// Whether nobody was stuck, nobody has ended with the name t, and each wildcard is one that somebody who runs may play.
+fn ends_quietly(list: &[ListedParticipant], was: &StuckTasks, t: &[u8]) -> bool
+    ensures { result ≡ ends_quietly list.now was.now t.now }
+{
+    if !was.is_empty() || some_ended_as(list, t) || some_for_some(list) {
+        return false;
+    }
+    somebody_runs(list) || !some_for_any(list)
 }
 
 // Who is there with the name t.
 fn found<'a>(list: &'a [ListedParticipant], t: &[u8]) -> Option<&'a ListedParticipant>
     ensures listed { IfSome result (λ u. Contains list.now u.now) }
     ensures there { IfSome result (λ u. is_there_as t.now u.now ≡ true) }
+    ensures none { IfNone result (list_any (is_there_as t.now) list.now ≡ false) }
 {
     for u in list {
         if u.is_there_as(t) {
@@ -128,12 +169,12 @@ fn found<'a>(list: &'a [ListedParticipant], t: &[u8]) -> Option<&'a ListedPartic
     None
 }
 
-// Whether after this line surely the same are stuck as before it: one of who is there with the name t now.
+// Whether after a line of t surely the same are stuck as before it.
 fn leaves_stuck_by(list: &[ListedParticipant], was: &StuckTasks, t: &[u8]) -> bool
     ensures { result ≡ true → LeavesStuckBy list.now was.now t.now }
 {
     match found(list, t) {
-        None => false,
+        None => ends_quietly(list, was, t),
         Some(u) => leaves_stuck(list, was, u),
     }
 }

@@ -3,10 +3,14 @@
 //! The tests of the monitor stand in the gallery.
 #![tactic(auto)]
 
+mod cascade;
+mod grouping;
 mod known_tasks;
 mod laws;
 mod leaving;
+mod noting;
 mod parting;
+mod phases;
 mod stuck;
 
 pub use known_tasks::{StuckTask, StuckTasks};

@@ -1,5 +1,6 @@
 // The list, parted into those who may still stand in a closed set and those who stand in none.
-ghost use Rattle.std.specs.Prelude.{◌≡◌, ◌==◌, ◌++◌, [], IfOk, filter, map, not};
+ghost use Rattle.std.specs.Prelude.{◌≡◌, ◌==◌, ◌++◌, nat_eq, IfOk, filter, map, not};
+ghost use Rattle.std.specs.HashSet.{contains};
 ghost use Rattle.std.specs.List.{list_any};
 ghost use Rattle.monitor_laws.specs.Faults.{waits_now};
 ghost use Rattle.monitor_laws.specs.States.{is_live_task};
@@ -9,9 +10,12 @@ ghost use Rattle.monitor_search.specs.Known.{known_task};
 ghost use Rattle.monitor_search.specs.inside.Partings.{AreAllKept, IsParting, is_kept_by, plays_one_of, referred};
 
 use crate::StuckTasks;
+use crate::cascade::numbers_out;
+use crate::phases::keepers_of;
 use armus_base::NoMemory;
-use monitor_state::{ListedCondition, ListedParticipant, MonitorState};
+use monitor_state::{ListedParticipant, MonitorState};
 use std::alloc::Global;
+use std::collections::HashSet;
 
 /// Those who may still stand in a closed set, in list order, and those who stand in none.
 #[derive(Drop)]
@@ -37,49 +41,11 @@ pub(crate) fn is_among(tasks: &[u64], number: u64) -> bool
     tasks.iter().any(|k| *k == number)
 }
 
-// Whether u is a task that has not ended and has one of these numbers.
-fn plays_one_of(u: &ListedParticipant, tasks: &[u64]) -> bool
-    ensures { result ≡ plays_one_of tasks.now u.now }
-{
-    u.condition().is_live_task() && is_among(tasks, u.number())
-}
-
-// Whether one of these is a member of phaser p with a phase below n.
-fn some_below(these: &[&ListedParticipant], p: &[u8], n: u32) -> bool
-    ensures { result ≡ list_any (λ u. has_phase_below u.now p.now n) these.now }
-{
-    these.iter().any(|u| has_phase_below(u, p, n))
-}
-
-// Whether one of these is a task that has not ended.
-fn some_live(these: &[&ListedParticipant]) -> bool
+/// Whether one of these is a task that has not ended.
+pub(crate) fn some_live(these: &[&ListedParticipant]) -> bool
     ensures { result ≡ list_any (λ u. is_live_task u.now.condition) these.now }
 {
     these.iter().any(|u| u.condition().is_live_task())
-}
-
-// Whether one of these is a task that has not ended and has one of these numbers.
-fn some_player(these: &[&ListedParticipant], tasks: &[u64]) -> bool
-    ensures { result ≡ list_any (λ u. plays_one_of tasks.now u.now) these.now }
-{
-    these.iter().any(|u| plays_one_of(u, tasks))
-}
-
-// Whether those inside keep whoever is in this condition, where the others stand outside.
-fn is_kept_by(
-    inside: &[&ListedParticipant],
-    outside: &[&ListedParticipant],
-    condition: &ListedCondition,
-) -> bool
-    ensures { result ≡ is_kept_by (referred inside.now) (referred outside.now) (condition_value condition.now) }
-{
-    match condition {
-        ListedCondition::Running => false,
-        ListedCondition::Waiting(p, n) => some_below(inside, p, *n),
-        ListedCondition::Ended => true,
-        ListedCondition::AnyTask => !some_live(outside),
-        ListedCondition::OneOf(_, tasks) => !some_player(outside, tasks),
-    }
 }
 
 // Parts those inside anew: whoever is kept by them stays.
@@ -87,10 +53,11 @@ fn part_anew<'a>(alloc: Global, parting: &Parting<'a>) -> Result<Parting<'a>, No
     ensures inside { IfOk result (λ next. referred next.inside.items ≡ filter (λ u. is_kept_by (referred parting.now.inside.items) (referred parting.now.outside.items) u.condition) (referred parting.now.inside.items)) }
     ensures outside { IfOk result (λ next. referred next.outside.items ≡ referred parting.now.outside.items ++ filter (λ u. not (is_kept_by (referred parting.now.inside.items) (referred parting.now.outside.items) u.condition)) (referred parting.now.inside.items)) }
 {
+    let keepers = keepers_of(alloc, parting)?;
     let mut inside = Vec::new(alloc);
     let mut outside = Vec::from_slice(alloc, &parting.outside)?;
     for u in &parting.inside {
-        if is_kept_by(&parting.inside, &parting.outside, u.condition()) {
+        if keepers.keep(u.condition()) {
             inside.push(*u)?;
         } else {
             outside.push(*u)?;
@@ -99,16 +66,48 @@ fn part_anew<'a>(alloc: Global, parting: &Parting<'a>) -> Result<Parting<'a>, No
     Ok(Parting { inside, outside })
 }
 
-// All of a list stand inside.
-fn all_inside(alloc: Global, list: &[ListedParticipant]) -> Result<Parting<'_>, NoMemory>
-    ensures inside { IfOk result (λ parting. referred parting.inside.items ≡ list.now) }
-    ensures outside { IfOk result (λ parting. referred parting.outside.items ≡ []) }
+// Those of the list whose numbers are not among these.
+fn those_not_among<'a>(
+    alloc: Global,
+    list: &'a [ListedParticipant],
+    numbers: &HashSet<u64>,
+) -> Result<Vec<&'a ListedParticipant>, NoMemory>
+    ensures { IfOk result (λ those. referred those.items ≡ filter (λ u. not (contains nat_eq numbers.now u.number)) list.now) }
 {
-    let mut inside = Vec::new(alloc);
+    let mut those = Vec::new(alloc);
     for u in list {
-        inside.push(u)?;
+        if !numbers.contains(&u.number()) {
+            those.push(u)?;
+        }
     }
-    let outside = Vec::new(alloc);
+    Ok(those)
+}
+
+// Those of the list whose numbers are among these.
+fn those_among<'a>(
+    alloc: Global,
+    list: &'a [ListedParticipant],
+    numbers: &HashSet<u64>,
+) -> Result<Vec<&'a ListedParticipant>, NoMemory>
+    ensures { IfOk result (λ those. referred those.items ≡ filter (λ u. contains nat_eq numbers.now u.number) list.now) }
+{
+    let mut those = Vec::new(alloc);
+    for u in list {
+        if numbers.contains(&u.number()) {
+            those.push(u)?;
+        }
+    }
+    Ok(those)
+}
+
+// The list of a state, parted by whom it is seen at once that they stand in no closed set.
+fn first_parting(alloc: Global, state: &MonitorState) -> Result<Parting<'_>, NoMemory>
+    ensures { IfOk result (λ parting. IsParting state.now (referred parting.inside.items) (referred parting.outside.items)) }
+{
+    let numbers = numbers_out(alloc, state)?;
+    let list = state.participants();
+    let inside = those_not_among(alloc, list, &numbers)?;
+    let outside = those_among(alloc, list, &numbers)?;
     Ok(Parting { inside, outside })
 }
 
@@ -117,7 +116,7 @@ pub(crate) fn closed_parting(alloc: Global, state: &MonitorState) -> Result<Part
     ensures parting { IfOk result (λ parting. IsParting state.now (referred parting.inside.items) (referred parting.outside.items)) }
     ensures closed { IfOk result (λ parting. AreAllKept (referred parting.inside.items) (referred parting.outside.items)) }
 {
-    let mut parting = all_inside(alloc, state.participants())?;
+    let mut parting = first_parting(alloc, state)?;
     loop {
         let next = part_anew(alloc, &parting)?;
         if next.inside.len() == parting.inside.len() {

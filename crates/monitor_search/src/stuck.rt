@@ -41,12 +41,13 @@ pub fn stuck_after(
 ) -> Result<Option<StuckTasks>, NoMemory>
     ensures same { IfOk result (λ found. IfNone found (KeepsStuck state.now (line_value line.now) was.now)) }
     ensures found { IfOk result (λ found. IfSome found (λ known. AreStuckTasks state.now known)) }
+    ensures differs { IfOk result (λ found. IfSome found (λ known. known ≡ was.now → ⊥)) }
 {
     if keeps_stuck(state, line, was) {
         return Ok(None);
     }
     let known = stuck_tasks(alloc, state)?;
-    if known.is_empty() && was.is_empty() {
+    if known.is_same(was) {
         return Ok(None);
     }
     Ok(Some(known))

@@ -1,8 +1,9 @@
 -- Lines by which nobody becomes stuck and nobody is stuck no longer.
-use Rattle.std.specs.Prelude.{◌≡◌, ℕ, Bool, true, false, not, ◌&&◌, ◌||◌, ◌==◌, List, [], ◌∷◌, Contains, length, nat_lt}
+use Rattle.std.specs.Prelude.{◌≡◌, ℕ, Bool, true, false, not, ◌&&◌, ◌||◌, ◌==◌, List, [], ◌∷◌, ◌⊎◌, Contains, bytes_eq, length}
 use Rattle.std.specs.List.{list_any}
 use Rattle.monitor_laws.specs.States.{Condition, Running, Waiting, Ended, AnyTask, OneOf, Participant, is_live_wildcard, is_there_as}
 use Rattle.monitor_laws.specs.Stuck.{has_phase_below}
+use Rattle.monitor_words.specs.Reasons.{has_ended}
 use Rattle.monitor_search.specs.Known.{has_stuck_number}
 
 -- a task runs in this condition
@@ -50,15 +51,42 @@ abbrev pub is_nobody : List (ℕ × List ℕ) → Bool
 is_nobody [] = true
 is_nobody (t ∷ known) = false
 
--- u was not stuck and cannot be, and is no new task among stuck tasks and wildcards that any task may play
-abbrev pub leaves_stuck : List Participant → List (ℕ × List ℕ) → Participant → Bool
-leaves_stuck list known u =
-    (not (has_stuck_number known u.number) && is_surely_out list u.condition)
-    && (((is_live_wildcard u.condition || is_nobody known) || not (list_any (λ v. is_for_any v.condition) list)) || list_any (λ v. nat_lt u.number v.number) list)
+-- somebody else runs
+abbrev pub runs_beside : ℕ → Participant → Bool
+runs_beside number u = runs_now u.condition && not (u.number == number)
 
--- so does a line of who is there with the name t after it
+-- u is no new task among stuck tasks and wildcards that only now somebody who runs may play
+abbrev pub frees_nobody : List Participant → List (ℕ × List ℕ) → Participant → Bool
+frees_nobody list known u =
+    ((is_live_wildcard u.condition || is_nobody known) || not (list_any (λ v. is_for_any v.condition) list)) || list_any (runs_beside u.number) list
+
+-- and u was not stuck and cannot be
+abbrev pub leaves_stuck : List Participant → List (ℕ × List ℕ) → Participant → Bool
+leaves_stuck list known u = (not (has_stuck_number known u.number) && is_surely_out list u.condition) && frees_nobody list known u
+
+-- one of these tasks may play a wildcard in this condition
+abbrev pub is_for_some : Condition → Bool
+is_for_some Running = false
+is_for_some (Waiting p n) = false
+is_for_some Ended = false
+is_for_some AnyTask = false
+is_for_some (OneOf names tasks) = true
+
+-- has ended with the name t
+abbrev pub has_ended_as : List ℕ → Participant → Bool
+has_ended_as t u = has_ended u.condition && bytes_eq t u.name
+
+-- nobody is known; nobody is there with the name t or has ended with it; and each wildcard is one that somebody who runs may play
+abbrev pub ends_quietly : List Participant → List (ℕ × List ℕ) → List ℕ → Bool
+ends_quietly list known t =
+    ((is_nobody known && not (list_any (has_ended_as t) list)) && not (list_any (λ v. is_for_some v.condition) list))
+    && (list_any (λ u. runs_now u.condition) list || not (list_any (λ v. is_for_any v.condition) list))
+
+-- so it is of who is there with the name t after a line, or nobody is there
 abbrev pub LeavesStuckBy : List Participant → List (ℕ × List ℕ) → List ℕ → Type 0
-LeavesStuckBy list known t = (u : Participant) × Contains list u × (is_there_as t u ≡ true) × (leaves_stuck list known u ≡ true)
+LeavesStuckBy list known t =
+    ((u : Participant) × Contains list u × (is_there_as t u ≡ true) × (leaves_stuck list known u ≡ true))
+    ⊎ ((list_any (is_there_as t) list ≡ false) × (ends_quietly list known t ≡ true))
 
 -- who is there with the name w is a member of nothing
 abbrev pub HasNoPhase : List Participant → List ℕ → Type 0

@@ -1,15 +1,10 @@
-use Rattle.std.proofs.Common.{Bool, length, ◌∙◌, ap, [], arith}
+use Rattle.std.proofs.Common.{Bool, length, ap, arith}
 use Rattle.monitor_laws.specs.States.{Participant}
 use Rattle.monitor_search.specs.inside.Partings.{is_kept_by, referred}
 use Rattle.monitor_search.proofs.Filtered.{filter_shorter, filter_whole}
-use Rattle.monitor_search.proofs.Parted.{all_parted, next_parting, parting_of_same}
+use Rattle.monitor_search.proofs.Parted.{next_parting, parting_of_same}
 use Rattle.monitor_search.proofs.References.{length-referred}
 use Rattle.monitor_search.proofs.parting.closed_parting.Goals as goal
-
-pub loop-parting-init : goal.loop-parting-init
-loop-parting-init c =
-    let s = c.args.state.now in
-    parting_of_same s s.list [] _ _ (all_parted s) (c.in_ok-parting.ensures.inside ∙ c.participants.ensures.list) c.in_ok-parting.ensures.outside
 
 pub loop-parting-preserved : goal.loop-parting-preserved
 loop-parting-preserved c =
