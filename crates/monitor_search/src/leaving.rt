@@ -118,7 +118,7 @@ fn somebody_runs_beside(list: &[ListedParticipant], number: u64) -> bool
         .any(|u| runs_now(u.condition()) && u.number() != number)
 }
 
-// Whether u is no new task among stuck tasks and wildcards that only now somebody who runs may play.
+// Whether u frees nobody: it is no new task among stuck tasks and wildcards that nobody else who runs may play.
 fn frees_nobody(list: &[ListedParticipant], was: &StuckTasks, u: &ListedParticipant) -> bool
     ensures { result ≡ frees_nobody list.now was.now u.now }
 {
@@ -128,7 +128,7 @@ fn frees_nobody(list: &[ListedParticipant], was: &StuckTasks, u: &ListedParticip
         || somebody_runs_beside(list, u.number())
 }
 
-// Whether so it is, and u was not stuck and cannot be.
+// Whether u was not stuck, cannot be now, and frees nobody.
 fn leaves_stuck(list: &[ListedParticipant], was: &StuckTasks, u: &ListedParticipant) -> bool
     ensures { result ≡ leaves_stuck list.now was.now u.now }
 {

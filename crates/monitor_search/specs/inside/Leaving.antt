@@ -55,12 +55,12 @@ is_nobody (t ∷ known) = false
 abbrev pub runs_beside : ℕ → Participant → Bool
 runs_beside number u = runs_now u.condition && not (u.number == number)
 
--- u is no new task among stuck tasks and wildcards that only now somebody who runs may play
+-- u frees nobody: it is no new task among stuck tasks and wildcards that nobody else who runs may play
 abbrev pub frees_nobody : List Participant → List (ℕ × List ℕ) → Participant → Bool
 frees_nobody list known u =
     ((is_live_wildcard u.condition || is_nobody known) || not (list_any (λ v. is_for_any v.condition) list)) || list_any (runs_beside u.number) list
 
--- and u was not stuck and cannot be
+-- u was not stuck, cannot be now, and frees nobody
 abbrev pub leaves_stuck : List Participant → List (ℕ × List ℕ) → Participant → Bool
 leaves_stuck list known u = (not (has_stuck_number known u.number) && is_surely_out list u.condition) && frees_nobody list known u
 
@@ -82,7 +82,7 @@ ends_quietly list known t =
     ((is_nobody known && not (list_any (has_ended_as t) list)) && not (list_any (λ v. is_for_some v.condition) list))
     && (list_any (λ u. runs_now u.condition) list || not (list_any (λ v. is_for_any v.condition) list))
 
--- so it is of who is there with the name t after a line, or nobody is there
+-- who is there with the name t after its line leaves all as they were; or nobody is there, and t has ended quietly
 abbrev pub LeavesStuckBy : List Participant → List (ℕ × List ℕ) → List ℕ → Type 0
 LeavesStuckBy list known t =
     ((u : Participant) × Contains list u × (is_there_as t u ≡ true) × (leaves_stuck list known u ≡ true))
