@@ -1,13 +1,15 @@
 -- Lists of what was read and written, one in front of another.
-use Rattle.std.proofs.Common.{◌≡◌, ℕ, None, Some, Option, List, [], ◌∷◌, ◌++◌, refl, sym, ◌∙◌, ap, append-nil, append_assoc}
+use Rattle.std.proofs.Common.{◌≡◌, ℕ, None, Some, Option, List, [], ◌∷◌, ◌++◌, refl, sym, ◌∙◌, ap, subst, append-nil, append_assoc}
+use Rattle.std.specs.Io.KnownBytes.{Appends, Consumes}
 use Rattle.std.specs.Option.{option_map}
-use Rattle.monitor.specs.Transfers.{AreWrites, LogGrows, Transfer, WereRead, WereWritten, bytes_read, bytes_written}
+use Rattle.std.proofs.KnownBytes.{Appends-trans, Consumes-trans}
+use Rattle.monitor.specs.Transfers.{AreWrites, LogGrows, Passes, PortView, Transfer, WereRead, WereWritten, bytes_read, bytes_written}
 
-pub grows_none : (o : Option (List Transfer)) → LogGrows o o []
+grows_none : (o : Option (List Transfer)) → LogGrows o o []
 grows_none None = refl
 grows_none (Some log) = refl
 
-pub grows_more : (a b c : Option (List Transfer)) (more later : List Transfer) → LogGrows a b more → LogGrows b c later → LogGrows a c (later ++ more)
+grows_more : (a b c : Option (List Transfer)) (more later : List Transfer) → LogGrows a b more → LogGrows b c later → LogGrows a c (later ++ more)
 grows_more None b c more later one other = other ∙ go b one
   where
     go : (b : Option (List Transfer)) → b ≡ None → option_map (λ log. later ++ log) b ≡ None
@@ -37,3 +39,23 @@ pub reads_nothing : (log : List Transfer) → AreWrites log → bytes_read log �
 reads_nothing [] are = refl
 reads_nothing (WereRead bytes ∷ log) are = absurd are
 reads_nothing (WereWritten bytes ∷ log) are = reads_nothing log are
+
+consumes_nothing : (o : Option (List ℕ)) → Consumes o o []
+consumes_nothing None = tt
+consumes_nothing (Some xs) = refl
+
+appends_nothing : (o : Option (List ℕ)) → Appends o o []
+appends_nothing None = tt
+appends_nothing (Some xs) = sym (append-nil xs)
+
+-- through a port nothing passed
+pub passes_nothing : (v : PortView) → Passes v v []
+passes_nothing v = record { log = grows_none v.log; left = consumes_nothing v.left; taken = appends_nothing v.taken }
+
+-- and one thing behind another
+pub passes_more : (a b c : PortView) (more later : List Transfer) → Passes a b more → Passes b c later → Passes a c (later ++ more)
+passes_more a b c more later one other = record {
+  log = grows_more a.log b.log c.log more later one.log other.log;
+  left = subst (Consumes a.left c.left) (sym (read_more later more)) (Consumes-trans a.left b.left c.left (bytes_read more) (bytes_read later) one.left other.left);
+  taken = subst (Appends a.taken c.taken) (sym (written_more later more)) (Appends-trans a.taken b.taken c.taken (bytes_written more) (bytes_written later) one.taken other.taken);
+}

@@ -1,5 +1,6 @@
 -- What passes between the monitor and the outside: one list of what was read and what was written, the last first.
 use Rattle.std.specs.Prelude.{◌≡◌, ℕ, Option, List, [], ◌∷◌, ◌++◌, take, Result, MatchResult}
+use Rattle.std.specs.Io.KnownBytes.{Appends, Consumes}
 use Rattle.std.specs.Option.{option_map}
 
 -- bytes that were read, none at the end of the trace, or bytes that were written
@@ -25,18 +26,37 @@ AreWrites [] = Unit {0}
 AreWrites (WereRead bytes ∷ log) = ⊥
 AreWrites (WereWritten bytes ∷ log) = AreWrites log
 
--- the end of the trace was read, and then nothing more
+-- no end of the trace was read
+abbrev pub HasNoEnd : List Transfer → Type 0
+HasNoEnd [] = Unit {0}
+HasNoEnd (WereRead [] ∷ log) = ⊥
+HasNoEnd (WereRead (b ∷ bytes) ∷ log) = HasNoEnd log
+HasNoEnd (WereWritten bytes ∷ log) = HasNoEnd log
+
+-- the end of the trace was read, once, and then nothing more
 abbrev pub IsReadToEnd : List Transfer → Type 0
 IsReadToEnd log = (later : List Transfer) × (before : List Transfer) × AreWrites later × (log ≡ later ++ WereRead [] ∷ before)
 
--- where the list is told, this stands in front of it now
+-- what a port tells of itself, where it does: the list of what was read and written, the bytes that are left to be read, and those that were taken
+pub record PortView : Type 0 where
+  pub log : Option (List Transfer)
+  pub left : Option (List ℕ)
+  pub taken : Option (List ℕ)
+
+-- where a list is told, this stands in front of it now
 abbrev pub LogGrows : Option (List Transfer) → Option (List Transfer) → List Transfer → Type 0
 LogGrows old new more = new ≡ option_map (λ log. more ++ log) old
 
--- a read puts the bytes that it gave in front, and one that fails nothing
-abbrev pub LogsRead : {E : Type 0} → Option (List Transfer) → Option (List Transfer) → Result ℕ E → List ℕ → Type 0
-LogsRead old new result buffer = MatchResult result (λ n. LogGrows old new (WereRead (take n buffer) ∷ [])) (λ e. LogGrows old new [])
+-- this passed through the port
+pub record Passes (old new : PortView) (more : List Transfer) : Type 0 where
+  pub log : LogGrows old.log new.log more
+  pub left : Consumes old.left new.left (bytes_read more)
+  pub taken : Appends old.taken new.taken (bytes_written more)
 
--- a write puts the bytes that it took in front, and one that fails nothing
-abbrev pub LogsWrite : {E : Type 0} → Option (List Transfer) → Option (List Transfer) → Result ℕ E → List ℕ → Type 0
-LogsWrite old new result piece = MatchResult result (λ n. LogGrows old new (WereWritten (take n piece) ∷ [])) (λ e. LogGrows old new [])
+-- by a read the bytes passed that it gave, and nothing where it failed
+abbrev pub PassesRead : {E : Type 0} → PortView → PortView → Result ℕ E → List ℕ → Type 0
+PassesRead old new result buffer = MatchResult result (λ n. Passes old new (WereRead (take n buffer) ∷ [])) (λ e. Passes old new [])
+
+-- by a write the bytes passed that it took, and nothing where it failed
+abbrev pub PassesWrite : {E : Type 0} → PortView → PortView → Result ℕ E → List ℕ → Type 0
+PassesWrite old new result piece = MatchResult result (λ n. Passes old new (WereWritten (take n piece) ∷ [])) (λ e. Passes old new [])

@@ -1,16 +1,16 @@
 // The end of a trace.
-ghost use Rattle.std.specs.Prelude.{◌≡◌, ◌≢◌, ◌<◌, ◌++◌, [], List, ℕ, IfOk};
+ghost use Rattle.std.specs.Prelude.{◌≡◌, ◌≢◌, ◌<◌, [], List};
 ghost use Rattle.monitor_messages.specs.Runs.{ended_status};
-ghost use Rattle.monitor.specs.Transfers.{AreWrites, LogGrows, Transfer, bytes_written};
+ghost use Rattle.monitor.specs.Transfers.{AreWrites, Passes, Transfer, bytes_written};
 ghost use Rattle.monitor.specs.MonitorCalls.{HasFaultAt};
 ghost use Rattle.monitor.specs.calls.StatusNumbers.{number_of_monitor_status};
-ghost use Rattle.monitor.specs.inside.Ending.{EndsTrace, EndsWithWords};
+ghost use Rattle.monitor.specs.inside.Ending.{EndsReport, EndsTrace};
 
 use crate::Port;
 use crate::listener::Listener;
 use crate::monitor_status::MonitorStatus;
-use crate::writing::write_all;
-use armus_base::NoMemory;
+use crate::writing::{write_all, write_called};
+use armus_base::{NoMemory, WriteFault};
 use monitor_messages::Monitor;
 use std::alloc::Global;
 
@@ -28,25 +28,28 @@ fn ended_status(monitor: &Monitor) -> MonitorStatus
     MonitorStatus::NobodyWaits
 }
 
-/// Appends what the end of the trace calls for: the message of a last line that no LF ends, and the report, where no line at fault has ended it all.
-fn put_last_words(
+// Writes the report of the state, and answers the status.
+fn end_with_report<P: Port>(
     alloc: Global,
-    listener: &mut Listener,
+    port: &mut P,
+    monitor: &Monitor,
     out: &mut Vec<u8>,
-) -> Result<MonitorStatus, NoMemory>
-    ensures words { IfOk result (λ status. (words : List ℕ) × (out.new.items ≡ out.old.items ++ words) × EndsWithWords listener.old words (number_of_monitor_status status)) }
-    ensures sound { IfOk result (λ status. number_of_monitor_status status < 4) }
+) -> MonitorStatus
+    requires out { out.old.items ≡ [] }
+    ensures ends { (log : List Transfer) × Passes (P.view port.old) (P.view port.new) log × AreWrites log × EndsReport monitor.now (bytes_written log) (number_of_monitor_status result) }
+    ensures reading { (P.read_faults port.new ≡ P.read_faults port.old) × (number_of_monitor_status result ≢ 4) }
+    ensures writing { HasFaultAt 5 (P.write_faults port.old) (P.write_faults port.new) (number_of_monitor_status result) }
 {
-    listener.hear_end(alloc, out)?;
-    let monitor = listener.monitor();
-    if monitor.is_stopped() {
-        return Ok(MonitorStatus::LineAtFault);
+    if monitor.put_report(alloc, out).is_err() {
+        return MonitorStatus::OutOfMemory;
     }
-    monitor.put_report(alloc, out)?;
-    Ok(ended_status(monitor))
+    match write_all(port, out) {
+        Ok(()) => ended_status(monitor),
+        Err(_) => MonitorStatus::WriteFailed,
+    }
 }
 
-/// Writes what the end of the trace calls for, and answers the status.
+/// Writes what the end of the trace calls for: the message of a last line that no LF ends, and the report, where no line at fault has stopped the monitor.
 pub(crate) fn end_trace<P: Port>(
     alloc: Global,
     port: &mut P,
@@ -54,15 +57,18 @@ pub(crate) fn end_trace<P: Port>(
     out: &mut Vec<u8>,
 ) -> MonitorStatus
     requires out { out.old.items ≡ [] }
-    ensures ends { (log : List Transfer) × LogGrows (P.log port.old) (P.log port.new) log × AreWrites log × EndsTrace listener.old (bytes_written log) (number_of_monitor_status result) }
+    ensures ends { (log : List Transfer) × Passes (P.view port.old) (P.view port.new) log × AreWrites log × EndsTrace listener.old (bytes_written log) (number_of_monitor_status result) }
     ensures reading { (P.read_faults port.new ≡ P.read_faults port.old) × (number_of_monitor_status result ≢ 4) }
     ensures writing { HasFaultAt 5 (P.write_faults port.old) (P.write_faults port.new) (number_of_monitor_status result) }
 {
-    match put_last_words(alloc, listener, out) {
-        Err(NoMemory) => MonitorStatus::OutOfMemory,
-        Ok(status) => match write_all(port, out) {
-            Ok(()) => status,
-            Err(_) => MonitorStatus::WriteFailed,
-        },
+    if let Err(NoMemory) = listener.hear_end(alloc, out) {
+        return MonitorStatus::OutOfMemory;
     }
+    if let Err(WriteFault) = write_called(port, out) {
+        return MonitorStatus::WriteFailed;
+    }
+    if listener.monitor().is_stopped() {
+        return MonitorStatus::LineAtFault;
+    }
+    end_with_report(alloc, port, listener.monitor(), out)
 }

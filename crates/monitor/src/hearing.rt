@@ -1,12 +1,12 @@
 // Hearing what was read, and writing what it calls for.
 ghost use Rattle.std.specs.Prelude.{◌≡◌, ◌∷◌, ◌++◌, [], List, ℕ, IfErr, OnOk};
-ghost use Rattle.monitor.specs.Transfers.{AreWrites, LogGrows, Transfer, bytes_written};
+ghost use Rattle.monitor.specs.Transfers.{AreWrites, Passes, Transfer, bytes_written};
 ghost use Rattle.monitor.specs.inside.Listening.{HasHearCause, HearsBytes, StopsHearing};
 
 use crate::Port;
 use crate::listener::Listener;
-use crate::writing::write_all;
-use armus_base::NoMemory;
+use crate::writing::write_called;
+use armus_base::{NoMemory, WriteFault};
 use std::alloc::Global;
 
 /// Why what was read was not heard to its end.
@@ -18,24 +18,6 @@ pub(crate) enum HearFault {
     WriteFailed,
 }
 
-/// Writes what a byte called for, and forgets it.
-fn write_called<P: Port>(port: &mut P, out: &mut Vec<u8>) -> Result<(), HearFault>
-    ensures ok { OnOk result ((log : List Transfer) × LogGrows (P.log port.old) (P.log port.new) log × AreWrites log × (bytes_written log ≡ out.old.items)) }
-    ensures done { OnOk result (out.new.items ≡ []) }
-    ensures err { IfErr result (λ e. (log : List Transfer) × (left : List ℕ) × LogGrows (P.log port.old) (P.log port.new) log × AreWrites log × (bytes_written log ++ left ≡ out.old.items) × (e ≡ HearFault.WriteFailed)) }
-    ensures fine { OnOk result (P.write_faults port.new ≡ P.write_faults port.old) }
-    ensures cause { IfErr result (λ e. HasHearCause e (P.write_faults port.old) (P.write_faults port.new)) }
-    ensures other { P.read_faults port.new ≡ P.read_faults port.old }
-{
-    if !out.is_empty() {
-        if write_all(port, out).is_err() {
-            return Err(HearFault::WriteFailed);
-        }
-        out.clear();
-    }
-    Ok(())
-}
-
 /// Hears the bytes, and writes the message of each line before the next is heard.
 pub(crate) fn hear_piece<P: Port>(
     alloc: Global,
@@ -45,9 +27,9 @@ pub(crate) fn hear_piece<P: Port>(
     piece: &[u8],
 ) -> Result<(), HearFault>
     requires out { out.old.items ≡ [] }
-    ensures heard { OnOk result ((log : List Transfer) × LogGrows (P.log port.old) (P.log port.new) log × AreWrites log × HearsBytes listener.old piece.now (bytes_written log) listener.new) }
+    ensures heard { OnOk result ((log : List Transfer) × Passes (P.view port.old) (P.view port.new) log × AreWrites log × HearsBytes listener.old piece.now (bytes_written log) listener.new) }
     ensures done { OnOk result (out.new.items ≡ []) }
-    ensures err { IfErr result (λ e. (log : List Transfer) × (left : List ℕ) × LogGrows (P.log port.old) (P.log port.new) log × AreWrites log × StopsHearing listener.old piece.now log left × (e ≡ HearFault.NoMemory → left ≡ [])) }
+    ensures err { IfErr result (λ e. (log : List Transfer) × (left : List ℕ) × Passes (P.view port.old) (P.view port.new) log × AreWrites log × StopsHearing listener.old piece.now log left × (e ≡ HearFault.NoMemory → left ≡ [])) }
     ensures fine { OnOk result (P.write_faults port.new ≡ P.write_faults port.old) }
     ensures cause { IfErr result (λ e. HasHearCause e (P.write_faults port.old) (P.write_faults port.new)) }
     ensures other { P.read_faults port.new ≡ P.read_faults port.old }
@@ -56,8 +38,8 @@ pub(crate) fn hear_piece<P: Port>(
         if let Err(NoMemory) = listener.hear_byte(alloc, out, *byte) {
             return Err(HearFault::NoMemory);
         }
-        if let Err(fault) = write_called(port, out) {
-            return Err(fault);
+        if let Err(WriteFault) = write_called(port, out) {
+            return Err(HearFault::WriteFailed);
         }
     }
     Ok(())

@@ -2,10 +2,10 @@ use Rattle.std.proofs.Common.{rules, ◌≡◌, ◌≤◌, ◌∷◌, ◌++◌, 
 use Rattle.std.specs.Prelude.{get_or}
 use Rattle.std.proofs.lemmas.Grind.{get_or_default_zero}
 use Rattle.std.proofs.lemmas.List.{take_all}
-use Rattle.monitor.specs.Transfers.{AreWrites, LogGrows, Transfer, bytes_written}
+use Rattle.monitor.specs.Transfers.{AreWrites, Passes, Transfer, bytes_written}
 use Rattle.monitor.specs.inside.Listening.{HearsBytes, StopsHearing}
 use Rattle.monitor.specs.declared.hearing.HearFault.TheVariants.{NoMemory}
-use Rattle.monitor.proofs.Logs.{grows_more, writes_more}
+use Rattle.monitor.proofs.Logs.{passes_more, writes_more}
 use Rattle.monitor.proofs.Pieces.{one_more_byte, stops_before, stops_in_byte}
 use Rattle.monitor.proofs.hearing.hear_piece.Goals as goal
 
@@ -20,12 +20,12 @@ loop-byte-preserved g c =
       c.in_default-write_called.ensures.done,
       (
         wrote.0 ++ log.0,
-        grows_more _ _ _ log.0 wrote.0 log.1 wrote.1,
+        passes_more _ _ _ log.0 wrote.0 log.1 wrote.1,
         writes_more wrote.0 log.0 wrote.2 log.2,
         one_more_byte c.args.listener.now c.loop-byte.listener c.hear_byte.new.self piece i (get_or piece i 0) log.0 wrote.0 heard.0 c.loop-byte-test.true
         (sym (get_or_default_zero piece i (get_or piece i 0) c.loop-byte-test.true)) log.3 heard.2 (wrote.3 ∙ heard.1 ∙ ap (λ l. l ++ heard.0) c.loop-byte.invariant.0),
       ),
-      c.in_default-write_called.ensures.fine ∙ c.loop-byte.invariant.2,
+      c.in_default-write_called.ensures.cause.fine ∙ c.loop-byte.invariant.2,
       c.in_default-write_called.ensures.other ∙ c.loop-byte.invariant.3,
     )
 
@@ -50,9 +50,9 @@ returns-in-Err-write_called-clause-err g c =
     (
       wrote.0 ++ log.0,
       wrote.1,
-      grows_more _ _ _ log.0 wrote.0 log.1 wrote.2,
+      passes_more _ _ _ log.0 wrote.0 log.1 wrote.2,
       writes_more wrote.0 log.0 wrote.3 log.2,
       stops_in_byte c.args.listener.now c.loop-byte.listener c.hear_byte.new.self piece i (get_or piece i 0) log.0 wrote.0 wrote.1 heard.0 c.loop-byte-test.true
       (sym (get_or_default_zero piece i (get_or piece i 0) c.loop-byte-test.true)) log.3 heard.2 (wrote.4 ∙ heard.1 ∙ ap (λ l. l ++ heard.0) c.loop-byte.invariant.0),
-      λ e. absurd (let f = wrote.5 in cc),
+      λ e. absurd (cc),
     )

@@ -1,20 +1,21 @@
-use Rattle.std.proofs.Common.{rules, ◌≡◌, ◌∷◌, ◌++◌, [], List, ℕ, refl, sym, ◌∙◌, ap, subst, take}
+use Rattle.std.proofs.Common.{rules, ◌≡◌, ◌∷◌, ◌++◌, [], List, ℕ, refl, sym, ◌∙◌, ap, subst, take, length, arith, ◌<◌}
+use Rattle.std.proofs.lemmas.List.{length-take-le}
 use Rattle.monitor_messages.specs.Runs.{MonitorOptions}
 use Rattle.monitor.specs.MonitorCalls.{EndsMonitored}
-use Rattle.monitor.specs.Transfers.{LogGrows, Transfer, WereRead}
+use Rattle.monitor.specs.Transfers.{Passes, Transfer, WereRead}
 use Rattle.monitor.specs.inside.Ending.{HasListened}
 use Rattle.monitor.specs.inside.Listening.{number_of_hear_fault}
 use Rattle.monitor.proofs.Calls.{ends_at_end, ends_at_fault, ends_uncounted, ends_unread, goes_on_behind, prompt_piece, stopped_early}
-use Rattle.monitor.proofs.Logs.{grows_more, grows_none}
+use Rattle.monitor.proofs.Logs.{passes_more, passes_nothing}
 use Rattle.monitor.proofs.top.listen.Goals as goal
 
 pub loop-init : goal.loop-init
-loop-init g c = (c.requires.out, ([], grows_none _, λ options so_far. so_far), refl, refl)
+loop-init g c = (c.requires.out, ([], passes_nothing _, λ options so_far. so_far), refl, refl)
 
 pub returns-in-Err-clause-ends : goal.returns-in-Err-clause-ends
 returns-in-Err-clause-ends g c =
     let log = c.loop.invariant.1 in
-    (log.0, grows_more _ _ _ log.0 [] log.1 c.in-Err.ensures.log, λ options begins.
+    (log.0, passes_more _ _ _ log.0 [] log.1 c.in-Err.ensures.passes, λ options begins.
       let so_far = log.2 options begins in
       (so_far.prompt, ends_unread options log.0 c.loop.listener so_far))
 
@@ -23,12 +24,12 @@ returns-in-Ok-eq0-clause-ends g c =
     let log = c.loop.invariant.1 in
     let writes = c.end_trace.ensures.ends in
     let none : c.in-Ok-eq0.field-0 ≡ 0 = search rules in
-    let ended : LogGrows (g.P.Port.log c.loop.port) (g.P.Port.log c.read.new.self) (WereRead [] ∷ []) =
-        subst (λ n. LogGrows (g.P.Port.log c.loop.port) (g.P.Port.log c.read.new.self) (WereRead (take n c.read.new.buf) ∷ [])) none c.in-Ok-eq0.ensures.log
+    let ended : Passes (g.P.Port.view c.loop.port) (g.P.Port.view c.read.new.self) (WereRead [] ∷ []) =
+        subst (λ n. Passes (g.P.Port.view c.loop.port) (g.P.Port.view c.read.new.self) (WereRead (take n c.read.new.buf) ∷ [])) none c.in-Ok-eq0.ensures.passes
     in
     (
       writes.0 ++ WereRead [] ∷ log.0,
-      grows_more _ _ _ (WereRead [] ∷ log.0) writes.0 (grows_more _ _ _ log.0 (WereRead [] ∷ []) log.1 ended) writes.1,
+      passes_more _ _ _ (WereRead [] ∷ log.0) writes.0 (passes_more _ _ _ log.0 (WereRead [] ∷ []) log.1 ended) writes.1,
       λ options begins.
       let so_far = log.2 options begins in
       (prompt_piece options log.0 writes.0 [] c.loop.listener so_far writes.2, ends_at_end options log.0 writes.0 c.loop.listener _ so_far writes.2 writes.3),
@@ -41,7 +42,7 @@ returns-in-Err-hear_piece-clause-ends g c =
     let piece = take c.in-Ok.count c.read.new.buf in
     (
       writes.0 ++ WereRead piece ∷ log.0,
-      grows_more _ _ _ (WereRead piece ∷ log.0) writes.0 (grows_more _ _ _ log.0 (WereRead piece ∷ []) log.1 c.in-Ok.ensures.log) writes.2,
+      passes_more _ _ _ (WereRead piece ∷ log.0) writes.0 (passes_more _ _ _ log.0 (WereRead piece ∷ []) log.1 c.in-Ok.ensures.passes) writes.2,
       λ options begins.
       let so_far = log.2 options begins in
       (
@@ -57,7 +58,7 @@ returns-then-is_stopped-clause-ends g c =
     let piece = take c.in-Ok.count c.read.new.buf in
     (
       writes.0 ++ WereRead piece ∷ log.0,
-      grows_more _ _ _ (WereRead piece ∷ log.0) writes.0 (grows_more _ _ _ log.0 (WereRead piece ∷ []) log.1 c.in-Ok.ensures.log) writes.1,
+      passes_more _ _ _ (WereRead piece ∷ log.0) writes.0 (passes_more _ _ _ log.0 (WereRead piece ∷ []) log.1 c.in-Ok.ensures.passes) writes.1,
       λ options begins.
       let so_far = log.2 options begins in
       (
@@ -71,12 +72,15 @@ loop-preserved g c =
     let log = c.loop.invariant.1 in
     let writes = c.in_default.ensures.heard in
     let piece = take c.in-Ok.count c.read.new.buf in
+    let positive : 0 < c.in-Ok.count = search rules in
+    let long : length piece ≡ c.in-Ok.count = length-take-le c.in-Ok.count c.read.new.buf (search rules) in
+    let some : 0 < length piece = omega arith in
     (
       c.in_default.ensures.done,
       (
         writes.0 ++ WereRead piece ∷ log.0,
-        grows_more _ _ _ (WereRead piece ∷ log.0) writes.0 (grows_more _ _ _ log.0 (WereRead piece ∷ []) log.1 c.in-Ok.ensures.log) writes.1,
-        λ options begins. goes_on_behind options log.0 writes.0 piece c.loop.listener c.hear_piece.new.listener (log.2 options begins) writes.2 writes.3 (search rules),
+        passes_more _ _ _ (WereRead piece ∷ log.0) writes.0 (passes_more _ _ _ log.0 (WereRead piece ∷ []) log.1 c.in-Ok.ensures.passes) writes.1,
+        λ options begins. goes_on_behind options log.0 writes.0 piece c.loop.listener c.hear_piece.new.listener some (log.2 options begins) writes.2 writes.3 (search rules),
       ),
       c.in_default.ensures.other ∙ c.in-Ok.ensures.cause.fine ∙ c.loop.invariant.2,
       c.in_default.ensures.fine ∙ c.in-Ok.ensures.other ∙ c.loop.invariant.3,
