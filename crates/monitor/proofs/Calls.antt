@@ -95,18 +95,17 @@ part_heard : (options : MonitorOptions) (log writes : List Transfer) (bytes left
 part_heard options log writes bytes left old so_far are stops =
     let l = stops.hears options (bytes_read log) (bytes_written log) so_far.listening in
     let heard : HasHeard options (bytes_read log ++ stops.front) stops.between.run (bytes_written log ++ (bytes_written writes ++ left)) =
-        record { lines = l.lines; rest = l.rest; cut = l.cut; leads = l.leads }
+    record { lines = l.lines; rest = l.rest; cut = l.cut; leads = l.leads }
     in
     record {
-      part =
-          (
-            bytes_read log ++ stops.front,
-            stops.behind,
-            stops.between.run,
-            read_then writes log bytes are ∙ ap (λ b. bytes_read log ++ b) stops.piece_is ∙ sym (append_assoc (bytes_read log) stops.front stops.behind),
-            subst (HasHeard options (bytes_read log ++ stops.front) stops.between.run)
+      part = (
+        bytes_read log ++ stops.front,
+        stops.behind,
+        stops.between.run,
+        read_then writes log bytes are ∙ ap (λ b. bytes_read log ++ b) stops.piece_is ∙ sym (append_assoc (bytes_read log) stops.front stops.behind),
+        subst (HasHeard options (bytes_read log ++ stops.front) stops.between.run)
             (sym (append_assoc (bytes_written log) (bytes_written writes) left) ∙ ap (λ w. w ++ left) (sym (written_then writes log bytes))) heard,
-          );
+      );
     }
 
 ends_unwritten : (options : MonitorOptions) (log writes : List Transfer) (bytes left : List ℕ) (old : Heard) → HasListened options log old → AreWrites writes → StopsHearing old bytes writes left → EndsMonitored options (writes ++ WereRead bytes ∷ log) 5
@@ -116,7 +115,7 @@ ends_without_memory : (options : MonitorOptions) (log writes : List Transfer) (b
 ends_without_memory options log writes bytes left old so_far are stops none =
     let part = (part_heard options log writes bytes left old so_far are stops).part in
     let all : bytes_written (writes ++ WereRead bytes ∷ log) ++ left ≡ bytes_written (writes ++ WereRead bytes ∷ log) =
-        ap (λ l. bytes_written (writes ++ WereRead bytes ∷ log) ++ l) none ∙ append-nil (bytes_written (writes ++ WereRead bytes ∷ log))
+    ap (λ l. bytes_written (writes ++ WereRead bytes ∷ log) ++ l) none ∙ append-nil (bytes_written (writes ++ WereRead bytes ∷ log))
     in
     memory_wanting refl (inl (part.0, part.1, part.2, part.3, subst (HasHeard options part.0 part.2) all part.4))
 
@@ -143,12 +142,11 @@ with_words options log writes old left status so_far are ends =
 
 with_line : (options : MonitorOptions) (log writes : List Transfer) (old : Heard) (left : List ℕ) → HasListened options log old → AreWrites writes → EndsWithLine old (bytes_written writes ++ left) → (run : MonitorRun) × HasHeardAll options (bytes_read (writes ++ WereRead [] ∷ log)) run (bytes_written (writes ++ WereRead [] ∷ log) ++ left)
 with_line options log writes old left so_far are ends =
-    let e = ends options (bytes_read log) (bytes_written log) so_far.listening in
-    (
+    let e = ends options (bytes_read log) (bytes_written log) so_far.listening in (
       e.0,
       subst (λ read. HasHeardAll options read e.0 (bytes_written (writes ++ WereRead [] ∷ log) ++ left)) (sym (whole_read log writes are))
-      (subst (HasHeardAll options (bytes_read log) e.0)
-      (sym (append_assoc (bytes_written log) (bytes_written writes) left) ∙ ap (λ w. w ++ left) (sym (written_then writes log []))) e.1),
+          (subst (HasHeardAll options (bytes_read log) e.0)
+          (sym (append_assoc (bytes_written log) (bytes_written writes) left) ∙ ap (λ w. w ++ left) (sym (written_then writes log []))) e.1),
     )
 
 pub ends_at_end : (options : MonitorOptions) (log writes : List Transfer) (old : Heard) (status : ℕ) → HasListened options log old → AreWrites writes → EndsTrace old (bytes_written writes) status → EndsMonitored options (writes ++ WereRead [] ∷ log) status
@@ -165,8 +163,7 @@ ends_at_end options log writes old status so_far are (inr (inr (is, inl none))) 
     let calls = calls_so_far options log old so_far in
     let silent : bytes_written (writes ++ WereRead [] ∷ log) ≡ bytes_written log = written_then writes log [] ∙ ap (λ w. bytes_written log ++ w) none ∙ append-nil (bytes_written log) in
     memory_wanting is
-    (inl
-    (
+    (inl (
       bytes_read log,
       [],
       calls.0,

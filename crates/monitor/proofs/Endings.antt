@@ -41,7 +41,16 @@ pub ends_with_report : (old : Heard) (run : MonitorRun) (message written words :
 ends_with_report old run message written words status hears goes whole (inl (report, ends)) =
     inl (with_report old run message written words status hears goes report whole ends)
 ends_with_report old run message written words status hears goes whole (inr (inl (is, (left, report)))) =
-    inr (inl (is, (left, inr (ended_status run, with_report old run message (written ++ left) (words ++ left) (ended_status run) hears goes report
-    (ap (λ w. w ++ left) whole ∙ append_assoc message written left) refl))))
+    inr (inl (
+      is,
+      (
+        left,
+        inr (
+          ended_status run,
+          with_report old run message (written ++ left) (words ++ left) (ended_status run) hears goes report
+              (ap (λ w. w ++ left) whole ∙ append_assoc message written left) refl,
+        ),
+      ),
+    ))
 ends_with_report old run message written words status hears goes whole (inr (inr (is, none))) =
     inr (inr (is, inr (ends_with_line old run message words hears (whole ∙ ap (λ w. message ++ w) none ∙ append-nil message))))

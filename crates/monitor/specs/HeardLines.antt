@@ -28,14 +28,14 @@ abbrev pub all_lines : List (List ℕ) → List ℕ → List (List ℕ)
 all_lines lines [] = lines
 all_lines lines (b ∷ rest) = (b ∷ rest) ∷ lines
 
--- these bytes, behind which the trace goes on, lead here and call for this output
+-- these bytes, which are not taken as a whole trace, lead here and call for this output
 pub record HasHeard (options : MonitorOptions) (bytes : List ℕ) (run : MonitorRun) (output : List ℕ) : Type 0 where
   pub lines : List (List ℕ)
   pub rest : List ℕ
   pub cut : AreHeardLines bytes lines rest
   pub leads : IsMonitorRunOf options (called_lines lines rest) run output
 
--- these bytes, with which the trace ends, lead here and call for this output
+-- these bytes, taken as a whole trace, lead here and call for this output
 pub record HasHeardAll (options : MonitorOptions) (bytes : List ℕ) (run : MonitorRun) (output : List ℕ) : Type 0 where
   pub lines : List (List ℕ)
   pub rest : List ℕ

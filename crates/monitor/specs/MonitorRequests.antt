@@ -58,9 +58,9 @@ monitor_help_lines =
     ++ message_line (codes "for ever, and why, while the others go on. At the end it writes who waits for whom.")
     ++ message_line (codes "With --guard it answers each wait with wait or refuse, so that no wait makes anybody")
     ++ message_line (codes "stuck. With --keep-going it tells a line at fault and passes it over.")
-    ++ message_line (codes "Status: 0 nobody is kept waiting at the end and nobody was told, 1 somebody is or")
-    ++ message_line (codes "was, 2 other words, 3 a line was at fault, 4 it cannot be read, 5 it cannot be")
-    ++ message_line (codes "written, 6 no memory.")
+    ++ message_line (codes "Status: 0 nobody is kept waiting at the end, and nobody was told or refused before,")
+    ++ message_line (codes "1 somebody is or was, 2 other words, 3 a line was at fault, 4 it cannot be read,")
+    ++ message_line (codes "5 it cannot be written, 6 no memory.")
 
 -- the line of the version
 abbrev pub monitor_version_line : List ℕ

@@ -14,7 +14,7 @@ use armus_base::{NoMemory, WriteFault};
 use monitor_messages::Monitor;
 use std::alloc::Global;
 
-// The status behind the last line, where none ended it all.
+// The status behind the last line, where none stopped the monitor.
 fn ended_status(monitor: &Monitor) -> MonitorStatus
     ensures ended { number_of_monitor_status result ≡ ended_status monitor.now }
     ensures sound { number_of_monitor_status result < 4 }

@@ -32,9 +32,9 @@ FILE, or from standard input where there is none, and tells at once who is stuck
 for ever, and why, while the others go on. At the end it writes who waits for whom.
 With --guard it answers each wait with wait or refuse, so that no wait makes anybody
 stuck. With --keep-going it tells a line at fault and passes it over.
-Status: 0 nobody is kept waiting at the end and nobody was told, 1 somebody is or
-was, 2 other words, 3 a line was at fault, 4 it cannot be read, 5 it cannot be
-written, 6 no memory.
+Status: 0 nobody is kept waiting at the end, and nobody was told or refused before,
+1 somebody is or was, 2 other words, 3 a line was at fault, 4 it cannot be read,
+5 it cannot be written, 6 no memory.
 ";
 
 // The status where what was read was not heard to its end.

@@ -5,7 +5,7 @@ use Rattle.std.specs.Map.{lookup}
 use Rattle.monitor_laws.specs.Lines.{Announcement, Joins, Arrives, Leaves, Waits, Goes, Ends, Stands, TraceLine, SaysNothing, AsksReport, AsksList, AreGone, Announces, PlaysAny, PlaysOneOf}
 use Rattle.monitor_laws.specs.States.{Condition, Running, Waiting, Ended, AnyTask, OneOf, Participant, TraceState, after_line, is_live_task, is_live_wildcard, is_there_as, new_participant}
 
--- the greatest phase, and how many tasks and wildcards, and how many memberships, a list has at most
+-- the greatest phase
 abbrev pub last_phase : ℕ
 last_phase = 4294967295
 
@@ -68,7 +68,7 @@ is_of_tasks Goes = true
 is_of_tasks Ends = false
 is_of_tasks Stands = true
 
--- the memberships of the list in all; each task that a wildcard has counts as one
+-- the tasks that a wildcard has
 abbrev pub tasks_had : Condition → List ℕ
 tasks_had Running = []
 tasks_had (Waiting p n) = []
@@ -76,7 +76,7 @@ tasks_had Ended = []
 tasks_had AnyTask = []
 tasks_had (OneOf names tasks) = tasks
 
--- how many memberships those of the list have in all
+-- how many memberships those of the list have in all; each task that a wildcard has counts as one
 abbrev pub memberships_in : TraceState → ℕ
 memberships_in s = sum_by (λ u. length u.phases + length (tasks_had u.condition)) s.list
 

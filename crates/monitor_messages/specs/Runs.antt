@@ -16,8 +16,8 @@ pub record MonitorOptions : Type 0 where
   pub guards : Bool
   pub keeps_going : Bool
 
--- what is known behind some lines: the state, how many lines came, whether somebody was told or refused, whether a line was at fault, and whether one at fault
--- ended it all
+-- what is known behind some lines: what was asked for, the state, how many lines came, whether somebody was told or refused, whether a line was at fault, and whether one
+-- stopped the monitor
 pub record MonitorRun : Type 0 where
   pub options : MonitorOptions
   pub state : TraceState
@@ -35,7 +35,7 @@ abbrev pub SaysLine : List ℕ → Option TraceLine → Type 0
 SaysLine bytes None = (l : TraceLine) → IsLine bytes l → ⊥
 SaysLine bytes (Some l) = IsLine bytes l
 
--- the message of a legal line of which this is taken: with the guard of a refused wait that its task is there, and each other line as it is
+-- the message of a legal line, and what is taken of it: with the guard, of a refused wait that its task is where it is, and of each other line the line itself
 abbrev pub IsMessageOf : (guards : Bool) → TraceState → TraceLine → TraceLine → List ℕ → Type 0
 IsMessageOf false s l taken message = (taken ≡ l) × IsMessage s l message
 IsMessageOf true s l taken message = (guarded : IsGuardedMessage s l message) × (guarded.taken ≡ taken)
@@ -64,7 +64,7 @@ IsHeard was said (Some fault) run message =
 IsHeard was (Some l) None run message = IsTakenLine was l run message
 IsHeard was None None run message = ⊥
 
--- one more line in these bytes calls for this message; behind a fault that ended it all none does
+-- one more line in these bytes calls for this message; behind a fault that stopped the monitor none does
 abbrev pub IsNextRun : MonitorRun → List ℕ → MonitorRun → List ℕ → Type 0
 IsNextRun was bytes run message =
     ((was.stopped ≡ true) × (run ≡ was) × (message ≡ []))
@@ -80,6 +80,6 @@ IsMonitorRunOf options (bytes ∷ before) run output =
 abbrev pub has_kept_waiting : TraceState → Bool
 has_kept_waiting s = list_any (is_kept_waiting s) s.list
 
--- the status behind the last line, where none ended it all
+-- the status behind the last line, where none stopped the monitor
 abbrev pub ended_status : MonitorRun → ℕ
 ended_status run = if run.told || has_kept_waiting run.state then 1 else if run.faulty then 3 else 0

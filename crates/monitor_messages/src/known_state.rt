@@ -3,7 +3,7 @@ ghost use Rattle.std.specs.Prelude.{◌≡◌, ◌++◌, ℕ, Bool, false, IfNon
 ghost use Rattle.std.specs.Option.{option_map};
 ghost use Rattle.monitor_laws.specs.Faults.{first_fault};
 ghost use Rattle.monitor_laws.specs.States.{TraceState, after_line, nobody_named};
-ghost use Rattle.monitor_laws.proofs.Lawful.{IsLawfulState};
+ghost use Rattle.monitor_laws.specs.Lawful.{IsLawfulState};
 ghost use Rattle.monitor_search.specs.Known.{AreStuckTasks, KeepsStuck, has_stuck_number};
 ghost use Rattle.monitor_words.specs.Messages.{asked_words, report_words};
 ghost use Rattle.monitor_words.specs.Stops.{TellsStuck};
@@ -31,7 +31,7 @@ pub(crate) struct KnownState {
 
 impl Model for KnownState {
     ghost use Rattle.monitor_laws.specs.States.{TraceState};
-    ghost use Rattle.monitor_laws.proofs.Lawful.{IsLawfulState};
+    ghost use Rattle.monitor_laws.specs.Lawful.{IsLawfulState};
     ghost use Rattle.monitor_search.specs.Known.{AreStuckTasks};
 
     ghost Value = { TraceState };

@@ -60,7 +60,7 @@ impl Monitor {
         }
     }
 
-    /// Whether a line at fault has ended it all.
+    /// Whether a line at fault has stopped the monitor.
     pub fn is_stopped(&self) -> bool
         ensures { result ≡ self.now.stopped }
     {
@@ -81,7 +81,7 @@ impl Monitor {
         self.told || self.known.has_kept_waiting()
     }
 
-    // Appends the message on a fault of the line with this number; the line is passed over, or ends it all.
+    // Appends the message on a fault of the line with this number; the line is passed over, or stops the monitor.
     fn hear_fault(
         &mut self,
         alloc: Global,

@@ -4,7 +4,7 @@ use Rattle.std.specs.List.{list_any}
 use Rattle.monitor_laws.specs.Lines.{TraceLine}
 use Rattle.monitor_laws.specs.States.{Participant, TraceState, after_line}
 use Rattle.monitor_laws.specs.Faults.{faults_of}
-use Rattle.monitor_laws.proofs.Lawful.{IsLawfulState}
+use Rattle.monitor_laws.specs.Lawful.{IsLawfulState}
 use Rattle.monitor_words.specs.Stops.{TellsStuck}
 
 -- a task as it is known: its number and its name

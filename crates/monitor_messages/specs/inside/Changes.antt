@@ -3,7 +3,7 @@ use Rattle.std.specs.Prelude.{◌≡◌, ℕ, Bool, true, List, [], ◌++◌, �
 use Rattle.monitor_laws.specs.Faults.{faults_of}
 use Rattle.monitor_laws.specs.Lines.{TraceLine}
 use Rattle.monitor_laws.specs.States.{TraceState, after_line}
-use Rattle.monitor_laws.proofs.Lawful.{IsLawfulState}
+use Rattle.monitor_laws.specs.Lawful.{IsLawfulState}
 use Rattle.monitor_search.specs.Known.{AreStuckTasks, has_stuck_number}
 use Rattle.monitor_words.specs.Messages.{IsToldOf, resolved_words, those_only_in}
 use Rattle.monitor_messages.specs.Runs.{MakesStuck}

@@ -32,12 +32,11 @@ returns-clause-ends g c =
     let more = c.end_with_report.ensures.ends in
     let run = c.hear_end.new.self.run in
     let ends : EndsReport run (bytes_written more.0) (number_of_monitor_status c.end_with_report.result) =
-        subst (λ (x : MonitorRun). EndsReport x (bytes_written more.0) (number_of_monitor_status c.end_with_report.result)) c.monitor-2.ensures more.3
-    in
-    (
+    subst (λ (x : MonitorRun). EndsReport x (bytes_written more.0) (number_of_monitor_status c.end_with_report.result)) c.monitor-2.ensures more.3
+    in (
       more.0 ++ log.0,
       passes_more _ _ _ log.0 more.0 log.1 more.1,
       writes_more more.0 log.0 more.2 log.2,
       ends_with_report c.args.listener.now run h.0 (bytes_written more.0) (bytes_written (more.0 ++ log.0)) (number_of_monitor_status c.end_with_report.result) h.2 (search rules)
-      (written_more more.0 log.0 ∙ ap (λ l. l ++ bytes_written more.0) line) ends,
+          (written_more more.0 log.0 ∙ ap (λ l. l ++ bytes_written more.0) line) ends,
     )
