@@ -9,8 +9,8 @@ use Rattle.armus_base.proofs.Elements.{Contains-cons_cases}
 use Rattle.monitor_laws.specs.Lines.{TraceLine}
 use Rattle.monitor_laws.specs.Faults.{first_fault}
 use Rattle.trace_lines.specs.Grammar.{IsLine, most_line_bytes}
-use Rattle.monitor_messages.specs.Runs.{IsHeard, IsNextRun, IsRunOf, MonitorOptions, MonitorRun, SaysLine}
-use Rattle.monitor.specs.HeardLines.{AreLinesOf, HasHeardAll, all_lines, called_lines, ended_lines, has_line_end}
+use Rattle.monitor_messages.specs.Runs.{IsHeard, IsNextRun, IsMonitorRunOf, MonitorOptions, MonitorRun, SaysLine}
+use Rattle.monitor.specs.HeardLines.{AreHeardLines, HasHeardAll, all_lines, called_lines, ended_lines, has_line_end}
 use Rattle.monitor.specs.inside.Listening.{Heard, HearsBytes, IsListening}
 
 -- a line that is not too long is not heard before its end
@@ -43,7 +43,7 @@ no_end_more (r ∷ rest) b none other =
     let parts = or_parts (r == 10) (has_line_end rest) none in
     ap (λ x. x || has_line_end (rest ++ b ∷ [])) parts.0 ∙ no_end_more rest b parts.1 other
 
-cut_more : (bytes : List ℕ) (lines : List (List ℕ)) (rest : List ℕ) (b : ℕ) → AreLinesOf bytes lines rest → (b == 10) ≡ false → AreLinesOf (bytes ++ b ∷ []) lines (rest ++ b ∷ [])
+cut_more : (bytes : List ℕ) (lines : List (List ℕ)) (rest : List ℕ) (b : ℕ) → AreHeardLines bytes lines rest → (b == 10) ≡ false → AreHeardLines (bytes ++ b ∷ []) lines (rest ++ b ∷ [])
 cut_more bytes lines rest b cut other = record {
   are = ap (λ l. l ++ b ∷ []) cut.are ∙ append_assoc (ended_lines lines) rest (b ∷ []);
   whole = cut.whole;
@@ -51,7 +51,7 @@ cut_more bytes lines rest b cut other = record {
 }
 
 -- the LF of a line
-cut_end : (bytes : List ℕ) (lines : List (List ℕ)) (rest : List ℕ) → AreLinesOf bytes lines rest → AreLinesOf (bytes ++ 10 ∷ []) (rest ∷ lines) []
+cut_end : (bytes : List ℕ) (lines : List (List ℕ)) (rest : List ℕ) → AreHeardLines bytes lines rest → AreHeardLines (bytes ++ 10 ∷ []) (rest ∷ lines) []
 cut_end bytes lines rest cut = record {
   are = ap (λ l. l ++ 10 ∷ []) cut.are ∙ sym (append-nil (ended_lines (rest ∷ lines)));
   whole = λ line there. elim (Contains-cons_cases rest lines line there) [ | inl is ↦ subst (λ l. has_line_end l ≡ false) is cut.open_end | inr t ↦ cut.whole line t ];
@@ -67,7 +67,7 @@ next_alike was run rest more message long longer (inl stopped) = inl stopped
 next_alike was run rest more message long longer (inr (goes, None, says, heard)) = inr (goes, None, says_no_line more longer, heard)
 next_alike was run rest more message long longer (inr (goes, Some l, says, heard)) = absurd (let short = says.0 in omega arith)
 
-run_alike : (options : MonitorOptions) (lines : List (List ℕ)) (rest more : List ℕ) (run : MonitorRun) (output : List ℕ) → 512 ≤ length rest → 512 ≤ length more → IsRunOf options (rest ∷ lines) run output → IsRunOf options (more ∷ lines) run output
+run_alike : (options : MonitorOptions) (lines : List (List ℕ)) (rest more : List ℕ) (run : MonitorRun) (output : List ℕ) → 512 ≤ length rest → 512 ≤ length more → IsMonitorRunOf options (rest ∷ lines) run output → IsMonitorRunOf options (more ∷ lines) run output
 run_alike options lines rest more run output long longer (was, earlier, message, leads, next, is) =
     (was, earlier, message, leads, next_alike was run rest more message long longer next, is)
 
@@ -84,7 +84,7 @@ end_heard options bytes output h run message l short next =
             h.run,
             output,
             message,
-            subst (λ lines. IsRunOf options lines h.run output) (called_short l.lines l.rest kept.1) l.leads,
+            subst (λ lines. IsMonitorRunOf options lines h.run output) (called_short l.lines l.rest kept.1) l.leads,
             subst (λ line. IsNextRun h.run line run message) kept.0 next,
             refl,
           );
@@ -99,8 +99,8 @@ long_end_heard options bytes output h l long =
       rest = [];
       cut = cut_end bytes l.lines l.rest l.cut;
       leads =
-          subst (IsRunOf options (l.rest ∷ l.lines) h.run) (sym (append-nil output))
-          (subst (λ lines. IsRunOf options lines h.run output) (called_long l.lines l.rest (kept_long h.line l.rest l.front long)) l.leads);
+          subst (IsMonitorRunOf options (l.rest ∷ l.lines) h.run) (sym (append-nil output))
+          (subst (λ lines. IsMonitorRunOf options lines h.run output) (called_long l.lines l.rest (kept_long h.line l.rest l.front long)) l.leads);
       front = refl;
     }
 
@@ -115,8 +115,8 @@ byte_kept options bytes output h b more is l other short =
       rest = l.rest ++ b ∷ [];
       cut = cut_more bytes l.lines l.rest b l.cut other;
       leads =
-          subst (IsRunOf options (called_lines l.lines (l.rest ++ b ∷ [])) h.run) (sym (append-nil output))
-          (subst (λ lines. IsRunOf options lines h.run output) (called_short l.lines l.rest kept.1 ∙ sym (called_short l.lines (l.rest ++ b ∷ []) (omega arith))) l.leads);
+          subst (IsMonitorRunOf options (called_lines l.lines (l.rest ++ b ∷ [])) h.run) (sym (append-nil output))
+          (subst (λ lines. IsMonitorRunOf options lines h.run output) (called_short l.lines l.rest kept.1 ∙ sym (called_short l.lines (l.rest ++ b ∷ []) (omega arith))) l.leads);
       front = is ∙ ap (λ l. l ++ b ∷ []) kept.0 ∙ sym (take_all 512 (l.rest ++ b ∷ []) (omega arith));
     }
 
@@ -131,12 +131,12 @@ byte_too_many options bytes output h b more run message is l other full next =
       rest = l.rest ++ b ∷ [];
       cut = cut_more bytes l.lines l.rest b l.cut other;
       leads =
-          subst (λ lines. IsRunOf options lines run (output ++ message)) (sym (called_long l.lines (l.rest ++ b ∷ []) (omega arith)))
+          subst (λ lines. IsMonitorRunOf options lines run (output ++ message)) (sym (called_long l.lines (l.rest ++ b ∷ []) (omega arith)))
           (
             h.run,
             output,
             message,
-            subst (λ lines. IsRunOf options lines h.run output) (called_short l.lines l.rest kept.1) l.leads,
+            subst (λ lines. IsMonitorRunOf options lines h.run output) (called_short l.lines l.rest kept.1) l.leads,
             subst (λ line. IsNextRun h.run line run message) (is ∙ ap (λ l. l ++ b ∷ []) kept.0) next,
             refl,
           );
@@ -154,10 +154,10 @@ byte_passed options bytes output h b l other long =
       rest = l.rest ++ b ∷ [];
       cut = cut_more bytes l.lines l.rest b l.cut other;
       leads =
-          subst (IsRunOf options (called_lines l.lines (l.rest ++ b ∷ [])) h.run) (sym (append-nil output))
-          (subst (λ lines. IsRunOf options lines h.run output) (sym (called_long l.lines (l.rest ++ b ∷ []) behind))
+          subst (IsMonitorRunOf options (called_lines l.lines (l.rest ++ b ∷ [])) h.run) (sym (append-nil output))
+          (subst (λ lines. IsMonitorRunOf options lines h.run output) (sym (called_long l.lines (l.rest ++ b ∷ []) behind))
           (run_alike options l.lines l.rest (l.rest ++ b ∷ []) h.run output longer behind
-          (subst (λ lines. IsRunOf options lines h.run output) (called_long l.lines l.rest longer) l.leads)));
+          (subst (λ lines. IsMonitorRunOf options lines h.run output) (called_long l.lines l.rest longer) l.leads)));
       front = l.front ∙ sym (take-append-le 512 l.rest (b ∷ []) longer);
     }
 
@@ -206,9 +206,9 @@ end_without_rest options bytes output h l none =
       rest = l.rest;
       cut = l.cut;
       leads =
-          subst (λ rest. IsRunOf options (all_lines l.lines rest) h.run (output ++ [])) (sym empty)
-          (subst (IsRunOf options l.lines h.run) (sym (append-nil output))
-          (subst (λ rest. IsRunOf options (called_lines l.lines rest) h.run output) empty l.leads));
+          subst (λ rest. IsMonitorRunOf options (all_lines l.lines rest) h.run (output ++ [])) (sym empty)
+          (subst (IsMonitorRunOf options l.lines h.run) (sym (append-nil output))
+          (subst (λ rest. IsMonitorRunOf options (called_lines l.lines rest) h.run output) empty l.leads));
     }
 
 end_behind_long : (options : MonitorOptions) (bytes output : List ℕ) (h : Heard) → IsListening options bytes output h → 512 ≤ length h.line → HasHeardAll options bytes h.run (output ++ [])
@@ -219,8 +219,8 @@ end_behind_long options bytes output h l long =
       rest = l.rest;
       cut = l.cut;
       leads =
-          subst (λ lines. IsRunOf options lines h.run (output ++ [])) (called_long l.lines l.rest longer ∙ sym (all_behind l.lines l.rest (omega arith)))
-          (subst (IsRunOf options (called_lines l.lines l.rest) h.run) (sym (append-nil output)) l.leads);
+          subst (λ lines. IsMonitorRunOf options lines h.run (output ++ [])) (called_long l.lines l.rest longer ∙ sym (all_behind l.lines l.rest (omega arith)))
+          (subst (IsMonitorRunOf options (called_lines l.lines l.rest) h.run) (sym (append-nil output)) l.leads);
     }
 
 pub end_behind_rest : (options : MonitorOptions) (bytes output : List ℕ) (h : Heard) (run : MonitorRun) (message : List ℕ) → IsListening options bytes output h → 0 < length h.line → length h.line < 512 → IsNextRun h.run h.line run message → HasHeardAll options bytes run (output ++ message)
@@ -232,12 +232,12 @@ end_behind_rest options bytes output h run message l some short next =
       rest = l.rest;
       cut = l.cut;
       leads =
-          subst (λ lines. IsRunOf options lines run (output ++ message)) (sym (all_behind l.lines l.rest (omega arith)))
+          subst (λ lines. IsMonitorRunOf options lines run (output ++ message)) (sym (all_behind l.lines l.rest (omega arith)))
           (
             h.run,
             output,
             message,
-            subst (λ lines. IsRunOf options lines h.run output) (called_short l.lines l.rest kept.1) l.leads,
+            subst (λ lines. IsMonitorRunOf options lines h.run output) (called_short l.lines l.rest kept.1) l.leads,
             subst (λ line. IsNextRun h.run line run message) kept.0 next,
             refl,
           );

@@ -3,7 +3,7 @@ use Rattle.std.proofs.Common.{◌≡◌, ℕ, true, false, List, [], ◌∷◌, 
 use Rattle.std.specs.Prelude.{take}
 use Rattle.armus_base.proofs.Elements.{nothing_in_nil}
 use Rattle.monitor_messages.specs.Runs.{MonitorOptions, MonitorRun, run_begun}
-use Rattle.monitor.specs.HeardLines.{AreLinesOf, HasHeard}
+use Rattle.monitor.specs.HeardLines.{AreHeardLines, HasHeard}
 use Rattle.monitor.specs.MonitorCalls.{CallsFor, EndsMonitored, IsEndOutput, IsFaultOutput, IsPrompt, IsSomeOutput, at_end, at_fault, no_memory, unread, unwritten}
 use Rattle.monitor.specs.Transfers.{AreWrites, IsReadToEnd, Transfer, WereRead, WereWritten, bytes_read, bytes_written}
 use Rattle.monitor.specs.inside.Ending.{EndsTrace, EndsWithWords, HasListened}

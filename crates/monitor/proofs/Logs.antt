@@ -1,13 +1,13 @@
 -- Lists of what was read and written, one in front of another.
 use Rattle.std.proofs.Common.{◌≡◌, ℕ, None, Some, Option, List, [], ◌∷◌, ◌++◌, refl, sym, ◌∙◌, ap, append-nil, append_assoc}
 use Rattle.std.specs.Option.{option_map}
-use Rattle.monitor.specs.Transfers.{AreWrites, Grows, Transfer, WereRead, WereWritten, bytes_read, bytes_written}
+use Rattle.monitor.specs.Transfers.{AreWrites, LogGrows, Transfer, WereRead, WereWritten, bytes_read, bytes_written}
 
-pub grows_none : (o : Option (List Transfer)) → Grows o o []
+pub grows_none : (o : Option (List Transfer)) → LogGrows o o []
 grows_none None = refl
 grows_none (Some log) = refl
 
-pub grows_more : (a b c : Option (List Transfer)) (more later : List Transfer) → Grows a b more → Grows b c later → Grows a c (later ++ more)
+pub grows_more : (a b c : Option (List Transfer)) (more later : List Transfer) → LogGrows a b more → LogGrows b c later → LogGrows a c (later ++ more)
 grows_more None b c more later one other = other ∙ go b one
   where
     go : (b : Option (List Transfer)) → b ≡ None → option_map (λ log. later ++ log) b ≡ None

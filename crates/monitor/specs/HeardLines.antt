@@ -2,7 +2,7 @@
 use Rattle.std.specs.Prelude.{◌≡◌, ℕ, Bool, false, ◌==◌, if◌then◌else◌, List, [], ◌∷◌, ◌++◌, Contains, length, nat_lt}
 use Rattle.std.specs.List.{list_any}
 use Rattle.trace_lines.specs.Grammar.{most_line_bytes}
-use Rattle.monitor_messages.specs.Runs.{IsRunOf, MonitorOptions, MonitorRun}
+use Rattle.monitor_messages.specs.Runs.{IsMonitorRunOf, MonitorOptions, MonitorRun}
 
 -- lines, the last first, each with the LF that ends it
 abbrev pub ended_lines : List (List ℕ) → List ℕ
@@ -14,7 +14,7 @@ abbrev pub has_line_end : List ℕ → Bool
 has_line_end bytes = list_any (λ b. b == 10) bytes
 
 -- the bytes are these whole lines, the last first, and what stands behind the last LF
-pub record AreLinesOf (bytes : List ℕ) (lines : List (List ℕ)) (rest : List ℕ) : Type 0 where
+pub record AreHeardLines (bytes : List ℕ) (lines : List (List ℕ)) (rest : List ℕ) : Type 0 where
   pub are : bytes ≡ ended_lines lines ++ rest
   pub whole : (line : List ℕ) → Contains lines line → has_line_end line ≡ false
   pub open_end : has_line_end rest ≡ false
@@ -32,12 +32,12 @@ all_lines lines (b ∷ rest) = (b ∷ rest) ∷ lines
 pub record HasHeard (options : MonitorOptions) (bytes : List ℕ) (run : MonitorRun) (output : List ℕ) : Type 0 where
   pub lines : List (List ℕ)
   pub rest : List ℕ
-  pub cut : AreLinesOf bytes lines rest
-  pub leads : IsRunOf options (called_lines lines rest) run output
+  pub cut : AreHeardLines bytes lines rest
+  pub leads : IsMonitorRunOf options (called_lines lines rest) run output
 
 -- these bytes, with which the trace ends, lead here and call for this output
 pub record HasHeardAll (options : MonitorOptions) (bytes : List ℕ) (run : MonitorRun) (output : List ℕ) : Type 0 where
   pub lines : List (List ℕ)
   pub rest : List ℕ
-  pub cut : AreLinesOf bytes lines rest
-  pub leads : IsRunOf options (all_lines lines rest) run output
+  pub cut : AreHeardLines bytes lines rest
+  pub leads : IsMonitorRunOf options (all_lines lines rest) run output

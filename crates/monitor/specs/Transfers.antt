@@ -30,13 +30,13 @@ abbrev pub IsReadToEnd : List Transfer → Type 0
 IsReadToEnd log = (later : List Transfer) × (before : List Transfer) × AreWrites later × (log ≡ later ++ WereRead [] ∷ before)
 
 -- where the list is told, this stands in front of it now
-abbrev pub Grows : Option (List Transfer) → Option (List Transfer) → List Transfer → Type 0
-Grows old new more = new ≡ option_map (λ log. more ++ log) old
+abbrev pub LogGrows : Option (List Transfer) → Option (List Transfer) → List Transfer → Type 0
+LogGrows old new more = new ≡ option_map (λ log. more ++ log) old
 
 -- a read puts the bytes that it gave in front, and one that fails nothing
 abbrev pub LogsRead : {E : Type 0} → Option (List Transfer) → Option (List Transfer) → Result ℕ E → List ℕ → Type 0
-LogsRead old new result buffer = MatchResult result (λ n. Grows old new (WereRead (take n buffer) ∷ [])) (λ e. Grows old new [])
+LogsRead old new result buffer = MatchResult result (λ n. LogGrows old new (WereRead (take n buffer) ∷ [])) (λ e. LogGrows old new [])
 
 -- a write puts the bytes that it took in front, and one that fails nothing
 abbrev pub LogsWrite : {E : Type 0} → Option (List Transfer) → Option (List Transfer) → Result ℕ E → List ℕ → Type 0
-LogsWrite old new result piece = MatchResult result (λ n. Grows old new (WereWritten (take n piece) ∷ [])) (λ e. Grows old new [])
+LogsWrite old new result piece = MatchResult result (λ n. LogGrows old new (WereWritten (take n piece) ∷ [])) (λ e. LogGrows old new [])

@@ -1,15 +1,15 @@
 // Writing through a port.
 ghost use Rattle.std.specs.Prelude.{◌≡◌, ◌++◌, List, ℕ, OnOk, OnErr};
 ghost use Rattle.armus_base.specs.calls.Causes.{HasCause};
-ghost use Rattle.monitor.specs.Transfers.{AreWrites, Grows, Transfer, bytes_written};
+ghost use Rattle.monitor.specs.Transfers.{AreWrites, LogGrows, Transfer, bytes_written};
 
 use crate::Port;
 use armus_base::WriteFault;
 
 /// Writes all of the text. WriteFault comes only where the count of failed writes rose in this call; then some first bytes of the text were taken.
 pub(crate) fn write_all<P: Port>(port: &mut P, text: &[u8]) -> Result<(), WriteFault>
-    ensures ok { OnOk result ((log : List Transfer) × Grows (P.log port.old) (P.log port.new) log × AreWrites log × (bytes_written log ≡ text.now)) }
-    ensures err { OnErr result ((log : List Transfer) × (left : List ℕ) × Grows (P.log port.old) (P.log port.new) log × AreWrites log × (bytes_written log ++ left ≡ text.now)) }
+    ensures ok { OnOk result ((log : List Transfer) × LogGrows (P.log port.old) (P.log port.new) log × AreWrites log × (bytes_written log ≡ text.now)) }
+    ensures err { OnErr result ((log : List Transfer) × (left : List ℕ) × LogGrows (P.log port.old) (P.log port.new) log × AreWrites log × (bytes_written log ++ left ≡ text.now)) }
     ensures cause { HasCause (P.write_faults port.old) (P.write_faults port.new) result }
     ensures other { P.read_faults port.new ≡ P.read_faults port.old }
 {

@@ -71,10 +71,10 @@ IsNextRun was bytes run message =
     ⊎ ((was.stopped ≡ false) × (said : Option TraceLine) × SaysLine bytes said × IsHeard was said (first_fault was.state said) run message)
 
 -- these lines, the last first, lead here and call for this output
-abbrev pub IsRunOf : MonitorOptions → List (List ℕ) → MonitorRun → List ℕ → Type 0
-IsRunOf options [] run output = (run ≡ run_begun options) × (output ≡ [])
-IsRunOf options (bytes ∷ before) run output =
-    (was : MonitorRun) × (earlier message : List ℕ) × IsRunOf options before was earlier × IsNextRun was bytes run message × (output ≡ earlier ++ message)
+abbrev pub IsMonitorRunOf : MonitorOptions → List (List ℕ) → MonitorRun → List ℕ → Type 0
+IsMonitorRunOf options [] run output = (run ≡ run_begun options) × (output ≡ [])
+IsMonitorRunOf options (bytes ∷ before) run output =
+    (was : MonitorRun) × (earlier message : List ℕ) × IsMonitorRunOf options before was earlier × IsNextRun was bytes run message × (output ≡ earlier ++ message)
 
 -- somebody is kept waiting
 abbrev pub has_kept_waiting : TraceState → Bool

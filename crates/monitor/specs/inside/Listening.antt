@@ -1,8 +1,8 @@
 -- A listener in the midst of a trace.
 use Rattle.std.specs.Prelude.{◌≡◌, ℕ, List, ◌++◌, take}
 use Rattle.armus_base.specs.Causes.{counted}
-use Rattle.monitor_messages.specs.Runs.{IsRunOf, MonitorOptions, MonitorRun}
-use Rattle.monitor.specs.HeardLines.{AreLinesOf, called_lines}
+use Rattle.monitor_messages.specs.Runs.{IsMonitorRunOf, MonitorOptions, MonitorRun}
+use Rattle.monitor.specs.HeardLines.{AreHeardLines, called_lines}
 use Rattle.monitor.specs.Transfers.{Transfer, bytes_written}
 use Rattle.monitor.specs.declared.hearing.HearFault.{HearFault}
 use Rattle.monitor.specs.declared.hearing.HearFault.TheVariants.{NoMemory, WriteFailed}
@@ -16,8 +16,8 @@ pub record Heard : Type 0 where
 pub record IsListening (options : MonitorOptions) (bytes output : List ℕ) (heard : Heard) : Type 0 where
   pub lines : List (List ℕ)
   pub rest : List ℕ
-  pub cut : AreLinesOf bytes lines rest
-  pub leads : IsRunOf options (called_lines lines rest) heard.run output
+  pub cut : AreHeardLines bytes lines rest
+  pub leads : IsMonitorRunOf options (called_lines lines rest) heard.run output
   pub front : heard.line ≡ take 512 rest
 
 -- these bytes more lead from there to here, and call for this output more

@@ -21,14 +21,14 @@ RefusesWait after stuck u words =
     × (words ≡ message_line (codes "refuse " ++ u.name ++ codes ": " ++ sentence_words (codes " would wait for ") u because))
 
 -- the words that let t wait
-abbrev pub wait_words : List ℕ → List ℕ
-wait_words t = message_line (codes "wait " ++ t)
+abbrev pub may_wait_words : List ℕ → List ℕ
+may_wait_words t = message_line (codes "wait " ++ t)
 
 -- these bytes, which were appended, answer the wait of t, in the state behind it: it is refused, or t may wait
 abbrev pub AnswersWait : TraceState → List (ℕ × List ℕ) → List ℕ → List ℕ → List ℕ → (refuses : Bool) → Type 0
 AnswersWait after stuck t old new true =
     (u : Participant) × Contains after.list u × (is_stuck_as stuck t u ≡ true) × (words : List ℕ) × (new ≡ old ++ words) × RefusesWait after stuck u words
-AnswersWait after stuck t old new false = (list_any (is_stuck_as stuck t) after.list ≡ false) × (new ≡ old ++ wait_words t)
+AnswersWait after stuck t old new false = (list_any (is_stuck_as stuck t) after.list ≡ false) × (new ≡ old ++ may_wait_words t)
 
 -- the task stands where it was, at this place, and these bytes tell what changes by that
 abbrev pub StandsBack : TraceState → List ℕ → Option (List ℕ) → List (ℕ × List ℕ) → TraceState → List (ℕ × List ℕ) → List ℕ → List ℕ → Type 0

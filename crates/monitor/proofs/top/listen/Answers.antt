@@ -1,7 +1,7 @@
 use Rattle.std.proofs.Common.{rules, ◌≡◌, ◌∷◌, ◌++◌, [], List, ℕ, refl, sym, ◌∙◌, ap, subst, take}
 use Rattle.monitor_messages.specs.Runs.{MonitorOptions}
 use Rattle.monitor.specs.MonitorCalls.{EndsMonitored}
-use Rattle.monitor.specs.Transfers.{Grows, Transfer, WereRead}
+use Rattle.monitor.specs.Transfers.{LogGrows, Transfer, WereRead}
 use Rattle.monitor.specs.inside.Ending.{HasListened}
 use Rattle.monitor.specs.inside.Listening.{number_of_hear_fault}
 use Rattle.monitor.proofs.Calls.{ends_at_end, ends_at_fault, ends_uncounted, ends_unread, goes_on_behind, prompt_piece, stopped_early}
@@ -23,8 +23,8 @@ returns-in-Ok-eq0-clause-ends g c =
     let log = c.loop.invariant.1 in
     let writes = c.end_trace.ensures.ends in
     let none : c.in-Ok-eq0.field-0 ≡ 0 = search rules in
-    let ended : Grows (g.P.Port.log c.loop.port) (g.P.Port.log c.read.new.self) (WereRead [] ∷ []) =
-        subst (λ n. Grows (g.P.Port.log c.loop.port) (g.P.Port.log c.read.new.self) (WereRead (take n c.read.new.buf) ∷ [])) none c.in-Ok-eq0.ensures.log
+    let ended : LogGrows (g.P.Port.log c.loop.port) (g.P.Port.log c.read.new.self) (WereRead [] ∷ []) =
+        subst (λ n. LogGrows (g.P.Port.log c.loop.port) (g.P.Port.log c.read.new.self) (WereRead (take n c.read.new.buf) ∷ [])) none c.in-Ok-eq0.ensures.log
     in
     (
       writes.0 ++ WereRead [] ∷ log.0,

@@ -1,12 +1,12 @@
 use Rattle.std.proofs.Common.{◌≡◌, [], List}
 use Rattle.monitor_messages.specs.Runs.{MonitorOptions}
-use Rattle.monitor.specs.Transfers.{Grows, Transfer}
+use Rattle.monitor.specs.Transfers.{LogGrows, Transfer}
 use Rattle.monitor.specs.inside.Ending.{HasListened}
 use Rattle.monitor.proofs.top.listen.Given as goal
 
 abbrev pub invariant-loop : goal.invariant-loop
 invariant-loop g l =
     (l.out.items ≡ [])
-    × ((log : List Transfer) × Grows (g.P.Port.log l.initial.port) (g.P.Port.log l.port) log × ((options : MonitorOptions) → HasListened options [] l.initial.listener → HasListened options log l.listener))
+    × ((log : List Transfer) × LogGrows (g.P.Port.log l.initial.port) (g.P.Port.log l.port) log × ((options : MonitorOptions) → HasListened options [] l.initial.listener → HasListened options log l.listener))
     × (g.P.Port.read_faults l.port ≡ g.P.Port.read_faults l.initial.port)
     × (g.P.Port.write_faults l.port ≡ g.P.Port.write_faults l.initial.port)

@@ -1,11 +1,11 @@
 use Rattle.std.proofs.Common.{◌≡◌, ◌≤◌, ◌-◌, List, length, take}
-use Rattle.monitor.specs.Transfers.{AreWrites, Grows, Transfer, bytes_written}
+use Rattle.monitor.specs.Transfers.{AreWrites, LogGrows, Transfer, bytes_written}
 use Rattle.monitor.proofs.writing.write_all.Given as goal
 
 abbrev pub invariant-loop-at : goal.invariant-loop-at
 invariant-loop-at g l =
     (l.at ≤ length l.text)
-    × ((log : List Transfer) × Grows (g.P.Port.log l.initial.port) (g.P.Port.log l.port) log × AreWrites log × (bytes_written log ≡ take l.at l.text))
+    × ((log : List Transfer) × LogGrows (g.P.Port.log l.initial.port) (g.P.Port.log l.port) log × AreWrites log × (bytes_written log ≡ take l.at l.text))
     × (g.P.Port.write_faults l.port ≡ g.P.Port.write_faults l.initial.port)
     × (g.P.Port.read_faults l.port ≡ g.P.Port.read_faults l.initial.port)
 

@@ -9,7 +9,7 @@ use Rattle.monitor_search.specs.Known.{AreStuckTasks}
 use Rattle.monitor_state.specs.Taking.{taken_state}
 use Rattle.monitor_state.specs.Values.{fault_of_line}
 use Rattle.monitor_messages.specs.inside.Changes.{IsKnownBefore, TellsChange}
-use Rattle.monitor_messages.specs.inside.Guarded.{AnswersWait, wait_words}
+use Rattle.monitor_messages.specs.inside.Guarded.{AnswersWait, may_wait_words}
 use Rattle.monitor_messages.specs.inside.Taken.{IsTaken}
 use Rattle.monitor_messages.proofs.Guarded.{taken_refused, taken_waiting}
 use Rattle.monitor_messages.proofs.TakenLines.{lawful_on, leads_on}
@@ -108,7 +108,7 @@ returns c =
     let old = c.args.out.now.items in
     let mid = c.told_by.new.out.items in
     let new = c.extend_from_slice-2.new.self.items in
-    let wrote = c.in_ok-extend_from_slice-2.ensures.items ∙ ap (λ x. mid ++ x) (c.deref-2.ensures.value ∙ answers.1 ∙ ap (λ x. x ++ wait_words t) c.new-answer.ensures.items) in
+    let wrote = c.in_ok-extend_from_slice-2.ensures.items ∙ ap (λ x. mid ++ x) (c.deref-2.ensures.value ∙ answers.1 ∙ ap (λ x. x ++ may_wait_words t) c.new-answer.ensures.items) in
     let change = subst (λ x. TellsChange s x was after c.in_ok-stuck-2.stuck old mid c.in_ok-stuck-2.told) is told.1 in
     let taken = taken_waiting s t p n place was after judged known_wait are c.in_ok-stuck-2.stuck old mid new c.in_ok-stuck-2.told legal_wait answers.0 told.0 change wrote in
     let taken_line = subst (λ x. IsTaken true s x after old new (Ok c.in_ok-stuck-2.told)) (sym is) taken in
