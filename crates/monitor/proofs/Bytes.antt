@@ -43,7 +43,7 @@ no_end_more (r ∷ rest) b none other =
     let parts = or_parts (r == 10) (has_line_end rest) none in
     ap (λ x. x || has_line_end (rest ++ b ∷ [])) parts.0 ∙ no_end_more rest b parts.1 other
 
-cut_more : (bytes : List ℕ) (lines : List (List ℕ)) (rest : List ℕ) (b : ℕ) → AreHeardLines bytes lines rest → (b == 10) ≡ false → AreHeardLines (bytes ++ b ∷ []) lines (rest ++ b ∷ [])
+pub cut_more : (bytes : List ℕ) (lines : List (List ℕ)) (rest : List ℕ) (b : ℕ) → AreHeardLines bytes lines rest → (b == 10) ≡ false → AreHeardLines (bytes ++ b ∷ []) lines (rest ++ b ∷ [])
 cut_more bytes lines rest b cut other = record {
   are = ap (λ l. l ++ b ∷ []) cut.are ∙ append_assoc (ended_lines lines) rest (b ∷ []);
   whole = cut.whole;
@@ -51,10 +51,10 @@ cut_more bytes lines rest b cut other = record {
 }
 
 -- the LF of a line
-cut_end : (bytes : List ℕ) (lines : List (List ℕ)) (rest : List ℕ) → AreHeardLines bytes lines rest → AreHeardLines (bytes ++ 10 ∷ []) (rest ∷ lines) []
+pub cut_end : (bytes : List ℕ) (lines : List (List ℕ)) (rest : List ℕ) → AreHeardLines bytes lines rest → AreHeardLines (bytes ++ 10 ∷ []) (rest ∷ lines) []
 cut_end bytes lines rest cut = record {
   are = ap (λ l. l ++ 10 ∷ []) cut.are ∙ sym (append-nil (ended_lines (rest ∷ lines)));
-  whole = λ line there. elim (Contains-cons_cases rest lines line there) [ | inl is ↦ subst (λ l. has_line_end l ≡ false) is cut.open_end | inr t ↦ cut.whole line t ];
+  whole = λ line there. elim (Contains-cons_cases rest lines line there) [ inl is ↦ subst (λ l. has_line_end l ≡ false) is cut.open_end | inr t ↦ cut.whole line t ];
   open_end = refl;
 }
 
@@ -79,15 +79,14 @@ end_heard options bytes output h run message l short next =
       lines = l.rest ∷ l.lines;
       rest = [];
       cut = cut_end bytes l.lines l.rest l.cut;
-      leads =
-          (
-            h.run,
-            output,
-            message,
-            subst (λ lines. IsMonitorRunOf options lines h.run output) (called_short l.lines l.rest kept.1) l.leads,
-            subst (λ line. IsNextRun h.run line run message) kept.0 next,
-            refl,
-          );
+      leads = (
+        h.run,
+        output,
+        message,
+        subst (λ lines. IsMonitorRunOf options lines h.run output) (called_short l.lines l.rest kept.1) l.leads,
+        subst (λ line. IsNextRun h.run line run message) kept.0 next,
+        refl,
+      );
       front = refl;
     }
 
@@ -131,8 +130,7 @@ byte_too_many options bytes output h b more run message is l other full next =
       rest = l.rest ++ b ∷ [];
       cut = cut_more bytes l.lines l.rest b l.cut other;
       leads =
-          subst (λ lines. IsMonitorRunOf options lines run (output ++ message)) (sym (called_long l.lines (l.rest ++ b ∷ []) (omega arith)))
-          (
+          subst (λ lines. IsMonitorRunOf options lines run (output ++ message)) (sym (called_long l.lines (l.rest ++ b ∷ []) (omega arith))) (
             h.run,
             output,
             message,
@@ -232,8 +230,7 @@ end_behind_rest options bytes output h run message l some short next =
       rest = l.rest;
       cut = l.cut;
       leads =
-          subst (λ lines. IsMonitorRunOf options lines run (output ++ message)) (sym (all_behind l.lines l.rest (omega arith)))
-          (
+          subst (λ lines. IsMonitorRunOf options lines run (output ++ message)) (sym (all_behind l.lines l.rest (omega arith))) (
             h.run,
             output,
             message,
