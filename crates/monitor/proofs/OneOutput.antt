@@ -6,12 +6,12 @@ use Rattle.monitor_words.proofs.OneMessage.{one_test}
 use Rattle.monitor_messages.specs.Runs.{IsMonitorRunOf, MonitorOptions, MonitorRun, ended_status}
 use Rattle.monitor_messages.proofs.OneRun.{has_one_run}
 use Rattle.monitor.specs.HeardLines.{all_lines, called_lines}
-use Rattle.monitor.specs.Laws.{HasOneLastOutput, HasOneOutput, HasOneWholeOutput}
+use Rattle.monitor.specs.Laws.{HasOneLastOutput, HasOneHeardOutput, HasOneWholeOutput}
 use Rattle.monitor.specs.MonitorCalls.{IsLastFaultOutput, IsWholeOutput}
 use Rattle.monitor.proofs.Cuts.{has_one_cut}
 
-pub has_one_output : HasOneOutput
-has_one_output options bytes one other first second a b =
+pub has_one_heard_output : HasOneHeardOutput
+has_one_heard_output options bytes one other first second a b =
     let cut = has_one_cut bytes a.lines b.lines a.rest b.rest a.cut b.cut in
     has_one_run options (called_lines a.lines a.rest) one other first second a.leads
     (subst (λ x. IsMonitorRunOf options (called_lines x a.rest) other second) (sym cut.0)

@@ -15,8 +15,8 @@ HasOneCut =
     (lines ≡ others) × (rest ≡ more)
 
 -- bytes, behind which the trace goes on, lead to one run and call for one output
-abbrev pub HasOneOutput : Type 0
-HasOneOutput =
+abbrev pub HasOneHeardOutput : Type 0
+HasOneHeardOutput =
     (options : MonitorOptions) (bytes : List ℕ) (one other : MonitorRun) (first second : List ℕ) → HasHeard options bytes one first →
     HasHeard options bytes other second → (one ≡ other) × (first ≡ second)
 

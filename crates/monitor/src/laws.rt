@@ -1,5 +1,5 @@
 // Laws of what traces call for.
-ghost use Rattle.monitor.specs.Laws.{HasOneCut, HasOneLastOutput, HasOneOutput, HasOneWholeOutput, HasSomeCut};
+ghost use Rattle.monitor.specs.Laws.{HasOneCut, HasOneLastOutput, HasOneHeardOutput, HasOneWholeOutput, HasSomeCut};
 
 /// Bytes are cut into lines in just one way.
 pub fn one_cut()
@@ -8,8 +8,8 @@ pub fn one_cut()
 {}
 
 /// Bytes call for one output and lead to one run, whether the trace goes on behind them or ends.
-pub fn one_output()
-    ensures going_on { HasOneOutput }
+pub fn one_heard_output()
+    ensures going_on { HasOneHeardOutput }
     ensures at_end { HasOneLastOutput }
 {}
 

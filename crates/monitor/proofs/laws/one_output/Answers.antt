@@ -1,5 +1,0 @@
-use Rattle.monitor.proofs.laws.one_output.Goals as goal
-use Rattle.monitor.proofs.OneOutput.{has_one_last_output, has_one_output}
-
-pub returns : goal.returns
-returns c = record { going_on = has_one_output; at_end = has_one_last_output }
