@@ -18,6 +18,7 @@ use Rattle.monitor_words.proofs.OneMessage.{has_one_message, has_one_reason, one
 use Rattle.monitor_messages.specs.Laws.{HasOneRun}
 use Rattle.monitor_messages.specs.Runs.{IsHeard, IsMessageOf, IsMonitorRunOf, IsNextRun, IsTakenLine, MonitorOptions, MonitorRun, SaysLine, TellsSomebody}
 use Rattle.monitor_messages.proofs.Guarded.{speaker}
+use Rattle.monitor_messages.proofs.WaitsNewly.{same_tests}
 
 -- bytes say one line, or none
 pub one_said : (bytes : List ℕ) (said too : Option TraceLine) → SaysLine bytes said → SaysLine bytes too → said ≡ too
@@ -25,11 +26,6 @@ one_said bytes None None one other = refl
 one_said bytes None (Some m) one other = absurd (one m other)
 one_said bytes (Some l) None one other = absurd (other l one)
 one_said bytes (Some l) (Some m) one other = ap Some (one_line bytes l m one other)
-
-same_bool : (x y : Bool) → (x ≡ true → y ≡ true) → (y ≡ true → x ≡ true) → x ≡ y
-same_bool true y to from = sym (to refl)
-same_bool false true to from = from refl
-same_bool false false to from = refl
 
 -- a refused wait is of one task
 one_refused : (h : List TraceLine) (l : TraceLine) (one other : IsRefusedWait (after_lines h) l) → one.task ≡ other.task
@@ -98,7 +94,7 @@ one_taken_line was h at l one other first second a b =
     (subst (λ s. IsMessageOf was.options.guards s l a.taken first) at a.says) (subst (λ s. IsMessageOf was.options.guards s l b.taken second) at b.says) in
     let state : one.state ≡ other.state = a.state ∙ ap (after_line was.state) both.0 ∙ sym b.state in
     let b_told = subst (λ x. (other.told ≡ true) ↔ ((was.told ≡ true) ⊎ TellsSomebody was.options.guards was.state l x)) (sym both.0) b.told in
-    let told : one.told ≡ other.told = same_bool one.told other.told (λ e. b_told.1 (a.told.0 e)) (λ e. a.told.1 (b_told.0 e)) in (
+    let told : one.told ≡ other.told = same_tests one.told other.told (λ e. b_told.1 (a.told.0 e)) (λ e. a.told.1 (b_told.0 e)) in (
       a.others
           ∙ ap (λ x. record was { state = x; lines = was.lines + 1; told = one.told }) state
           ∙ ap (λ x. record was { state = other.state; lines = was.lines + 1; told = x }) told

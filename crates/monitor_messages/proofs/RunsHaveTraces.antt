@@ -1,5 +1,5 @@
 -- A run is of a legal trace.
-use Rattle.std.proofs.Common.{◌≡◌, ℕ, Bool, true, false, Some, None, Option, List, [], ◌∷◌, refl, sym, ◌∙◌, ap, subst, inl, inr}
+use Rattle.std.proofs.Common.{◌≡◌, ℕ, Bool, true, false, Some, None, Option, List, [], ◌∷◌, refl, sym, ◌∙◌, ap, subst, inl, inr, ◌⊎◌}
 use Rattle.std.specs.List.{slice_get}
 use Rattle.monitor_laws.specs.Faults.{LineFault, faults_of, first_fault}
 use Rattle.monitor_laws.specs.Guards.{IsGuarded, IsTakenAs}
@@ -7,8 +7,9 @@ use Rattle.monitor_laws.specs.Lines.{TraceLine}
 use Rattle.monitor_laws.specs.States.{after_line, after_lines}
 use Rattle.monitor_laws.specs.Traces.{IsLegalTrace}
 use Rattle.monitor_laws.proofs.Guarding.{guarded_is_legal}
-use Rattle.monitor_messages.specs.Laws.{IsTraceOf, RunsHaveTraces}
+use Rattle.monitor_messages.specs.Laws.{HasOneTrace, IsLeftOut, IsTraceLineOf, IsTraceOf, RunsHaveTraces}
 use Rattle.monitor_messages.specs.Runs.{IsHeard, IsMessageOf, IsMonitorRunOf, IsNextRun, MonitorOptions, MonitorRun, SaysLine}
+use Rattle.monitor_messages.proofs.OneRun.{has_one_run, one_said}
 
 no_first : (faults : List LineFault) → slice_get faults 0 ≡ None → faults ≡ []
 no_first [] none = refl
@@ -79,3 +80,33 @@ pub runs_have_traces : RunsHaveTraces
 runs_have_traces options lines run output leads =
     let trace = has_trace options lines run output leads in
     (trace.0, trace.1, trace.2, trace.3, trace.4.0, trace.4.1, trace.4.2)
+
+-- what is left out says no line of the trace
+not_both : (was : MonitorRun) (bytes : List ℕ) (l : TraceLine) → IsLeftOut was bytes → IsTraceLineOf was bytes l → ⊥
+not_both was bytes l (inl stopped) (on, says, legal) = let e : true ≡ false = sym stopped ∙ on in cc
+not_both was bytes l (inr (said, fault, tells, found)) (on, says, legal) =
+    let same : said ≡ Some l = one_said bytes said (Some l) tells says in
+    let e : None ≡ Some fault = sym (ap (λ rows. slice_get rows 0) legal) ∙ ap (first_fault was.state) (sym same) ∙ found in
+    cc
+
+pub has_one_trace : HasOneTrace
+has_one_trace options [] all other one also = one ∙ sym also
+has_one_trace options (bytes ∷ before) all other (was, earlier, leads, one) (too, former, comes, also) =
+    by_cases (has_one_trace options before) one (subst IsRest (sym (has_one_run options before was too earlier former leads comes).0) also)
+  where
+    IsRest : MonitorRun → Type 0
+    IsRest x =
+        (IsLeftOut x bytes × IsTraceOf options before other)
+        ⊎ ((l : TraceLine) × (others : List TraceLine) × IsTraceLineOf x bytes l × IsTraceOf options before others × (other ≡ l ∷ others))
+
+    by_cases :
+        ((a b : List TraceLine) → IsTraceOf options before a → IsTraceOf options before b → a ≡ b) → (IsLeftOut was bytes × IsTraceOf options before all)
+        ⊎ ((l : TraceLine) × (others : List TraceLine) × IsTraceLineOf was bytes l × IsTraceOf options before others × (all ≡ l ∷ others)) →
+        IsRest was → all ≡ other
+    by_cases before_one (inl a) (inl b) = before_one all other a.1 b.1
+    by_cases before_one (inl a) (inr b) = absurd (not_both was bytes b.0 a.0 b.2)
+    by_cases before_one (inr a) (inl b) = absurd (not_both was bytes a.0 b.0 a.2)
+    by_cases before_one (inr (l, rest, is, trace, all_is)) (inr (m, more, so, goes, other_is)) =
+        let line : Some l ≡ Some m = one_said bytes (Some l) (Some m) is.1 so.1 in
+        let same : l ≡ m = cc in
+        all_is ∙ ap (λ x. x ∷ rest) same ∙ ap (λ x. m ∷ x) (before_one rest more trace goes) ∙ sym other_is

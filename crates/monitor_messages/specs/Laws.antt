@@ -37,3 +37,8 @@ RunsHaveTraces =
     (options : MonitorOptions) (lines : List (List ℕ)) (run : MonitorRun) (output : List ℕ) → IsMonitorRunOf options lines run output →
     (all : List TraceLine) × (h : List TraceLine) × IsTraceOf options lines all × (run.state ≡ after_lines h) × IsLegalTrace h
     × (options.guards ≡ false → all ≡ h) × (options.guards ≡ true → IsGuarded all h)
+
+-- lines of bytes have one trace
+abbrev pub HasOneTrace : Type 0
+HasOneTrace =
+    (options : MonitorOptions) (lines : List (List ℕ)) (all other : List TraceLine) → IsTraceOf options lines all → IsTraceOf options lines other → all ≡ other

@@ -1,12 +1,13 @@
 // Laws of runs.
-ghost use Rattle.monitor_messages.specs.Laws.{HasOneRun, RunsHaveTraces};
+ghost use Rattle.monitor_messages.specs.Laws.{HasOneRun, HasOneTrace, RunsHaveTraces};
 
 /// Lines lead to one run and call for one output.
 pub fn one_run()
     ensures { HasOneRun }
 {}
 
-/// A run is of a legal trace, so what holds of traces holds of its state.
+/// A run is of just one trace, and of what stands of it, which is legal; so what holds of traces holds of its state.
 pub fn runs_have_traces()
-    ensures { RunsHaveTraces }
+    ensures some { RunsHaveTraces }
+    ensures one { HasOneTrace }
 {}

@@ -1,5 +1,5 @@
 use Rattle.monitor_messages.proofs.laws.runs_have_traces.Goals as goal
-use Rattle.monitor_messages.proofs.RunsHaveTraces.{runs_have_traces}
+use Rattle.monitor_messages.proofs.RunsHaveTraces.{has_one_trace, runs_have_traces}
 
 pub returns : goal.returns
-returns c = runs_have_traces
+returns c = record { some = runs_have_traces; one = has_one_trace }
