@@ -100,7 +100,7 @@ module _ (s : TraceState) (t p : List ℕ) (n : ℕ) (place : Option (List ℕ))
       let there = waits_there r.task stuck name in
       let number = (are.tells r.task.number).1 (r.task, stuck, refl) in
       let e : list_any (is_stuck_as judged t) after.list ≡ true =
-          any_from (is_stuck_as judged t) after.list r.task stuck.listed (and_from (is_there_as t r.task) (has_stuck_number judged r.task.number) there number)
+      any_from (is_stuck_as judged t) after.list r.task stuck.listed (and_from (is_there_as t r.task) (has_stuck_number judged r.task.number) there number)
       in
       absurd (let f : true ≡ false = sym e ∙ none in cc)
 
@@ -120,8 +120,7 @@ module _ (s : TraceState) (t p : List ℕ) (n : ℕ) (place : Option (List ℕ))
       }
       in
       let named : l ≡ Announces u.name Stands place = ap (λ x. Announces x Stands place) (name_is t u (and_parts (is_there_as t u) (has_stuck_number judged u.number) is).0) in
-      let guarded : IsGuardedMessage s wait (m.0 ++ words) = record { taken = l; stands = inl (refused, named); told = m.0; answer = words; tells = m.1; answers = inl answer; is = refl } in
-      (
+      let guarded : IsGuardedMessage s wait (m.0 ++ words) = record { taken = l; stands = inl (refused, named); told = m.0; answer = words; tells = m.1; answers = inl answer; is = refl } in (
         legal,
         (l, m.0 ++ words, (guarded, refl), stands.0.leads, wrote ∙ ap (λ x. x ++ words) m.2 ∙ append_assoc old m.0 words, ((λ e. inr refused), λ either. refl)),
       )
@@ -140,8 +139,7 @@ module _ (s : TraceState) (t p : List ℕ) (n : ℕ) (place : Option (List ℕ))
         answers = inr (inl (t, (p, n, place, refl), passes, refl));
         is = refl;
       }
-      in
-      (
+      in (
         legal,
         (
           wait,

@@ -148,8 +148,7 @@ module _ (s : TraceState) (lawful : IsLawfulState s) (t p : List ℕ) (n : ℕ) 
     | inl old ↦ let f = any_is (is_there_as t) s.list old in (f.0, in_named s t f.0 f.1, f.2)
     | inr none ↦
         let new = new_participant s.named t in
-        let more : TraceState = record { list = s.list ++ new ∷ []; named = s.named + 1 } in
-        (
+        let more : TraceState = record { list = s.list ++ new ∷ []; named = s.named + 1 } in (
           new,
           subst (λ (x : TraceState). Contains x.list new) (sym (cond-false (list_any (is_there_as t) s.list) s more none)) (Contains-append_right s.list (new ∷ []) new (Contains-head new [])),
           (bytes_eq-Decides t t).1 refl,
@@ -159,8 +158,7 @@ module _ (s : TraceState) (lawful : IsLawfulState s) (t p : List ℕ) (n : ℕ) 
   waits_after : (u : Participant) × Contains after.list u × (is_there_as t u ≡ true) × (u.condition ≡ Waiting p n)
   waits_after =
       let f = somebody_named in
-      let is = there_is t waiting f.0 f.2 in
-      (
+      let is = there_is t waiting f.0 f.2 in (
         waiting f.0,
         subst (λ x. Contains after.list x) is (in_change (changed_there t waiting) named f.0 f.1 (ap stays_listed is ∙ waiting_stays f.0)),
         waiting_there f.0 f.2,

@@ -32,9 +32,8 @@ message_is s l was stuck after old mid new told known behind change asks =
     let words = change.0 in
     let asked = asked_words after (has_stuck_number stuck) l in
     let whole : new ≡ old ++ (resolved ++ words ++ asked) =
-        asks ∙ ap (λ m. m ++ asked) change.2 ∙ append_assoc old (resolved ++ words) asked
-    in
-    (
+    asks ∙ ap (λ m. m ++ asked) change.2 ∙ append_assoc old (resolved ++ words) asked
+    in (
       resolved ++ words ++ asked,
       record {
         was = has_stuck_number was;

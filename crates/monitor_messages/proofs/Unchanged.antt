@@ -27,9 +27,8 @@ pub same_told : (s : TraceState) (l : TraceLine) (was : List (ℕ × List ℕ)) 
 same_told s l was after old known behind =
     let stuck = has_stuck_number was in
     let silent : old ≡ old ++ (resolved_words (those_only_in s stuck stuck) ++ []) =
-        sym (ap (λ us. old ++ (resolved_words us ++ [])) (nobody_only s stuck) ∙ append-nil old)
-    in
-    (
+    sym (ap (λ us. old ++ (resolved_words us ++ [])) (nobody_only s stuck) ∙ append-nil old)
+    in (
       [],
       subst (λ us. IsToldOf s after stuck stuck us []) (sym (nobody_only after stuck)) refl,
       silent,

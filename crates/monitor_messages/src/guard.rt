@@ -21,8 +21,6 @@ use std::alloc::Global;
 use std::mem;
 use trace_lines::{Announcement, TraceLine};
 
-
-
 // The place in the list of a stuck task that is there with the name t.
 fn stuck_place(list: &[ListedParticipant], stuck: &StuckTasks, t: &[u8]) -> Option<usize>
     ensures at { IfSome result (λ i. (i < length list.now) × (is_stuck_as stuck.now t.now (participant_at list.now i) ≡ true)) }

@@ -57,7 +57,7 @@ returns-then-branch c =
     let legal_wait : first_fault s (Some wait) ≡ None = subst (λ x. first_fault s (Some x) ≡ None) is legal in
     let stands = c.in_ok-stuck.ensures s p n known_wait in
     let answers : AnswersWait after judged t c.new-answer.result.items c.put_wait_answer.new.out.items true =
-        subst (AnswersWait after judged t c.new-answer.result.items c.put_wait_answer.new.out.items) c.if-branch.true c.in_ok-put_wait_answer.ensures
+    subst (AnswersWait after judged t c.new-answer.result.items c.put_wait_answer.new.out.items) c.if-branch.true c.in_ok-put_wait_answer.ensures
     in
     let words = answers.3 in
     let old = c.args.out.now.items in
@@ -103,7 +103,7 @@ returns c =
     let legal_wait : first_fault s (Some wait) ≡ None = subst (λ x. first_fault s (Some x) ≡ None) is legal in
     let told = c.in_ok-stuck-2.ensures s known in
     let answers : AnswersWait after judged t c.new-answer.result.items c.put_wait_answer.new.out.items false =
-        subst (AnswersWait after judged t c.new-answer.result.items c.put_wait_answer.new.out.items) c.if-branch.false c.in_ok-put_wait_answer.ensures
+    subst (AnswersWait after judged t c.new-answer.result.items c.put_wait_answer.new.out.items) c.if-branch.false c.in_ok-put_wait_answer.ensures
     in
     let old = c.args.out.now.items in
     let mid = c.told_by.new.out.items in
