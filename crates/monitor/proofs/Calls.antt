@@ -87,18 +87,17 @@ part_heard : (options : MonitorOptions) (log writes : List Transfer) (bytes left
 part_heard options log writes bytes left old so_far are stops =
     let l = stops.hears options (bytes_read log) (bytes_written log) so_far.listening in
     let heard : HasHeard options (bytes_read log ++ stops.front) stops.between.run (bytes_written log ++ (bytes_written writes ++ left)) =
-        record { lines = l.lines; rest = l.rest; cut = l.cut; leads = l.leads }
+    record { lines = l.lines; rest = l.rest; cut = l.cut; leads = l.leads }
     in
     record {
-      part =
-          (
-            bytes_read log ++ stops.front,
-            stops.behind,
-            stops.between.run,
-            read_then writes log bytes are ∙ ap (λ b. bytes_read log ++ b) stops.piece_is ∙ sym (append_assoc (bytes_read log) stops.front stops.behind),
-            subst (HasHeard options (bytes_read log ++ stops.front) stops.between.run)
+      part = (
+        bytes_read log ++ stops.front,
+        stops.behind,
+        stops.between.run,
+        read_then writes log bytes are ∙ ap (λ b. bytes_read log ++ b) stops.piece_is ∙ sym (append_assoc (bytes_read log) stops.front stops.behind),
+        subst (HasHeard options (bytes_read log ++ stops.front) stops.between.run)
             (sym (append_assoc (bytes_written log) (bytes_written writes) left) ∙ ap (λ w. w ++ left) (sym (written_then writes log bytes))) heard,
-          );
+      );
     }
 
 ends_unwritten : (options : MonitorOptions) (log writes : List Transfer) (bytes left : List ℕ) (old : Heard) → HasListened options log old → AreWrites writes → StopsHearing old bytes writes left → EndsMonitored options (writes ++ WereRead bytes ∷ log) 5
@@ -108,7 +107,7 @@ ends_without_memory : (options : MonitorOptions) (log writes : List Transfer) (b
 ends_without_memory options log writes bytes left old so_far are stops none =
     let part = (part_heard options log writes bytes left old so_far are stops).part in
     let all : bytes_written (writes ++ WereRead bytes ∷ log) ++ left ≡ bytes_written (writes ++ WereRead bytes ∷ log) =
-        ap (λ l. bytes_written (writes ++ WereRead bytes ∷ log) ++ l) none ∙ append-nil (bytes_written (writes ++ WereRead bytes ∷ log))
+    ap (λ l. bytes_written (writes ++ WereRead bytes ∷ log) ++ l) none ∙ append-nil (bytes_written (writes ++ WereRead bytes ∷ log))
     in
     no_memory refl (part.0, part.1, part.2, part.3, subst (HasHeard options part.0 part.2) all part.4)
 
@@ -144,8 +143,7 @@ ends_at_end options log writes old status so_far are (inr (inl (is, left, whole,
 ends_at_end options log writes old status so_far are (inr (inr (is, none))) =
     let calls = calls_so_far options log old so_far in
     let silent : bytes_written (writes ++ WereRead [] ∷ log) ≡ bytes_written log = written_then writes log [] ∙ ap (λ w. bytes_written log ++ w) none ∙ append-nil (bytes_written log) in
-    no_memory is
-    (
+    no_memory is (
       bytes_read log,
       [],
       calls.0,

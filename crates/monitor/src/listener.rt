@@ -57,7 +57,12 @@ impl Listener {
     }
 
     /// Hears one more byte, and appends the message that it calls for.
-    pub(crate) fn hear_byte(&mut self, alloc: Global, out: &mut Vec<u8>, byte: u8) -> Result<(), NoMemory>
+    pub(crate) fn hear_byte(
+        &mut self,
+        alloc: Global,
+        out: &mut Vec<u8>,
+        byte: u8,
+    ) -> Result<(), NoMemory>
         ensures { OnOk result ((message : List ℕ) × (out.new.items ≡ out.old.items ++ message) × HearsBytes self.old (byte ∷ []) message self.new) }
     {
         if byte == b'\n' {

@@ -10,8 +10,7 @@ returns-in-Err-clause-ends g c = ([], grows_none _, tt, inr (inr (refl, refl)))
 pub returns-in-Err-write_all-clause-ends : goal.returns-in-Err-write_all-clause-ends
 returns-in-Err-write_all-clause-ends g c =
     let words = c.in-Ok.ensures.words in
-    let log = c.in-Err-write_all.ensures.err in
-    (
+    let log = c.in-Err-write_all.ensures.err in (
       log.0,
       log.2,
       log.3,

@@ -17,10 +17,9 @@ returns-clause-words c =
     let h = c.in_ok-hear_end.ensures in
     let r = c.in_ok-put_report.ensures in
     let run = c.monitor-monitor.result.now in
-    let is : run ≡ c.hear_end.new.self.run = c.monitor-monitor.ensures in
-    (
+    let is : run ≡ c.hear_end.new.self.run = c.monitor-monitor.ensures in (
       h.0 ++ report_words run.state r.0,
       r.2 ∙ ap (λ l. l ++ report_words run.state r.0) h.1 ∙ append_assoc c.args.out.now.items h.0 (report_words run.state r.0),
       λ options bytes earlier l. whole_output options bytes earlier h.0 run r.0 _
-      (subst (λ (x : MonitorRun). HasHeardAll options bytes x (earlier ++ h.0)) (sym is) (h.2 options bytes earlier l)) (search rules) r.1 c.ended_status.ensures.ended,
+          (subst (λ (x : MonitorRun). HasHeardAll options bytes x (earlier ++ h.0)) (sym is) (h.2 options bytes earlier l)) (search rules) r.1 c.ended_status.ensures.ended,
     )

@@ -15,15 +15,14 @@ loop-byte-preserved g c =
     let heard = c.in_default.ensures in
     let wrote = c.in_default-write_called.ensures.ok in
     let i = c.loop-byte.byte-index in
-    let piece = c.args.piece.now in
-    (
+    let piece = c.args.piece.now in (
       c.in_default-write_called.ensures.done,
       (
         wrote.0 ++ log.0,
         grows_more _ _ _ log.0 wrote.0 log.1 wrote.1,
         writes_more wrote.0 log.0 wrote.2 log.2,
         one_more_byte c.args.listener.now c.loop-byte.listener c.hear_byte.new.self piece i (get_or piece i 0) log.0 wrote.0 heard.0 c.loop-byte-test.true
-        (sym (get_or_default_zero piece i (get_or piece i 0) c.loop-byte-test.true)) log.3 heard.2 (wrote.3 ∙ heard.1 ∙ ap (λ l. l ++ heard.0) c.loop-byte.invariant.0),
+            (sym (get_or_default_zero piece i (get_or piece i 0) c.loop-byte-test.true)) log.3 heard.2 (wrote.3 ∙ heard.1 ∙ ap (λ l. l ++ heard.0) c.loop-byte.invariant.0),
       ),
       c.in_default-write_called.ensures.fine ∙ c.loop-byte.invariant.2,
       c.in_default-write_called.ensures.other ∙ c.loop-byte.invariant.3,
@@ -46,13 +45,12 @@ returns-in-Err-write_called-clause-err g c =
     let heard = c.in_default.ensures in
     let wrote = c.in-Err-write_called.ensures.err in
     let i = c.loop-byte.byte-index in
-    let piece = c.args.piece.now in
-    (
+    let piece = c.args.piece.now in (
       wrote.0 ++ log.0,
       wrote.1,
       grows_more _ _ _ log.0 wrote.0 log.1 wrote.2,
       writes_more wrote.0 log.0 wrote.3 log.2,
       stops_in_byte c.args.listener.now c.loop-byte.listener c.hear_byte.new.self piece i (get_or piece i 0) log.0 wrote.0 wrote.1 heard.0 c.loop-byte-test.true
-      (sym (get_or_default_zero piece i (get_or piece i 0) c.loop-byte-test.true)) log.3 heard.2 (wrote.4 ∙ heard.1 ∙ ap (λ l. l ++ heard.0) c.loop-byte.invariant.0),
+          (sym (get_or_default_zero piece i (get_or piece i 0) c.loop-byte-test.true)) log.3 heard.2 (wrote.4 ∙ heard.1 ∙ ap (λ l. l ++ heard.0) c.loop-byte.invariant.0),
       λ e. absurd (let f = wrote.5 in cc),
     )

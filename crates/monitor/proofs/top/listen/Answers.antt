@@ -13,10 +13,13 @@ loop-init g c = (c.requires.out, ([], grows_none _, λ options so_far. so_far), 
 
 pub returns-in-Err-clause-ends : goal.returns-in-Err-clause-ends
 returns-in-Err-clause-ends g c =
-    let log = c.loop.invariant.1 in
-    (log.0, grows_more _ _ _ log.0 [] log.1 c.in-Err.ensures.log, λ options begins.
-      let so_far = log.2 options begins in
-      (so_far.prompt, ends_unread options log.0 c.loop.listener so_far))
+    let log = c.loop.invariant.1 in (
+      log.0,
+      grows_more _ _ _ log.0 [] log.1 c.in-Err.ensures.log,
+      λ options begins.
+          let so_far = log.2 options begins in
+          (so_far.prompt, ends_unread options log.0 c.loop.listener so_far),
+    )
 
 pub returns-in-Ok-eq0-clause-ends : goal.returns-in-Ok-eq0-clause-ends
 returns-in-Ok-eq0-clause-ends g c =
@@ -24,54 +27,48 @@ returns-in-Ok-eq0-clause-ends g c =
     let writes = c.end_trace.ensures.ends in
     let none : c.in-Ok-eq0.field-0 ≡ 0 = search rules in
     let ended : LogGrows (g.P.Port.log c.loop.port) (g.P.Port.log c.read.new.self) (WereRead [] ∷ []) =
-        subst (λ n. LogGrows (g.P.Port.log c.loop.port) (g.P.Port.log c.read.new.self) (WereRead (take n c.read.new.buf) ∷ [])) none c.in-Ok-eq0.ensures.log
-    in
-    (
+    subst (λ n. LogGrows (g.P.Port.log c.loop.port) (g.P.Port.log c.read.new.self) (WereRead (take n c.read.new.buf) ∷ [])) none c.in-Ok-eq0.ensures.log
+    in (
       writes.0 ++ WereRead [] ∷ log.0,
       grows_more _ _ _ (WereRead [] ∷ log.0) writes.0 (grows_more _ _ _ log.0 (WereRead [] ∷ []) log.1 ended) writes.1,
       λ options begins.
-      let so_far = log.2 options begins in
-      (prompt_piece options log.0 writes.0 [] c.loop.listener so_far writes.2, ends_at_end options log.0 writes.0 c.loop.listener _ so_far writes.2 writes.3),
+          let so_far = log.2 options begins in
+          (prompt_piece options log.0 writes.0 [] c.loop.listener so_far writes.2, ends_at_end options log.0 writes.0 c.loop.listener _ so_far writes.2 writes.3),
     )
 
 pub returns-in-Err-hear_piece-clause-ends : goal.returns-in-Err-hear_piece-clause-ends
 returns-in-Err-hear_piece-clause-ends g c =
     let log = c.loop.invariant.1 in
     let writes = c.in-Err-hear_piece.ensures.err in
-    let piece = take c.in-Ok.count c.read.new.buf in
-    (
+    let piece = take c.in-Ok.count c.read.new.buf in (
       writes.0 ++ WereRead piece ∷ log.0,
       grows_more _ _ _ (WereRead piece ∷ log.0) writes.0 (grows_more _ _ _ log.0 (WereRead piece ∷ []) log.1 c.in-Ok.ensures.log) writes.2,
       λ options begins.
-      let so_far = log.2 options begins in
-      (
-        prompt_piece options log.0 writes.0 piece c.loop.listener so_far writes.3,
-        subst (EndsMonitored options (writes.0 ++ WereRead piece ∷ log.0)) (sym c.status_of_fault.ensures) (stopped_early options log.0 writes.0 piece writes.1 c.loop.listener c.in-Err-hear_piece.fault so_far writes.3 writes.4 writes.5),
-      ),
+          let so_far = log.2 options begins in (
+            prompt_piece options log.0 writes.0 piece c.loop.listener so_far writes.3,
+            subst (EndsMonitored options (writes.0 ++ WereRead piece ∷ log.0)) (sym c.status_of_fault.ensures) (stopped_early options log.0 writes.0 piece writes.1 c.loop.listener c.in-Err-hear_piece.fault so_far writes.3 writes.4 writes.5),
+          ),
     )
 
 pub returns-then-is_stopped-clause-ends : goal.returns-then-is_stopped-clause-ends
 returns-then-is_stopped-clause-ends g c =
     let log = c.loop.invariant.1 in
     let writes = c.in_default.ensures.heard in
-    let piece = take c.in-Ok.count c.read.new.buf in
-    (
+    let piece = take c.in-Ok.count c.read.new.buf in (
       writes.0 ++ WereRead piece ∷ log.0,
       grows_more _ _ _ (WereRead piece ∷ log.0) writes.0 (grows_more _ _ _ log.0 (WereRead piece ∷ []) log.1 c.in-Ok.ensures.log) writes.1,
       λ options begins.
-      let so_far = log.2 options begins in
-      (
-        prompt_piece options log.0 writes.0 piece c.loop.listener so_far writes.2,
-        ends_at_fault options log.0 writes.0 piece c.loop.listener c.hear_piece.new.listener so_far writes.2 writes.3 (search rules),
-      ),
+          let so_far = log.2 options begins in (
+            prompt_piece options log.0 writes.0 piece c.loop.listener so_far writes.2,
+            ends_at_fault options log.0 writes.0 piece c.loop.listener c.hear_piece.new.listener so_far writes.2 writes.3 (search rules),
+          ),
     )
 
 pub loop-preserved : goal.loop-preserved
 loop-preserved g c =
     let log = c.loop.invariant.1 in
     let writes = c.in_default.ensures.heard in
-    let piece = take c.in-Ok.count c.read.new.buf in
-    (
+    let piece = take c.in-Ok.count c.read.new.buf in (
       c.in_default.ensures.done,
       (
         writes.0 ++ WereRead piece ∷ log.0,
@@ -84,7 +81,10 @@ loop-preserved g c =
 
 pub returns-clause-ends : goal.returns-clause-ends
 returns-clause-ends g c =
-    let log = c.loop.invariant.1 in
-    (log.0, log.1, λ options begins.
-      let so_far = log.2 options begins in
-      (so_far.prompt, ends_uncounted options log.0 c.loop.listener so_far))
+    let log = c.loop.invariant.1 in (
+      log.0,
+      log.1,
+      λ options begins.
+          let so_far = log.2 options begins in
+          (so_far.prompt, ends_uncounted options log.0 c.loop.listener so_far),
+    )

@@ -12,8 +12,7 @@ loop-at-preserved g c =
     let rest : take (length text - at) (drop at text) ≡ drop at text = take_rest text at in
     let within : c.in-Ok.count ≤ length (drop at text) = rw rest at c.in-Ok.ensures.bound.0 in
     let grows = rw rest at c.in-Ok.ensures.log in
-    let log = c.loop-at.invariant.1 in
-    (
+    let log = c.loop-at.invariant.1 in (
       omega (arith, within, length-drop at text),
       (
         WereWritten (take c.in-Ok.count (drop at text)) ∷ log.0,
@@ -29,8 +28,7 @@ pub returns-in-Err-clause-err : goal.returns-in-Err-clause-err
 returns-in-Err-clause-err g c =
     let text = c.args.text.now in
     let at = c.loop-at.at in
-    let log = c.loop-at.invariant.1 in
-    (
+    let log = c.loop-at.invariant.1 in (
       log.0,
       drop at text,
       grows_more _ _ _ log.0 [] log.1 c.in-Err.ensures.log,

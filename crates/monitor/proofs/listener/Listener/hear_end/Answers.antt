@@ -15,10 +15,13 @@ pub returns-else-not-is_empty : goal.returns-else-not-is_empty
 returns-else-not-is_empty c =
     let was : Heard = record { run = c.self.inside.monitor; line = c.self.inside.line.items } in
     let kind : (was.line ≡ []) ⊎ (512 ≤ length was.line) =
-        elim c.else-not-is_empty.branch [
-          | else-not-is_empty-via-then-not-is_empty+else-len-lt-KEPT_BYTES w ↦ inr (search rules)
-          | else-not-is_empty-via-else-not-is_empty w ↦ inl (nil_from_length was.line (search rules))
-        ]
-    in
-    ([], sym (append-nil _), λ options bytes output l. end_unheard options bytes output c.args.self.now l
-      (subst (λ (h : Heard). (h.line ≡ []) ⊎ (512 ≤ length h.line)) c.self.view_is kind))
+    elim c.else-not-is_empty.branch [
+      | else-not-is_empty-via-then-not-is_empty+else-len-lt-KEPT_BYTES w ↦ inr (search rules)
+      | else-not-is_empty-via-else-not-is_empty w ↦ inl (nil_from_length was.line (search rules))
+    ]
+    in (
+      [],
+      sym (append-nil _),
+      λ options bytes output l. end_unheard options bytes output c.args.self.now l
+          (subst (λ (h : Heard). (h.line ≡ []) ⊎ (512 ≤ length h.line)) c.self.view_is kind),
+    )
