@@ -1,5 +1,5 @@
 -- Lists of what was read and written, one in front of another.
-use Rattle.std.proofs.Common.{◌≡◌, ℕ, None, Some, Option, List, [], ◌∷◌, ◌++◌, refl, sym, ◌∙◌, ap, append-nil, append_assoc}
+use Rattle.std.proofs.Common.{◌≡◌, None, Some, Option, List, [], ◌∷◌, ◌++◌, refl, sym, ◌∙◌, ap, append-nil, append_assoc}
 use Rattle.std.specs.Option.{option_map}
 use Rattle.monitor.specs.Transfers.{AreWrites, LogGrows, Transfer, WereRead, WereWritten, bytes_read, bytes_written}
 

@@ -1,4 +1,4 @@
-use Rattle.std.proofs.Common.{◌≡◌, ◌++◌, [], refl, sym, ◌∙◌, ap, inl, inr, subst}
+use Rattle.std.proofs.Common.{◌++◌, [], refl, sym, ◌∙◌, ap, inl, inr, subst}
 use Rattle.monitor.specs.calls.StatusNumbers.{number_of_monitor_status}
 use Rattle.monitor.specs.inside.Ending.{EndsWithWords}
 use Rattle.monitor.proofs.Logs.{grows_none}

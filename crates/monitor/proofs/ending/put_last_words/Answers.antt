@@ -1,9 +1,7 @@
-use Rattle.std.proofs.Common.{rules, ◌≡◌, ◌++◌, List, ℕ, refl, sym, ◌∙◌, ap, inl, subst, append_assoc}
-use Rattle.std.proofs.lemmas.Result.{IfOk-weaker}
+use Rattle.std.proofs.Common.{rules, ◌≡◌, ◌++◌, refl, sym, ◌∙◌, ap, inl, subst, append_assoc}
 use Rattle.monitor_words.specs.Messages.{report_words}
-use Rattle.monitor_messages.specs.Runs.{MonitorOptions, MonitorRun}
+use Rattle.monitor_messages.specs.Runs.{MonitorRun}
 use Rattle.monitor.specs.HeardLines.{HasHeardAll}
-use Rattle.monitor.specs.inside.Listening.{IsListening}
 use Rattle.monitor.proofs.Endings.{whole_output}
 use Rattle.monitor.proofs.ending.put_last_words.Goals as goal
 
