@@ -11,3 +11,4 @@ pub mod WaitsForDone
 pub mod EndedStates
 pub mod StuckWithEnds
 pub mod EndedTraces
+pub mod DoneTasks

@@ -49,3 +49,9 @@ EndedRunsAreTraces =
     (plan : Plan) (h : List Step) (task phaser : Naming) (done : List ℕ) → IsCheckedPlan plan → TellsNumber task → TellsNumber phaser → IsLegalRun plan h →
     IsDistinct done → ((t : ℕ) → Contains done t → IsDoneAfter plan h t) →
     IsEndedTraceOfRun task phaser h done (end_lines task done ++ lines_of_run task phaser h)
+
+-- a list has each task that is done, once
+abbrev pub HasAllDone : Type 0
+HasAllDone =
+    (plan : Plan) (h : List Step) → IsCheckedPlan plan → IsLegalRun plan h →
+    (done : List ℕ) × IsDistinct done × ((t : ℕ) → Contains done t ↔ IsDoneAfter plan h t)
