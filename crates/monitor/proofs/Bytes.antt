@@ -43,7 +43,7 @@ no_end_more (r ∷ rest) b none other =
     let parts = or_parts (r == 10) (has_line_end rest) none in
     ap (λ x. x || has_line_end (rest ++ b ∷ [])) parts.0 ∙ no_end_more rest b parts.1 other
 
-cut_more : (bytes : List ℕ) (lines : List (List ℕ)) (rest : List ℕ) (b : ℕ) → AreHeardLines bytes lines rest → (b == 10) ≡ false → AreHeardLines (bytes ++ b ∷ []) lines (rest ++ b ∷ [])
+pub cut_more : (bytes : List ℕ) (lines : List (List ℕ)) (rest : List ℕ) (b : ℕ) → AreHeardLines bytes lines rest → (b == 10) ≡ false → AreHeardLines (bytes ++ b ∷ []) lines (rest ++ b ∷ [])
 cut_more bytes lines rest b cut other = record {
   are = ap (λ l. l ++ b ∷ []) cut.are ∙ append_assoc (ended_lines lines) rest (b ∷ []);
   whole = cut.whole;
@@ -51,7 +51,7 @@ cut_more bytes lines rest b cut other = record {
 }
 
 -- the LF of a line
-cut_end : (bytes : List ℕ) (lines : List (List ℕ)) (rest : List ℕ) → AreHeardLines bytes lines rest → AreHeardLines (bytes ++ 10 ∷ []) (rest ∷ lines) []
+pub cut_end : (bytes : List ℕ) (lines : List (List ℕ)) (rest : List ℕ) → AreHeardLines bytes lines rest → AreHeardLines (bytes ++ 10 ∷ []) (rest ∷ lines) []
 cut_end bytes lines rest cut = record {
   are = ap (λ l. l ++ 10 ∷ []) cut.are ∙ sym (append-nil (ended_lines (rest ∷ lines)));
   whole = λ line there. elim (Contains-cons_cases rest lines line there) [ inl is ↦ subst (λ l. has_line_end l ≡ false) is cut.open_end | inr t ↦ cut.whole line t ];

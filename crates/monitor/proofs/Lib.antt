@@ -3,3 +3,5 @@ pub mod Logs
 pub mod Pieces
 pub mod Endings
 pub mod Calls
+pub mod Cuts
+pub mod OneOutput

@@ -1,7 +1,7 @@
 -- A piece of a trace, byte by byte.
-use Rattle.std.proofs.Common.{◌≡◌, ℕ, ◌<◌, ◌+◌, List, [], ◌∷◌, ◌++◌, length, take, drop, get_or, refl, sym, ◌∙◌, ap, subst, append-nil, append_assoc}
+use Rattle.std.proofs.Common.{◌≡◌, ℕ, ◌<◌, ◌+◌, List, [], ◌∷◌, ◌++◌, length, take, drop, get_or, sym, ◌∙◌, ap, subst, append-nil, append_assoc}
 use Rattle.std.proofs.lemmas.List.{take_more, take-append-drop}
-use Rattle.monitor.specs.Transfers.{AreWrites, Transfer, bytes_written}
+use Rattle.monitor.specs.Transfers.{Transfer, bytes_written}
 use Rattle.monitor.specs.inside.Listening.{Heard, HearsBytes, StopsHearing}
 use Rattle.monitor.proofs.Bytes.{hears_more}
 use Rattle.monitor.proofs.Logs.{written_more}

@@ -4,6 +4,8 @@ pub mod HeardLines
 -- What is asked for, and how a call ends.
 pub mod MonitorRequests
 pub mod MonitorCalls
+-- Laws of these.
+pub mod Laws
 -- How the program does it.
 pub mod inside
 -- Words of contracts further down.

@@ -1,5 +1,5 @@
 -- How a call of the monitor ends.
-use Rattle.std.specs.Prelude.{◌≡◌, ◌≢◌, ℕ, Bool, true, false, List, [], ◌∷◌, ◌++◌, ◌⊎◌}
+use Rattle.std.specs.Prelude.{◌≡◌, ◌≢◌, ℕ, Bool, true, false, List, ◌∷◌, ◌++◌, ◌⊎◌}
 use Rattle.armus_base.specs.Causes.{counted}
 use Rattle.monitor_words.specs.Messages.{report_words}
 use Rattle.monitor_words.specs.Stops.{TellsStuck}

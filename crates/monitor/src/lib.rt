@@ -5,6 +5,7 @@
 
 mod ending;
 mod hearing;
+mod laws;
 mod listener;
 mod monitor_status;
 mod port;
@@ -12,6 +13,7 @@ mod request;
 mod top;
 mod writing;
 
+pub use laws::{one_cut, one_heard_output, one_whole_output};
 pub use port::{Port, StdPort};
 pub use request::{MonitorRequest, monitor_request_of};
 pub use top::monitor;

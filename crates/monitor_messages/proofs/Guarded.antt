@@ -1,24 +1,24 @@
 -- What the guard makes of a line.
-use Rattle.std.proofs.Common.{◌≡◌, ℕ, Bool, true, false, ◌&&◌, ◌||◌, Some, None, Option, List, [], ◌∷◌, ◌++◌, refl, sym, ◌∙◌, ap, subst, inl, inr, ◌⊎◌, append-nil, append_assoc}
+use Rattle.std.proofs.Common.{◌≡◌, ℕ, Bool, true, false, ◌||◌, Some, None, Option, List, [], ◌++◌, refl, sym, ◌∙◌, ap, subst, inl, inr, ◌⊎◌, append-nil, append_assoc}
 use Rattle.std.specs.Prelude.{Contains, Result, Ok, Err, codes, bytes_eq}
 use Rattle.std.specs.List.{list_any}
 use Rattle.std.proofs.lemmas.Bool.{and_from, and_parts}
 use Rattle.std.proofs.lemmas.Slice.Eq.{bytes_eq-Decides}
 use Rattle.monitor_laws.specs.Faults.{first_fault}
-use Rattle.monitor_laws.specs.Guards.{IsRefusedWait, IsTakenAs}
+use Rattle.monitor_laws.specs.Guards.{IsRefusedWait}
 use Rattle.monitor_laws.specs.Lines.{AreGone, Announces, AsksList, AsksReport, PlaysAny, PlaysOneOf, SaysNothing, Stands, TraceLine, Waits}
-use Rattle.monitor_laws.specs.States.{Participant, TraceState, Waiting, after_line, is_live_task, is_live_wildcard, is_there_as}
+use Rattle.monitor_laws.specs.States.{Participant, TraceState, after_line, is_live_task, is_live_wildcard, is_there_as}
 use Rattle.monitor_laws.specs.Stuck.{IsStuck}
 use Rattle.monitor_laws.proofs.Filters.{any_from}
 use Rattle.monitor_laws.proofs.Lawful.{IsLawfulState, lawful_after}
 use Rattle.monitor_laws.proofs.Rows.{name_is}
 use Rattle.monitor_search.specs.Known.{AreStuckTasks, has_stuck_number}
 use Rattle.monitor_state.specs.declared.line_fault.FaultOfLine.{FaultOfLine}
-use Rattle.monitor_words.specs.Messages.{IsAnswerOf, IsGuardedMessage, IsMessage, IsRefusal, IsWaitLine}
+use Rattle.monitor_words.specs.Messages.{IsGuardedMessage, IsRefusal, IsWaitLine}
 use Rattle.monitor_words.specs.Reasons.{IsStuckBecause}
 use Rattle.monitor_words.specs.Stops.{TellsStuck}
 use Rattle.monitor_words.specs.Words.{message_line}
-use Rattle.monitor_messages.specs.Runs.{IsMessageOf, MakesStuck, TellsSomebody}
+use Rattle.monitor_messages.specs.Runs.{MakesStuck}
 use Rattle.monitor_messages.specs.inside.Changes.{IsKnownBefore, TellsChange}
 use Rattle.monitor_messages.specs.inside.Guarded.{RefusesWait, StandsBack, is_stuck_as}
 use Rattle.monitor_messages.specs.inside.Taken.{IsTaken}

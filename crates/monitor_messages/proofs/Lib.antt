@@ -6,3 +6,5 @@ pub mod WaitsNewly
 pub mod Gone
 pub mod Tells
 pub mod Places
+pub mod OneRun
+pub mod RunsHaveTraces

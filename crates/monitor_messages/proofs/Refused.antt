@@ -1,20 +1,20 @@
 -- A wait that is refused: where its task goes at once, the state is as if it had said only where it is.
 use Rattle.std.proofs.Common.{◌≡◌, ℕ, ◌+◌, Bool, true, false, ◌||◌, ◌&&◌, not, Some, None, Option, List, [], ◌∷◌, ◌++◌, refl, sym, ◌∙◌, ap, subst, inl, inr, ◌⊎◌}
-use Rattle.std.specs.Prelude.{Contains, filter, find, map, length, ◌==◌, bytes_eq, if◌then◌else◌, is_some, nat_le}
+use Rattle.std.specs.Prelude.{Contains, filter, map, length, ◌==◌, bytes_eq, nat_le}
 use Rattle.std.specs.List.{list_any, slice_get}
-use Rattle.std.proofs.lemmas.Bool.{cases_Bool, and_parts, and_from, cond-true, cond-false, or_cases, or_right}
+use Rattle.std.proofs.lemmas.Bool.{cases_Bool, and_parts, and_from, cond-true, cond-false, or_right}
 use Rattle.std.proofs.lemmas.Slice.Eq.{bytes_eq-Decides}
 use Rattle.std.proofs.lemmas.List.Elements.{Contains-append_right}
 use Rattle.armus_base.proofs.Elements.{Contains-head, Contains-tail}
-use Rattle.monitor_laws.specs.Lines.{Announces, Goes, Stands, TraceLine, Waits}
+use Rattle.monitor_laws.specs.Lines.{Announces, Goes, Stands, Waits}
 use Rattle.monitor_laws.specs.States.{AnyTask, Condition, Ended, OneOf, Participant, Running, TraceState, Waiting, after_line, announced_by, is_live_task, is_live_wildcard, is_there_as, new_participant, placed_at, stays_listed, with_named}
-use Rattle.monitor_laws.specs.Faults.{DoesNotWait, LineFault, NamesWildcard, StillWaits, TooManyListed, TooManyMemberships, fault_where, faults_of, first_fault, has_no_room, is_wildcard_in, memberships_in, most_listed, most_memberships, participant_in, waits_now}
-use Rattle.monitor_laws.proofs.Changes.{changed_there, from_change, from_named, in_change, in_named, named_grows, other_is, there_is}
-use Rattle.monitor_laws.proofs.Filters.{any_from, any_is, none_passes}
+use Rattle.monitor_laws.specs.Faults.{DoesNotWait, LineFault, NamesWildcard, StillWaits, TooManyListed, fault_where, faults_of, first_fault, has_no_room, is_wildcard_in, most_listed, participant_in, waits_now}
+use Rattle.monitor_laws.proofs.Changes.{changed_there, from_named, in_change, in_named, other_is, there_is}
+use Rattle.monitor_laws.proofs.Filters.{any_from, any_is}
 use Rattle.monitor_laws.proofs.Lawful.{IsLawfulState, lawful_after, placed_condition, placed_name}
 use Rattle.monitor_state.specs.Taking.{taken_state}
 use Rattle.monitor_messages.specs.inside.Changes.{IsKnownBefore}
-use Rattle.monitor_laws.proofs.Rows.{HasNoFault, has_no_fault, is_wildcard, name_is, named_is, task_or_wildcard}
+use Rattle.monitor_laws.proofs.Rows.{HasNoFault, has_no_fault, is_wildcard, named_is, task_or_wildcard}
 
 -- a task that is there and neither waits nor is a wildcard runs
 runs_or : (c : Condition) → is_live_task c ≡ true → waits_now c ≡ false → c ≡ Running

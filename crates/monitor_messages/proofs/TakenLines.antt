@@ -1,6 +1,6 @@
 -- A line that is taken, and the message that it calls for.
-use Rattle.std.proofs.Common.{◌≡◌, ℕ, Bool, true, false, Some, None, List, [], ◌∷◌, ◌++◌, refl, sym, ◌∙◌, ap, subst, append_assoc}
-use Rattle.std.specs.Prelude.{Ok, ◌↔◌}
+use Rattle.std.proofs.Common.{◌≡◌, ℕ, Bool, false, Some, None, List, ◌++◌, refl, sym, ◌∙◌, ap, subst, append_assoc}
+use Rattle.std.specs.Prelude.{Ok}
 use Rattle.armus_base.proofs.Lists.{none_first}
 use Rattle.monitor_laws.specs.Faults.{faults_of, first_fault}
 use Rattle.monitor_laws.specs.Lines.{TraceLine}
@@ -9,7 +9,6 @@ use Rattle.monitor_laws.proofs.Lawful.{IsLawfulState, lawful_after}
 use Rattle.monitor_search.specs.Known.{AreStuckTasks, has_stuck_number}
 use Rattle.monitor_words.specs.Messages.{IsMessage, IsToldOf, asked_words, resolved_words, those_only_in}
 use Rattle.monitor_words.specs.Stops.{TellsStuck}
-use Rattle.monitor_messages.specs.Runs.{IsMessageOf, MakesStuck, TellsSomebody}
 use Rattle.monitor_messages.specs.inside.Changes.{IsKnownBefore, TellsChange}
 use Rattle.monitor_messages.specs.inside.Taken.{IsTaken}
 

@@ -3,7 +3,7 @@ use Rattle.std.proofs.Common.{◌≡◌, ℕ, Bool, true, false, not, ◌&&◌, 
 use Rattle.std.specs.Prelude.{filter}
 use Rattle.std.proofs.lemmas.Bool.{cond-false}
 use Rattle.monitor_laws.specs.Lines.{TraceLine}
-use Rattle.monitor_laws.specs.States.{Participant, TraceState, after_line}
+use Rattle.monitor_laws.specs.States.{Participant, TraceState}
 use Rattle.monitor_laws.specs.Stuck.{IsStuck}
 use Rattle.monitor_search.specs.Known.{AreStuckTasks, has_stuck_number}
 use Rattle.monitor_words.specs.Messages.{IsToldOf, resolved_words, those_only_in}

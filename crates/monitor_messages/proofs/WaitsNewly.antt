@@ -14,7 +14,7 @@ use Rattle.monitor_words.specs.Messages.{waits_newly}
 use Rattle.monitor_messages.specs.inside.Newly.{waits_by}
 
 -- two tests of which each passes where the other does
-same_tests : (a b : Bool) → (a ≡ true → b ≡ true) → (b ≡ true → a ≡ true) → a ≡ b
+pub same_tests : (a b : Bool) → (a ≡ true → b ≡ true) → (b ≡ true → a ≡ true) → a ≡ b
 same_tests true b there back = sym (there refl)
 same_tests false true there back = back refl
 same_tests false false there back = refl

@@ -7,8 +7,10 @@ mod changes;
 mod faults;
 mod guard;
 mod known_state;
+mod laws;
 mod monitor;
 mod newly;
 mod telling;
 
+pub use laws::{one_run, runs_have_traces};
 pub use monitor::Monitor;

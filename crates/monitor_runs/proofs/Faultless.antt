@@ -12,11 +12,11 @@ use Rattle.monitor_runs.proofs.Named.{AllLive}
 pub none_where : (holds : Bool) (fault : LineFault) → holds ≡ false → fault_where holds fault ≡ []
 none_where holds fault off = cond-false holds (fault ∷ []) [] off
 
-and_false : (a b : Bool) → b ≡ false → (a && b) ≡ false
+pub and_false : (a b : Bool) → b ≡ false → (a && b) ≡ false
 and_false true b off = off
 and_false false b off = refl
 
-all_empty : (a b c d e : List LineFault) → a ≡ [] → b ≡ [] → c ≡ [] → d ≡ [] → e ≡ [] → a ++ b ++ c ++ d ++ e ≡ []
+pub all_empty : (a b c d e : List LineFault) → a ≡ [] → b ≡ [] → c ≡ [] → d ≡ [] → e ≡ [] → a ++ b ++ c ++ d ++ e ≡ []
 all_empty a b c d e no_a no_b no_c no_d no_e =
     ap (λ x. x ++ b ++ c ++ d ++ e) no_a ∙ ap (λ x. x ++ c ++ d ++ e) no_b ∙ ap (λ x. x ++ d ++ e) no_c ∙ ap (λ x. x ++ e) no_d ∙ no_e
 

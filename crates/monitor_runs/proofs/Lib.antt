@@ -7,3 +7,8 @@ pub mod OneStep
 pub mod LowPhases
 pub mod Counted
 pub mod RunTraces
+pub mod WaitsForDone
+pub mod EndedStates
+pub mod StuckWithEnds
+pub mod EndedTraces
+pub mod DoneTasks

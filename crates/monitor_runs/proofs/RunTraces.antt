@@ -39,20 +39,20 @@ in_below name (suc n) k low = elim (cases_eq k n) [
 ]
 
 module _ (plan : Plan) (checked : IsCheckedPlan plan) (task phaser : Naming) (tells : TellsNumber task) (tells_phaser : TellsNumber phaser) where
-  abbrev all_tasks : List (List ℕ)
+  abbrev pub all_tasks : List (List ℕ)
   all_tasks = list_below task (length plan.parents)
 
-  abbrev all_phasers : List (List ℕ)
+  abbrev pub all_phasers : List (List ℕ)
   all_phasers = list_below phaser (length plan.makers)
 
-  abbrev IsCountedTrace : List TraceLine → Type 0
+  abbrev pub IsCountedTrace : List TraceLine → Type 0
   IsCountedTrace g = IsCounted (Contains all_tasks) (Contains all_phasers) (after_lines g)
 
   some_task : 0 < length plan.parents
   some_task = slice_get_within plan.parents 0 None checked.tables.root
 
   -- a trace of so many tasks and memberships has room
-  has_room : (g : List TraceLine) → AllLive (after_lines g) → IsCountedTrace g → HasRoom (after_lines g)
+  pub has_room : (g : List TraceLine) → AllLive (after_lines g) → IsCountedTrace g → HasRoom (after_lines g)
   has_room g live counted =
       let listed = listed_most all_tasks all_phasers (after_lines g) live counted in
       let members = memberships_most all_tasks all_phasers (after_lines g) live counted in
@@ -84,10 +84,10 @@ module _ (plan : Plan) (checked : IsCheckedPlan plan) (task phaser : Naming) (te
   join_is_fine p (Some n) u none is = (tt, (none, is))
 
   -- a run and its trace
-  record IsWrittenRun (h : List Step) : Type 0 where
-    written : IsWritten task phaser (lines_of_run task phaser h) (state_after h)
-    counted : IsCountedTrace (lines_of_run task phaser h)
-    made : (p : ℕ) → (state_after h).made p ≡ true → p < length plan.makers
+  pub record IsWrittenRun (h : List Step) : Type 0 where
+    pub written : IsWritten task phaser (lines_of_run task phaser h) (state_after h)
+    pub counted : IsCountedTrace (lines_of_run task phaser h)
+    pub made : (p : ℕ) → (state_after h).made p ≡ true → p < length plan.makers
 
   counted_step : (h : List Step) → IsLegalRun plan h → IsWrittenRun h → (t : ℕ) (x : Action) → IsLegal plan (state_after h) t x → IsCountedTrace (lines_of_step task phaser (state_after h) t x ++ lines_of_run task phaser h)
   counted_step h run all t (Makes p) (active, maker, unmade) =
@@ -128,7 +128,7 @@ module _ (plan : Plan) (checked : IsCheckedPlan plan) (task phaser : Naming) (te
       let a = phases_low plan h checked run t p n at in
       let b = checked.limits.few_ops in omega arith
 
-  written : (h : List Step) → IsLegalRun plan h → IsWrittenRun h
+  pub written : (h : List Step) → IsLegalRun plan h → IsWrittenRun h
   written [] run = record {
     written = record {
       legal = tt;

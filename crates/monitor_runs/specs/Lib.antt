@@ -1,1 +1,2 @@
 pub mod RunTraces
+pub mod EndedTraces

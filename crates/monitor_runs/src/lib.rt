@@ -4,4 +4,4 @@
 
 mod laws;
 
-pub use laws::runs_are_traces;
+pub use laws::{ended_runs_are_traces, runs_are_traces};

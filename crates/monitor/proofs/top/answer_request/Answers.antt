@@ -1,4 +1,4 @@
-use Rattle.std.proofs.Common.{rules, ◌≡◌, sym, subst}
+use Rattle.std.proofs.Common.{sym, subst}
 use Rattle.monitor.specs.MonitorCalls.{EndsAsked}
 use Rattle.monitor.specs.calls.Requested.{monitor_requested}
 use Rattle.monitor.specs.calls.StatusNumbers.{number_of_monitor_status}

@@ -1,4 +1,4 @@
-use Rattle.std.proofs.Common.{rules, ◌≡◌, sym, subst, []}
+use Rattle.std.proofs.Common.{sym, subst, []}
 use Rattle.monitor_messages.specs.Runs.{MonitorOptions}
 use Rattle.monitor.specs.inside.Ending.{HasListened}
 use Rattle.monitor.proofs.Calls.{begun}

@@ -1,7 +1,6 @@
-use Rattle.std.proofs.Common.{rules, ◌≡◌, ◌++◌, List, ℕ, refl, sym, ap, ◌∙◌}
+use Rattle.std.proofs.Common.{◌≡◌, ◌++◌, List, ℕ, ap, ◌∙◌}
 use Rattle.std.proofs.lemmas.Result.{on_ok_weaker}
 use Rattle.monitor_reasons.specs.Found.{participant_at, reason_value}
-use Rattle.monitor_words.specs.Sentences.{sentence_words}
 use Rattle.monitor_words.specs.inside.ValueMessages.{shown_refusal_words}
 use Rattle.monitor_words.proofs.Joined.{joins_refusal}
 use Rattle.monitor_messages.specs.inside.Guarded.{RefusesWait}

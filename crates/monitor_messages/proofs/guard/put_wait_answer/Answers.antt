@@ -1,4 +1,4 @@
-use Rattle.std.proofs.Common.{rules, ◌≡◌, ◌<◌, [], length, get_or}
+use Rattle.std.proofs.Common.{rules, []}
 use Rattle.std.proofs.lemmas.List.{get_or_default}
 use Rattle.monitor_laws.specs.States.{new_participant}
 use Rattle.monitor_reasons.specs.Found.{participant_at}

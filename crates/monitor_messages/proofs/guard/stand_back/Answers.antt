@@ -1,10 +1,4 @@
-use Rattle.std.proofs.Common.{rules, ◌≡◌, Some, None, List, ℕ, sym, ap, ◌∙◌}
-use Rattle.std.specs.Option.{option_map}
-use Rattle.monitor_laws.specs.Faults.{first_fault}
-use Rattle.monitor_laws.specs.Lines.{Announces, Goes, Stands, Waits}
-use Rattle.monitor_laws.specs.States.{TraceState, after_line}
-use Rattle.monitor_state.specs.Taking.{taken_state}
-use Rattle.monitor_state.specs.Values.{fault_of_line}
+use Rattle.monitor_laws.specs.Lines.{Announces, Stands}
 use Rattle.trace_lines.specs.Values.{place_value}
 use Rattle.monitor_messages.specs.inside.Changes.{IsKnownBefore}
 use Rattle.monitor_messages.proofs.Refused.{stands_known}

@@ -1,6 +1,6 @@
-use Rattle.std.proofs.Common.{rules, ◌≡◌, ap, ◌∙◌, sym}
+use Rattle.std.proofs.Common.{ap, ◌∙◌}
 use Rattle.trace_lines.specs.Values.{line_value, place_value, said_value}
-use Rattle.monitor_laws.specs.Lines.{Announces, Waits}
+use Rattle.monitor_laws.specs.Lines.{Announces}
 use Rattle.monitor_messages.proofs.guard.wait_of.Goals as goal
 
 pub returns-in-Waits-clause-some : goal.returns-in-Waits-clause-some

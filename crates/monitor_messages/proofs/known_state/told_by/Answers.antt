@@ -1,4 +1,4 @@
-use Rattle.std.proofs.Common.{rules, ◌≡◌}
+use Rattle.std.proofs.Common.{rules}
 use Rattle.monitor_search.specs.Known.{AreStuckTasks, KeepsStuck}
 use Rattle.trace_lines.specs.Values.{line_value}
 use Rattle.monitor_messages.proofs.Unchanged.{same_told}

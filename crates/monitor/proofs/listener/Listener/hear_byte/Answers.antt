@@ -1,6 +1,5 @@
-use Rattle.std.proofs.Common.{rules, ◌≡◌, ◌<◌, ◌∷◌, [], ◌++◌, List, ℕ, refl, sym, append-nil, arith, subst, length}
+use Rattle.std.proofs.Common.{rules, [], sym, append-nil, subst}
 use Rattle.std.proofs.lemmas.Bool.{ne_eqb}
-use Rattle.monitor_messages.specs.Runs.{MonitorOptions}
 use Rattle.monitor.specs.inside.Listening.{Heard, IsListening}
 use Rattle.monitor.proofs.Bytes.{byte_kept, byte_passed, byte_too_many}
 use Rattle.monitor.proofs.listener.Listener.hear_byte.Goals as goal

@@ -1,4 +1,4 @@
-use Rattle.std.proofs.Common.{rules, ◌≡◌, ◌≤◌, ◌<◌, ◌++◌, [], sym, append-nil, subst, inl, inr, ◌⊎◌, length}
+use Rattle.std.proofs.Common.{rules, ◌≡◌, ◌≤◌, [], sym, append-nil, subst, inl, inr, ◌⊎◌, length}
 use Rattle.std.proofs.lemmas.List.{nil_from_length}
 use Rattle.monitor.specs.inside.Listening.{Heard, IsListening}
 use Rattle.monitor.proofs.Bytes.{end_behind_rest, end_unheard}

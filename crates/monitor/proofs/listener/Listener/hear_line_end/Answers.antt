@@ -1,4 +1,4 @@
-use Rattle.std.proofs.Common.{rules, ◌≡◌, ◌∷◌, [], ◌++◌, List, ℕ, refl, sym, ◌∙◌, append-nil, arith, ap, inl, inr, subst}
+use Rattle.std.proofs.Common.{rules, [], refl, sym, ◌∙◌, append-nil, ap, inl, inr, subst}
 use Rattle.monitor.specs.inside.Listening.{Heard, IsListening}
 use Rattle.monitor.proofs.Bytes.{EndOfLine, end_of_line_heard}
 use Rattle.monitor.proofs.listener.Listener.hear_line_end.Goals.{then-len-lt-KEPT_BYTES+in_ok-hear_line, else-len-lt-KEPT_BYTES}

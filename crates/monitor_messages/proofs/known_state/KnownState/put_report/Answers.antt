@@ -1,6 +1,5 @@
 use Rattle.std.proofs.Common.{rules, ◌≡◌, ◌++◌, ℕ, Bool, subst}
 use Rattle.std.proofs.lemmas.Result.{on_ok_weaker}
-use Rattle.monitor_laws.specs.States.{TraceState}
 use Rattle.monitor_search.specs.Known.{has_stuck_number}
 use Rattle.monitor_words.specs.Messages.{report_words}
 use Rattle.monitor_words.specs.Stops.{TellsStuck}

@@ -1,4 +1,3 @@
-use Rattle.std.proofs.Common.{rules, ◌≡◌}
 use Rattle.std.proofs.lemmas.Result.{IfOk-weaker}
 use Rattle.trace_lines.specs.Values.{line_value}
 use Rattle.monitor_messages.proofs.Guarded.{other_taken}

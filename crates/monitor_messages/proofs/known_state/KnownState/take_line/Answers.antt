@@ -3,10 +3,9 @@ use Rattle.std.specs.Prelude.{Ok}
 use Rattle.std.specs.Option.{option_map}
 use Rattle.trace_lines.specs.Values.{line_value}
 use Rattle.monitor_laws.specs.Faults.{first_fault}
-use Rattle.monitor_laws.specs.States.{TraceState, after_line}
+use Rattle.monitor_laws.specs.States.{after_line}
 use Rattle.monitor_state.specs.Taking.{taken_state}
 use Rattle.monitor_state.specs.Values.{fault_of_line}
-use Rattle.monitor_messages.specs.inside.Changes.{IsKnownBefore}
 use Rattle.monitor_messages.specs.inside.Taken.{IsTaken}
 use Rattle.monitor_messages.proofs.TakenLines.{lawful_on, leads_on, taken_plain}
 use Rattle.monitor_messages.proofs.known_state.KnownState.take_line.Goals as goal

@@ -4,7 +4,7 @@ use Rattle.std.specs.Option.{option_map}
 use Rattle.trace_lines.specs.Values.{line_value, place_value}
 use Rattle.monitor_laws.specs.Faults.{first_fault}
 use Rattle.monitor_laws.specs.Lines.{Announces, Stands, TraceLine, Waits}
-use Rattle.monitor_laws.specs.States.{TraceState, after_line}
+use Rattle.monitor_laws.specs.States.{after_line}
 use Rattle.monitor_search.specs.Known.{AreStuckTasks}
 use Rattle.monitor_state.specs.Taking.{taken_state}
 use Rattle.monitor_state.specs.Values.{fault_of_line}
