@@ -504,7 +504,11 @@ impl Monitor {
                 Of(names.to_vec(), players.len(), players)
             }
         };
-        if self.list[id].inside { self.shrink(vec![id]) } else { self.grow(vec![id]) }
+        if self.list[id].inside {
+            self.shrink(vec![id])
+        } else {
+            self.grow(vec![id])
+        }
         self.tell(None);
         Ok(())
     }
@@ -767,7 +771,13 @@ impl Monitor {
         for id in self.all() {
             let u = &self.list[id];
             if let Waiting(p, n) = u.condition {
-                let standing = if u.inside { "stuck" } else if self.is_kept_waiting(id) { "held" } else { "free" };
+                let standing = if u.inside {
+                    "stuck"
+                } else if self.is_kept_waiting(id) {
+                    "held"
+                } else {
+                    "free"
+                };
                 let line = format!("{standing} {} {} {n}\n", text(&u.name), text(&self.phasers[p].name));
                 self.out.extend(line.as_bytes());
                 count += 1;
@@ -802,5 +812,11 @@ fn main() -> io::Result<()> {
     monitor.report();
     output.write_all(&monitor.out)?;
     let kept = monitor.all().into_iter().any(|id| monitor.is_kept_waiting(id));
-    std::process::exit(if monitor.told || kept { 1 } else if faulty { 3 } else { 0 });
+    std::process::exit(if monitor.told || kept {
+        1
+    } else if faulty {
+        3
+    } else {
+        0
+    });
 }
