@@ -2,6 +2,7 @@
 program is replaced. What a thread waits for is what its frames say: where it stands in threading, queue and concurrent.futures, and in which line of the program.
 That it has not run between two looks is what the kernel says."""
 import ast
+import functools
 import gc
 import inspect
 import linecache
@@ -17,6 +18,7 @@ import weakref
 
 PERIOD, LONGEST = 0.05, 1.0
 FUTEX = {'x86_64': 202, 'aarch64': 98, 'riscv64': 98, 'ppc64le': 221, 's390x': 238}.get(platform.machine())
+EPOLL = {'x86_64': 232, 'aarch64': 22, 'riscv64': 22}.get(platform.machine())
 STANDARD = os.path.dirname(os.__file__) + os.sep
 OWN = __file__
 
@@ -36,12 +38,18 @@ def switches(native):
     return text[text.find(b'voluntary_ctxt_switches'):] if text else None
 
 
+IN_SELECT = 'select'
+
+
 def sleeps_at(native):
-    """The address at which a thread sleeps without a limit, or nothing."""
+    """The address at which a thread sleeps without a limit, IN_SELECT where it waits so for files, or nothing."""
     words = text_of(f'/proc/self/task/{native}/syscall').split()
-    if len(words) < 6 or words[0] != str(FUTEX).encode() or int(words[4], 16) != 0:
+    if len(words) < 6:
         return None
-    return int(words[1], 16)
+    number, limit = words[0], int(words[4], 16)
+    if number == str(EPOLL).encode() and limit & 0xffffffff == 0xffffffff:
+        return IN_SELECT
+    return int(words[1], 16) if number == str(FUTEX).encode() and limit == 0 else None
 
 
 class Memory:
@@ -213,6 +221,17 @@ def frames_of(frame):
         frame = frame.f_back
 
 
+def frames_of_coroutine(coroutine):
+    """The frames of what a task runs, the innermost first."""
+    found = []
+    while coroutine is not None:
+        frame = getattr(coroutine, 'cr_frame', None) or getattr(coroutine, 'gi_frame', None) or getattr(coroutine, 'ag_frame', None)
+        if frame is not None:
+            found.append(frame)
+        coroutine = getattr(coroutine, 'cr_await', None) or getattr(coroutine, 'gi_yieldfrom', None) or getattr(coroutine, 'ag_await', None)
+    return reversed(found)
+
+
 # ---- lines
 class Lines:
     def __init__(self, connection, process):
@@ -374,6 +393,7 @@ class Watcher:
         self.announcer, self.memory, self.own = Announcer(lines), Memory(), _thread.get_ident()
         self.native_offset = self.found_offset()
         self.seen, self.slept, self.beginning = {}, {}, {}
+        self.task_keys = weakref.WeakKeyDictionary()
         self.main = None
 
     def found_offset(self):
@@ -398,14 +418,18 @@ class Watcher:
             return 'main' if thread is threading._main_thread else thread._name
         return f'thread-{len(self.announcer.names)}'
 
+    @classmethod
+    def place(cls, frame):
+        return cls.place_among(list(frames_of(frame)))
+
     @staticmethod
-    def place(frame):
+    def place_among(frames):
         """The innermost line outside of the standard library; of a thread that is within it altogether, the innermost line."""
-        for f in frames_of(frame):
+        for f in frames:
             file = f.f_code.co_filename
             if not (file.startswith(STANDARD) and 'site-packages' not in file) and not file.startswith('<frozen'):
                 return f'{os.path.basename(file)}:{f.f_lineno}'
-        return f'{os.path.basename(frame.f_code.co_filename)}:{frame.f_lineno}'
+        return f'{os.path.basename(frames[0].f_code.co_filename)}:{frames[0].f_lineno}'
 
     def slept_since(self, key, native, mark):
         """Whether a thread has not run since the last look, and where it sleeps."""
@@ -428,6 +452,9 @@ class Watcher:
         standing = {}
         if asleep:
             for ident in asleep:
+                if asleep[ident] is IN_SELECT:
+                    self.add_loop(ident, natives[ident], frames[ident], present, standing)
+                    continue
                 wait = self.wait_of(ident, frames[ident], asleep, frames)
                 if wait is not None:
                     standing[ident] = wait
@@ -458,7 +485,7 @@ class Watcher:
                 if text_of(f'/proc/self/task/{native}/stat').rpartition(b') ')[2][:1] in (b'Z', b'X', b''):
                     continue
                 present[key] = f'native-{native}', 'native'
-                if at is not None:
+                if at is not None and at is not IN_SELECT:
                     standing[key] = Wait('native', None, [None], 'native', f'native-{native}')
 
     def end_main(self, present, standing, frames):
@@ -480,7 +507,9 @@ class Watcher:
         signal = sys.modules.get('signal')
         if signal is None:
             return False
-        return any(callable(h) and h is not signal.default_int_handler for h in map(signal.getsignal, signal.valid_signals()) if not isinstance(h, int))
+        runner = getattr(sys.modules.get('asyncio.runners'), 'Runner', None)
+        return any(callable(h) and h is not signal.default_int_handler and not (isinstance(h, functools.partial) and isinstance(getattr(h.func, '__self__', None), runner or ()))
+                   for h in map(signal.getsignal, signal.valid_signals()) if not isinstance(h, int))
 
     # ---- what a frame waits for
     def wait_of(self, ident, frame, asleep, frames):
@@ -567,6 +596,67 @@ class Watcher:
             return None
         return Wait(type(this).__name__, this, [ALL], place)
 
+    # ---- asyncio: a loop that waits for nothing but its own tasks, other threads and signals, and each of its tasks
+    def add_loop(self, ident, native, frame, present, standing):
+        loop = self.idle_loop(frame)
+        if loop is None:
+            return
+        try:
+            tasks = {self.task_key(task): task for task in sys.modules['asyncio.tasks'].all_tasks(loop)}
+            frames = {key: list(frames_of_coroutine(task.get_coro())) for key, task in tasks.items()}
+            waits = {key: self.wait_of_task(task, key, tasks, frames) for key, task in tasks.items()}
+            names = {key: (task.get_name(), self.place_of_task(frames[key])) for key, task in tasks.items()}
+        except (AttributeError, RuntimeError):                   # it goes on meanwhile
+            return
+        if self.slept[ident][1] == switches(native):
+            present.update(names)
+            standing.update((key, wait) for key, wait in waits.items() if wait is not None)
+            standing[ident] = Wait('loop', loop, [None], self.place(frame), last=True)
+
+    @staticmethod
+    def idle_loop(frame):
+        """The loop that this frame runs. Nothing is ready in it, no time will come, and it waits for no file but its own by which other threads wake it."""
+        base = sys.modules.get('asyncio.base_events')
+        for f in frames_of(frame):
+            if base is not None and f.f_code.co_name == '_run_once' and f.f_code.co_filename == base.__file__:
+                loop = f.f_locals.get('self')
+                try:
+                    files = list(loop._selector.get_map().values())
+                    if loop._ready or any(not handle._cancelled for handle in loop._scheduled) or any(file.fileobj is not loop._ssock and file.fd != loop._ssock.fileno() for file in files):
+                        return None
+                    return loop
+                except (AttributeError, RuntimeError):           # a loop of another sort, or one that goes on
+                    return None
+        return None
+
+    def task_key(self, task):
+        return self.task_keys.setdefault(task, ('task', len(self.task_keys), id(task)))
+
+    def place_of_task(self, frames):
+        return self.place_among(frames) if frames else 'asyncio'
+
+    def wait_of_task(self, task, key, tasks, frames):
+        place, waiter, keys = self.place_of_task(frames[key]), task._fut_waiter, {id(t): k for k, t in tasks.items()}
+        if waiter is None or waiter.done():
+            return None
+        if id(waiter) in keys:
+            return Wait('end-of', waiter, [[keys[id(waiter)]]], place, f'end-of-{named(waiter.get_name())}', last=True)
+        children = [child for child in getattr(waiter, '_children', ()) if not child.done()]
+        if children:
+            return Wait('gather', waiter, [[keys[id(child)]] for child in children], place, last=True) if all(id(child) in keys for child in children) else None
+        this = None
+        for frame in frames[key]:
+            if os.path.basename(os.path.dirname(frame.f_code.co_filename)) != 'asyncio' or os.path.basename(frame.f_code.co_filename) not in ('locks.py', 'queues.py', 'mixins.py'):
+                break
+            this = frame.f_locals.get('self', this)
+        if this is None:
+            return None
+        kind = type(this).__name__
+        if isinstance(this, sys.modules['asyncio.locks'].Lock):
+            holders = [k for k in tasks if self.holds_among(frames[k], this, k == key)]
+            return Wait(kind, this, [holders if len(holders) == 1 and this.locked() else None], place)
+        return Wait(kind, this, [None], place)
+
     # ---- locks
     def lock_at(self, address, candidates):
         """The one of them whose lock is at the address where the thread sleeps."""
@@ -601,8 +691,11 @@ class Watcher:
         return Wait('Lock', lock, [holders if len(holders) == 1 else None], place)
 
     def holds(self, frame, lock, waits):
-        """Whether a thread stands inside of a with-statement of this lock, or between its acquire and the release of a finally."""
-        for n, f in enumerate(frames_of(frame)):
+        return self.holds_among(frames_of(frame), lock, waits)
+
+    def holds_among(self, frames, lock, waits):
+        """Whether one with these frames stands inside of a with-statement of this lock, or between its acquire and the release of a finally."""
+        for n, f in enumerate(frames):
             if f.f_code.co_filename.startswith(STANDARD):
                 continue
             for region, expression in Text.of(f).regions:
@@ -724,5 +817,5 @@ def behind_fork():
     life = Life.current
     if life is not None:
         life.hook()
-        if len(sys._current_frames()) > 1 or 'multiprocessing' in sys.modules:
+        if len(sys._current_frames()) > 1 or 'multiprocessing' in sys.modules or 'asyncio' in sys.modules:
             begin(life.hook)
