@@ -1023,10 +1023,10 @@ void GOMP_critical_end(void) {
     real_GOMP_critical_end()();
 }
 
-/* ---- for the watcher of Python 3.11 and 3.12: the values of a frame's locals, each with a reference of its own. It is called with Python's lock held, and so at one moment;
+/* ---- for the watcher of Python 3.8 to 3.12: the values of a frame's locals, each with a reference of its own. It is called with Python's lock held, and so at one moment;
  * nothing of it is of use where the frame is not laid out as those versions have it, and then its code is another than the one that is given. */
-long armus_frame_values(const char *frame, long to_code, const void *code, long to_values, long count, uintptr_t *values) {
-    const char *inner = *(const char *const *)(frame + 24);
+long armus_frame_values(const char *frame, long to_inner, long to_code, const void *code, long to_values, long count, uintptr_t *values) {
+    const char *inner = to_inner == 0 ? frame : *(const char *const *)(frame + to_inner);
     if (inner == NULL || *(const void *const *)(inner + to_code) != code) {
         return 0;
     }

@@ -34,6 +34,8 @@ public final class Watcher implements Runnable {
     private Map<Long, String> stoodBefore = new HashMap<>();
     private final Map<Long, Wait> known = new HashMap<>();
     private boolean virtualThreads;
+    private boolean namesAreKept;
+    private Map<Long, String> inKernel = new HashMap<>();
 
     private Watcher(Lines lines, Inside inside) {
         this.lines = lines;
@@ -77,6 +79,7 @@ public final class Watcher implements Runnable {
     @Override
     public void run() {
         try {
+            namesAreKept = Inside.namesAreKept();
             long pause = PERIOD;
             while (true) {
                 Thread.sleep(pause);
@@ -176,11 +179,14 @@ public final class Watcher implements Runnable {
     /** Who stands is announced, but not who is only on its way out of the wait: the kernel lets that thread run, or the object says that the wait is over. */
     private void tell(Map<Long, Thread> before, Map<Long, String> stands) throws IOException {
         Map<Long, Wait> standing = new LinkedHashMap<>();
-        Set<String> running = known.isEmpty() ? Collections.<String>emptySet() : Inside.runningNames();
+        if (!namesAreKept && !inKernel.keySet().containsAll(known.keySet())) {
+            inKernel = Inside.numbersInKernel();
+        }
+        Set<String> running = known.isEmpty() ? Collections.<String>emptySet() : Inside.running();
         for (Map.Entry<Long, Wait> entry : known.entrySet()) {
             Thread thread = before.get(entry.getKey());
             Wait wait = entry.getValue();
-            if (thread != null && !wait.isOver() && (wait.isOwned || !running.contains(Inside.kernelName(thread)))) {
+            if (thread != null && !wait.isOver() && (wait.isOwned || sleeps(thread, running))) {
                 wait.refresh(before);
                 standing.put(entry.getKey(), wait);
             }
@@ -201,6 +207,10 @@ public final class Watcher implements Runnable {
         }
         announcer.announce(present, others, standing);
         lines.handOver();
+    }
+
+    private boolean sleeps(Thread thread, Set<String> running) {
+        return namesAreKept ? !running.contains(Inside.kernelName(thread)) : inKernel.containsKey(thread.getId()) && !running.contains(inKernel.get(thread.getId()));
     }
 
     private Wait waitOf(ThreadInfo info, Map<Long, Thread> present) {

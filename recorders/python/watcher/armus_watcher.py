@@ -3,7 +3,6 @@ program is replaced. What a thread waits for is what its frames say: where it st
 That it has not run between two looks is what the kernel says."""
 import ast
 import functools
-import gc
 import inspect
 import linecache
 import os
@@ -72,29 +71,29 @@ class Memory:
 
 # ---- names and values of a frame, without making its dictionary of locals, which would keep values alive
 def local_values(frame, memory):
-    """Pairs of a name, or None where it is not known, and a value."""
+    """Pairs of a name and a value."""
     code = frame.f_code
-    if not code.co_flags & inspect.CO_OPTIMIZED:
+    if not code.co_flags & inspect.CO_OPTIMIZED or sys.version_info >= (3, 13):
         return list(frame.f_locals.items())
-    if sys.version_info >= (3, 13):
-        return list(frame.f_locals.items())
-    if sys.version_info < (3, 11):
-        return [(None, value) for value in gc.get_referents(frame)]
-    names = code.co_varnames + tuple(n for n in code.co_cellvars if n not in code.co_varnames) + code.co_freevars
+    cells = code.co_cellvars if sys.version_info < (3, 11) else tuple(n for n in code.co_cellvars if n not in code.co_varnames)
+    names = code.co_varnames + cells + code.co_freevars
     return [(name, value.cell_contents if type(value) is CELL and not is_empty(value) else value) for name, value in zip(names, frame_values(frame, code, len(names)))
             if value is not None]
 
 
 def frame_values(frame, code, count):
-    """What the locals of a frame of Python 3.11 and 3.12 have. Without the library of the C recorder, which takes them all at one moment, they are not looked at."""
+    """What the locals of a frame of Python 3.8 to 3.12 have. Without the library of the C recorder, which takes them all at one moment, they are not looked at."""
     import ctypes
     try:
         take = ctypes.PyDLL(None).armus_frame_values
     except AttributeError:
         return []
-    take.restype, take.argtypes = ctypes.c_long, (ctypes.py_object, ctypes.c_long, ctypes.py_object, ctypes.c_long, ctypes.c_long, ctypes.c_void_p)
+    take.restype, take.argtypes = ctypes.c_long, (ctypes.py_object, ctypes.c_long, ctypes.c_long, ctypes.py_object, ctypes.c_long, ctypes.c_long, ctypes.c_void_p)
     found = (ctypes.c_size_t * (count + 1))()
-    taken = take(frame, 32 if sys.version_info < (3, 12) else 0, code, 72, count, found)
+    if sys.version_info < (3, 11):
+        taken = take(frame, 0, 32, code, type(frame).__basicsize__ - 8, count, found)      # the last word of the frame itself is the first local
+    else:
+        taken = take(frame, 24, 32 if sys.version_info < (3, 12) else 0, code, 72, count, found)
     values = [ctypes.cast(p, ctypes.py_object).value if p else None for p in found[:taken]]
     for p in found[:taken]:
         if p:
@@ -130,9 +129,9 @@ def attribute(value, name):
 def evaluated(node, frame, locals_):
     """The values that an expression of names, attributes and plain indices may have."""
     if isinstance(node, ast.Name):
-        near = [v for n, v in locals_ if n == node.id or n is None]
-        return near if any(n == node.id for n, _ in locals_) or (near and node.id in frame.f_code.co_varnames) else \
-            near + [frame.f_globals[node.id]] if node.id in frame.f_globals else near
+        near = [v for n, v in locals_ if n == node.id]
+        of_function = frame.f_code.co_varnames + frame.f_code.co_cellvars + frame.f_code.co_freevars
+        return near if near or node.id in of_function or node.id not in frame.f_globals else [frame.f_globals[node.id]]
     if isinstance(node, ast.Attribute):
         return [v for v in (attribute(o, node.attr) for o in evaluated(node.value, frame, locals_)) if v is not None]
     if isinstance(node, ast.Subscript):
@@ -695,9 +694,8 @@ class Watcher:
 
     def holds_among(self, frames, lock, waits):
         """Whether one with these frames stands inside of a with-statement of this lock, or between its acquire and the release of a finally."""
-        for n, f in enumerate(frames):
-            if f.f_code.co_filename.startswith(STANDARD):
-                continue
+        outside = [f for f in frames if not f.f_code.co_filename.startswith(STANDARD) or 'site-packages' in f.f_code.co_filename]
+        for n, f in enumerate(outside):
             for region, expression in Text.of(f).regions:
                 if region[0][0] <= f.f_lineno <= region[1][0] and is_inside(f, region) and f.f_code.co_firstlineno <= region[0][0] \
                         and not (n == 0 and waits and stands_at(f)[1] is None):

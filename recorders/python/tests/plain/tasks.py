@@ -2,13 +2,17 @@
 import asyncio
 
 
+def met(barrier):
+    return barrier.wait() if hasattr(barrier, 'wait') else barrier.get()
+
+
 async def cross(first, second):
-    await first.wait()
-    await second.wait()
+    await met(first)
+    await met(second)
 
 
 async def main():
-    left, right = asyncio.Barrier(2), asyncio.Barrier(2)
+    left, right = (asyncio.Barrier(2), asyncio.Barrier(2)) if hasattr(asyncio, 'Barrier') else (asyncio.Queue(), asyncio.Queue())   # Python 3.11 has barriers
     one = asyncio.create_task(cross(left, right), name='one')
     await asyncio.gather(one, asyncio.create_task(cross(right, left), name='other'))
 

@@ -5,6 +5,18 @@ import threading
 import time
 
 
+class Barrier:
+    """That of Python 3.11, for an older one."""
+    def __init__(self, parties):
+        self.missing, self.complete = parties, asyncio.Event()
+
+    async def wait(self):
+        self.missing -= 1
+        if self.missing == 0:
+            self.complete.set()
+        await self.complete.wait()
+
+
 async def late(barrier, event, seconds):
     await asyncio.sleep(seconds)
     event.set()
@@ -25,7 +37,7 @@ def wakes(loop, future):
 
 
 async def main():
-    barrier, event, lock, queue = asyncio.Barrier(3), asyncio.Event(), asyncio.Lock(), asyncio.Queue()
+    barrier, event, lock, queue = getattr(asyncio, 'Barrier', Barrier)(3), asyncio.Event(), asyncio.Lock(), asyncio.Queue()
     tasks = [asyncio.create_task(late(barrier, event, 0.2 * i)) for i in range(3)]
     await event.wait()
     print(await asyncio.gather(*tasks))
