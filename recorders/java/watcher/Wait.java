@@ -24,6 +24,7 @@ final class Wait {
     private Phaser phaser;
     private FutureTask<?> future;
     private Object latch;
+    private Thread joined;
     private Inside inside;
 
     Wait(String mark, String place) {
@@ -46,6 +47,7 @@ final class Wait {
         any("end-of", "end-of " + joined.getId());
         by = joined.getId();
         ends = joined.getName();
+        this.joined = joined;
     }
 
     void future(Inside inside, FutureTask<?> future) {
@@ -73,7 +75,7 @@ final class Wait {
 
     /** Whether what it waits for has come, though the thread still stands there. */
     boolean isOver() {
-        return phaser != null && phaser.getPhase() != phase || future != null && future.isDone() || latch != null && inside.isOpen(latch);
+        return phaser != null && phaser.getPhase() != phase || future != null && future.isDone() || joined != null && !joined.isAlive() || latch != null && inside.isOpen(latch);
     }
 
     /** The runner of a future is known only when it runs. */

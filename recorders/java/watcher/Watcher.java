@@ -35,6 +35,7 @@ public final class Watcher implements Runnable {
     private final Map<Long, Wait> known = new HashMap<>();
     private boolean virtualThreads;
     private boolean namesAreKept;
+    private Map<Long, Thread> there = Collections.emptyMap();
     private Map<Long, String> inKernel = new HashMap<>();
 
     private Watcher(Lines lines, Inside inside) {
@@ -112,6 +113,11 @@ public final class Watcher implements Runnable {
                 present.put(found[i].getId(), found[i]);
             }
         }
+        for (Map.Entry<Long, Thread> entry : there.entrySet()) {
+            if (entry.getValue().isAlive()) {
+                present.putIfAbsent(entry.getKey(), entry.getValue());   // it left its group, and has not ended yet
+            }
+        }
         return present;
     }
 
@@ -121,7 +127,8 @@ public final class Watcher implements Runnable {
     }
 
     private void look() throws IOException {
-        Map<Long, Thread> present = present();
+        Map<Long, Thread> present = present();                 // who is not here has ended before anybody is looked at
+        there = present;
         List<Long> asleep = new ArrayList<>();
         for (Thread thread : present.values()) {
             if (mayWait(thread)) {
@@ -191,7 +198,8 @@ public final class Watcher implements Runnable {
                 standing.put(entry.getKey(), wait);
             }
         }
-        Map<Long, Thread> present = present();                 // who began meanwhile runs
+        Map<Long, Thread> present = new LinkedHashMap<>(before);
+        present.putAll(present());                             // who began meanwhile runs
         for (Thread thread : present.values()) {
             virtualThreads |= thread.getClass().getName().equals("jdk.internal.misc.CarrierThread");
         }

@@ -55,7 +55,17 @@ class Memory:
     """The process's own memory, read without touching it."""
 
     def __init__(self):
-        self.file = os.open('/proc/self/mem', os.O_RDONLY | os.O_CLOEXEC)
+        self.file = moved_file(os.open('/proc/self/mem', os.O_RDONLY | os.O_CLOEXEC))
+        self.is_same = self.identity()
+
+    def identity(self):
+        found = os.fstat(self.file)
+        return found.st_dev, found.st_ino
+
+    def close(self):
+        """Not a file of the program's own that has its number now."""
+        if self.identity() == self.is_same:
+            os.close(self.file)
 
     def words(self, address, count):
         try:
@@ -243,6 +253,11 @@ class Lines:
 
     def say(self, line):
         self.lines.append(line)
+
+    def close(self):
+        if self.identity() != self.is_same:
+            self.connection.detach()
+        self.connection.close()
 
     def hand_over(self):
         """All lines of a look at once. What cannot be written ends the recorder."""
@@ -719,7 +734,7 @@ class Life:
         connection = socket.socket(socket.AF_UNIX)
         try:
             connection.connect(path)
-            connection = moved(connection)
+            connection = socket.socket(fileno=moved_file(connection.detach()))
             process = str(os.getpid())
             self.lines = Lines(connection, process)
             self.lines.say(f'# process {process}/')
@@ -744,11 +759,11 @@ class Life:
                 import traceback
                 traceback.print_exc()
         finally:
-            try:
-                self.lines.connection.close()
-                os.close(watcher.memory.file)
-            except Exception:
-                pass
+            for close in (lambda: self.lines.close(), lambda: watcher.memory.close()):
+                try:
+                    close()
+                except Exception:                         # there is nothing to close, or it is closed
+                    pass
             self.done.release()
 
     def end(self):
@@ -766,17 +781,17 @@ class Life:
             time.sleep(0.0005)
 
 
-def moved(connection):
-    """The socket with a number that the program is not likely to meet."""
+def moved_file(number):
+    """The file under a number that the program is not likely to meet."""
     import fcntl
     import resource
     limit = resource.getrlimit(resource.RLIMIT_NOFILE)[0]
     high = min(limit if limit > 0 else 65536, 65536)
     try:
-        other = socket.socket(fileno=fcntl.fcntl(connection.fileno(), fcntl.F_DUPFD_CLOEXEC, high - high // 16))
+        other = fcntl.fcntl(number, fcntl.F_DUPFD_CLOEXEC, high - high // 16)
     except OSError:
-        return connection
-    connection.close()
+        return number
+    os.close(number)
     return other
 
 
