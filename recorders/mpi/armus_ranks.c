@@ -11,6 +11,7 @@
 #include <fcntl.h>
 #include <mpi.h>
 #include <netdb.h>
+#include <poll.h>
 #include <pthread.h>
 #include <signal.h>
 #include <stdarg.h>
@@ -39,7 +40,7 @@ static const char *const kind_names[KINDS] = {"Barrier", "Allreduce", "Allgather
 #define FIRST_OF_LAST SCAN
 #define FIRST_ROOTED REDUCE
 #define FIRST_FROM_ROOT BCAST
-enum { FROM_ROOT = KINDS - BCAST, RANKS = 128, THREADS = 64, REQUESTS = 1024, PARTS = 32, LINE = 512, NAME = 40, PERIOD = 50 };
+enum { FROM_ROOT = KINDS - BCAST, RANKS = 128, THREADS = 64, REQUESTS = 1024, PARTS = 32, LINE = 512, NAME = 40, PERIOD = 50, REACHED_IN = 2000 };
 
 struct communicator {
     bool named, gone, between;                      /* between: an inter-communicator, whose collectives wait for the other side alone */
@@ -654,10 +655,15 @@ static int by_tcp(const char *address) {
     if (getaddrinfo(host, port, &wanted, &found) != 0) {
         return -1;
     }
-    int s = socket(found->ai_family, SOCK_STREAM | SOCK_CLOEXEC, 0);
+    int s = socket(found->ai_family, SOCK_STREAM | SOCK_CLOEXEC | SOCK_NONBLOCK, 0), error = 0;
+    socklen_t length_of_error = sizeof error;
     if (s >= 0 && connect(s, found->ai_addr, found->ai_addrlen) < 0) {
-        close(s);
-        s = -1;
+        struct pollfd reached = {.fd = s, .events = POLLOUT};
+        bool comes = errno == EINPROGRESS && poll(&reached, 1, REACHED_IN) == 1 && getsockopt(s, SOL_SOCKET, SO_ERROR, &error, &length_of_error) == 0 && error == 0;
+        if (!comes) {
+            close(s);
+            s = -1;
+        }
     }
     freeaddrinfo(found);
     return s;
@@ -673,7 +679,7 @@ static void reach(void) {
     int s = -1;
     if (n < sizeof to.sun_path) {
         memcpy(to.sun_path, address, n);
-        s = socket(AF_UNIX, SOCK_STREAM | SOCK_CLOEXEC, 0);
+        s = socket(AF_UNIX, SOCK_STREAM | SOCK_CLOEXEC | SOCK_NONBLOCK, 0);
         if (s >= 0 && connect(s, (struct sockaddr *)&to, sizeof to) < 0) {
             close(s);
             s = -1;

@@ -18,6 +18,7 @@ import java.util.HashSet;
 import java.util.List;
 import java.util.Map;
 import java.util.Set;
+import java.util.concurrent.FutureTask;
 import java.util.regex.Matcher;
 import java.util.regex.Pattern;
 import javax.management.JMException;
@@ -73,6 +74,37 @@ final class Inside {
         } catch (ReflectiveOperationException | RuntimeException e) {
             return null;
         }
+    }
+
+    /** The value of a field that this class of the library declares, and not one of the program's that has the same name. */
+    private Object declared(Class<?> type, Object of, String name) {
+        String key = "declared " + type.getName() + " " + name;
+        try {
+            Field field = fields.get(key);
+            if (field == null) {
+                field = type.getDeclaredField(name);
+                field.setAccessible(true);
+                fields.put(key, field);
+            }
+            return field.get(of);
+        } catch (ReflectiveOperationException | RuntimeException e) {
+            return null;
+        }
+    }
+
+    /** The number by which the machine knows a thread, whatever the program's class says of it. */
+    long id(Thread thread) {
+        Object number = declared(Thread.class, thread, "tid");
+        return number instanceof Long ? (Long) number : thread.getId();
+    }
+
+    Object runner(FutureTask<?> future) {
+        return declared(FutureTask.class, future, "runner");
+    }
+
+    boolean isDone(FutureTask<?> future) {
+        Object state = declared(FutureTask.class, future, "state");
+        return !(state instanceof Integer) || (Integer) state > 1;     // 0 is new, 1 is about to be done
     }
 
     /** Whether the count of a latch is 0. */
@@ -153,9 +185,9 @@ final class Inside {
         return name.substring(0, name.indexOf('@'));
     }
 
-    static String kernelName(Thread thread) {
+    static String kernelName(long id, Thread thread) {
         byte[] bytes = thread.getName().getBytes(StandardCharsets.UTF_8);
-        return thread.getId() == 1 ? "java" : new String(bytes, 0, Math.min(NAME, bytes.length), StandardCharsets.ISO_8859_1);
+        return id == 1 ? "java" : new String(bytes, 0, Math.min(NAME, bytes.length), StandardCharsets.ISO_8859_1);
     }
 
     /** The threads that the kernel lets run, by its names and its numbers of them: a thread that was woken and has not come to run yet is one. */

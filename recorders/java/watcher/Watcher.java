@@ -110,7 +110,7 @@ public final class Watcher implements Runnable {
         Map<Long, Thread> present = new LinkedHashMap<>();
         for (int i = 0; i < count; i++) {
             if (!OWN_THREADS.contains(found[i].getName())) {
-                present.put(found[i].getId(), found[i]);
+                present.put(inside.id(found[i]), found[i]);
             }
         }
         for (Map.Entry<Long, Thread> entry : there.entrySet()) {
@@ -130,9 +130,9 @@ public final class Watcher implements Runnable {
         Map<Long, Thread> present = present();                 // who is not here has ended before anybody is looked at
         there = present;
         List<Long> asleep = new ArrayList<>();
-        for (Thread thread : present.values()) {
-            if (mayWait(thread)) {
-                asleep.add(thread.getId());
+        for (Map.Entry<Long, Thread> entry : present.entrySet()) {
+            if (mayWait(entry.getValue())) {
+                asleep.add(entry.getKey());
             }
         }
         if (threads == null) {
@@ -193,7 +193,7 @@ public final class Watcher implements Runnable {
         for (Map.Entry<Long, Wait> entry : known.entrySet()) {
             Thread thread = before.get(entry.getKey());
             Wait wait = entry.getValue();
-            if (thread != null && !wait.isOver() && (wait.isOwned || sleeps(thread, running))) {
+            if (thread != null && !wait.isOver() && (wait.isOwned || sleeps(entry.getKey(), thread, running))) {
                 wait.refresh(before);
                 standing.put(entry.getKey(), wait);
             }
@@ -217,8 +217,8 @@ public final class Watcher implements Runnable {
         lines.handOver();
     }
 
-    private boolean sleeps(Thread thread, Set<String> running) {
-        return namesAreKept ? !running.contains(Inside.kernelName(thread)) : inKernel.containsKey(thread.getId()) && !running.contains(inKernel.get(thread.getId()));
+    private boolean sleeps(Long id, Thread thread, Set<String> running) {
+        return namesAreKept ? !running.contains(Inside.kernelName(id, thread)) : inKernel.containsKey(id) && !running.contains(inKernel.get(id));
     }
 
     private Wait waitOf(ThreadInfo info, Map<Long, Thread> present) {
@@ -233,7 +233,7 @@ public final class Watcher implements Runnable {
         if (blocker == null) {
             Thread joined = joined(info, frames, present);
             if (joined != null) {
-                wait.end(joined);
+                wait.end(joined, inside.id(joined));
             } else {
                 wait.any(isParked(frames) ? "park" : info.getLockInfo() == null ? "wait" : simple(info.getLockInfo().getClassName()), String.valueOf(info.getLockName()));
             }

@@ -4,7 +4,6 @@ That it has not run between two looks is what the kernel says."""
 import ast
 import functools
 import inspect
-import linecache
 import os
 import platform
 import socket
@@ -19,7 +18,7 @@ PERIOD, LONGEST = 0.05, 1.0
 FUTEX = {'x86_64': 202, 'aarch64': 98, 'riscv64': 98, 'ppc64le': 221, 's390x': 238}.get(platform.machine())
 EPOLL = {'x86_64': 232, 'aarch64': 22, 'riscv64': 22}.get(platform.machine())
 STANDARD = os.path.dirname(os.__file__) + os.sep
-OWN = __file__
+BEGUN = time.time()
 
 
 # ---- what the kernel says of a thread
@@ -125,8 +124,8 @@ def is_empty(cell):
 def attribute(value, name):
     """An attribute as it is stored, without running code of the program."""
     try:
-        return vars(value)[name]
-    except (TypeError, KeyError):
+        return object.__getattribute__(value, '__dict__')[name]
+    except (AttributeError, TypeError, KeyError):
         try:
             found = inspect.getattr_static(value, name)
             if inspect.ismemberdescriptor(found):
@@ -150,7 +149,7 @@ def evaluated(node, frame, locals_):
         keys = [index.value] if isinstance(index, ast.Constant) else evaluated(index, frame, locals_)
         for o in evaluated(node.value, frame, locals_):
             for k in keys:
-                if type(o) in (list, tuple, dict):
+                if type(o) in (list, tuple, dict) and type(k) in (int, str):
                     try:
                         found.append(o[k])
                     except (LookupError, TypeError):
@@ -164,11 +163,11 @@ class Text:
     """Of a file: the calls and with-statements in each line, and the regions in which a lock is held."""
     known = {}
 
-    def __init__(self, file, frame_globals):
+    def __init__(self, file):
         self.at, self.regions = {}, []
         try:
-            tree = ast.parse(''.join(linecache.getlines(file, frame_globals)))
-        except (SyntaxError, ValueError, RecursionError, MemoryError):
+            tree = ast.parse(self.read(file))
+        except (OSError, SyntaxError, ValueError, RecursionError, MemoryError):
             return
         for node in ast.walk(tree):
             if isinstance(node, (ast.With, ast.AsyncWith)):
@@ -181,6 +180,15 @@ class Text:
                 if isinstance(body, list):
                     for one, two in zip(body, body[1:]):
                         self.tried(one, two)
+
+    @staticmethod
+    def read(file):
+        """The text that the program was made of: a plain file that is older than the program's beginning. What else has the name may be the program's input."""
+        found = os.stat(file)
+        if not stat.S_ISREG(found.st_mode) or found.st_mtime > BEGUN:
+            return b''
+        with open(file, 'rb') as opened:
+            return opened.read()
 
     def note(self, first, last, verb, expression):
         for line in range(first, min(max(last, first), first + 20) + 1):
@@ -199,7 +207,7 @@ class Text:
     def of(cls, frame):
         file = frame.f_code.co_filename
         if file not in cls.known:
-            cls.known[file] = cls(file, frame.f_globals)
+            cls.known[file] = cls(file)
         return cls.known[file]
 
 

@@ -43,6 +43,7 @@ int main(int count, char **words) {
     }
     status_of(child);
     if ((child = fork()) == 0) {
+        pthread_barrier_init(&met, NULL, 2);
         pthread_create(&t, NULL, waits, NULL);
         pthread_barrier_wait(&met);
         _exit(pthread_join(t, NULL) + 4);

@@ -1,5 +1,6 @@
 """Comes to its end: closes all files behind the first three, as a daemon does, opens one of its own, puts it under many numbers, and meets a late thread."""
 import os
+import resource
 import tempfile
 import threading
 import time
@@ -11,7 +12,7 @@ time.sleep(0.2)
 os.closerange(3, 100000)
 number, name = tempfile.mkstemp()
 os.unlink(name)
-for other in range(50000, 64000):
+for other in range(number + 1, min(resource.getrlimit(resource.RLIMIT_NOFILE)[0], 65536)):
     os.dup2(number, other)
 met.wait()
 late.join()
