@@ -696,6 +696,11 @@ static void announce_wait(struct slot *s) {
     }
 }
 
+/* Who waits for a thread's end is announced first, then who waits for anybody, then who waits for a thread that has to do something, and the end of a team last: the last
+ * of them begins the message. */
+enum { TURNS = 4 };
+static int turn_of(const struct slot *s) { return s->kind == JOIN ? 0 : s->kind == TEAM_END ? TURNS - 1 : s->owner == NULL && s->kind != TEAM ? 1 : 2; }
+
 static void look(void) {
     int handlers = -1;
     bool news = false;
@@ -740,9 +745,9 @@ static void look(void) {
             atomic_store(&s->state, FREE);
         }
     }
-    for (int pass = 0; pass < 3; pass++) {                     /* who waits for a thread's end first, and the end of a team last: so the first words name the cause */
+    for (int turn = 0; turn < TURNS; turn++) {
         EACH_SLOT(s) {
-            if (s->stands && s->group < 0 && s->announced && pass == (s->kind == JOIN ? 0 : s->kind == TEAM_END ? 2 : 1)) {
+            if (s->stands && s->group < 0 && s->announced && turn_of(s) == turn) {
                 announce_wait(s);
             }
         }

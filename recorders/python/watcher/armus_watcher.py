@@ -290,10 +290,14 @@ ALL = 'all'
 class Wait:
     """What a thread waits for: an object of a kind, and keepers: each is None (any thread of this process), ALL (of all processes) or a list of threads of which one has
     to act."""
-    __slots__ = ('kind', 'object', 'keepers', 'place', 'name', 'last')
+    __slots__ = ('kind', 'object', 'keepers', 'place', 'name', 'ends')
 
-    def __init__(self, kind, object_, keepers, place, name=None, last=False):
-        self.kind, self.object, self.keepers, self.place, self.name, self.last = kind, object_, keepers, place, name, last
+    def __init__(self, kind, object_, keepers, place, name=None, ends=False):
+        self.kind, self.object, self.keepers, self.place, self.name, self.ends = kind, object_, keepers, place, name, ends
+
+    def turn(self):
+        """Who waits for an end is announced first, then who waits for anybody, and then who waits for one that has to do something: the last of them begins the message."""
+        return 0 if self.ends else 1 if None in self.keepers or ALL in self.keepers else 2
 
     def key(self):
         return self.kind, id(self.object), tuple(k if k in (None, ALL) else tuple(k) for k in self.keepers)
@@ -360,7 +364,7 @@ class Announcer:
             self.lines.say(f'{self.task(key)} end')
             self.used.discard(self.names.pop(key))
         waiting = [k for k in standing if k in self.names and k not in self.waits]
-        for key in sorted(waiting, key=lambda k: standing[k].last, reverse=True):
+        for key in sorted(waiting, key=lambda k: standing[k].turn()):
             self.wait(key, standing[key])
 
     def say_any(self):
@@ -554,7 +558,7 @@ class Watcher:
         if name in ('_wait_for_tstate_lock', 'join') and isinstance(this, threading.Thread):
             if values.get('timeout') not in (None, -1) or not this.is_alive():
                 return None
-            return Wait('end-of', this, [[this.ident]], place, f'end-of-{self.announcer.names.get(this.ident, named(this._name))}', last=True)
+            return Wait('end-of', this, [[this.ident]], place, f'end-of-{self.announcer.names.get(this.ident, named(this._name))}', ends=True)
         if name in ('_acquire_restore', '__enter__', 'acquire'):
             return self.of_lock(self.lock_at(address, [getattr(this, '_lock', None), getattr(this, '_block', None)]), place, frames, ident)
         return None
@@ -633,7 +637,7 @@ class Watcher:
         if self.slept[ident][1] == switches(native):
             present.update(names)
             standing.update((key, wait) for key, wait in waits.items() if wait is not None)
-            standing[ident] = Wait('loop', loop, [None], self.place(frame), last=True)
+            standing[ident] = Wait('loop', loop, [None], self.place(frame), ends=True)
 
     @staticmethod
     def idle_loop(frame):
@@ -662,10 +666,10 @@ class Watcher:
         if waiter is None or waiter.done():
             return None
         if id(waiter) in keys:
-            return Wait('end-of', waiter, [[keys[id(waiter)]]], place, f'end-of-{named(waiter.get_name())}', last=True)
+            return Wait('end-of', waiter, [[keys[id(waiter)]]], place, f'end-of-{named(waiter.get_name())}', ends=True)
         children = [child for child in getattr(waiter, '_children', ()) if not child.done()]
         if children:
-            return Wait('gather', waiter, [[keys[id(child)]] for child in children], place, last=True) if all(id(child) in keys for child in children) else None
+            return Wait('gather', waiter, [[keys[id(child)]] for child in children], place, ends=True) if all(id(child) in keys for child in children) else None
         this = None
         for frame in frames[key]:
             if os.path.basename(os.path.dirname(frame.f_code.co_filename)) != 'asyncio' or os.path.basename(frame.f_code.co_filename) not in ('locks.py', 'queues.py', 'mixins.py'):
