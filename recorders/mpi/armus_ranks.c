@@ -88,7 +88,7 @@ static int key = MPI_KEYVAL_INVALID, rank = -1, size;
 static _Atomic(unsigned) sent[RANKS], begun[RANKS], taken[RANKS], begun_any;
 static unsigned said_sent[RANKS], said_begun[RANKS];
 static _Atomic(bool) sends_uncounted, receives_uncounted, on;
-static bool left_sends, left_receives, joined_pairs, shared, several_threads;
+static bool left_sends, left_receives, joined_pairs, shared, others_unknown;
 static char job[16], process[NAME];
 static int out = -1;
 static struct stat out_stat;
@@ -366,7 +366,7 @@ static void say_any(const char *name, const struct communicator *c) {
             k += (size_t)snprintf(line + k, sizeof line - k, " %s:%d/rank-%d", job, c->peer[r], c->peer[r]);
         }
     }
-    if (k < LINE - 1 && known && !several_threads) {
+    if (k < LINE - 1 && known && !others_unknown) {
         say("%s", line);
     } else {
         say("%s?%s any", process, name);
@@ -710,7 +710,8 @@ static void reach(void) {
 
 static void begin(const void *from) {
     sigset_t every, own;
-    const char *names[] = {"OMPI_MCA_ess_base_jobid", "OMPI_MCA_orte_ess_jobid", "PMIX_NAMESPACE", "PMI_JOBID"}, *id = NULL;
+    MPI_Comm parent = MPI_COMM_NULL;
+    const char *names[] = {"OMPI_MCA_ess_base_jobid", "OMPI_MCA_orte_ess_jobid", "PMIX_NAMESPACE"}, *id = NULL;
     int saved = errno, level = MPI_THREAD_SINGLE;
     if (atomic_load(&on) || getenv("ARMUS_SOCKET") == NULL) {
         return;
@@ -718,9 +719,13 @@ static void begin(const void *from) {
     PMPI_Comm_rank(MPI_COMM_WORLD, &rank);
     PMPI_Comm_size(MPI_COMM_WORLD, &size);
     PMPI_Query_thread(&level);
-    several_threads = level >= MPI_THREAD_SERIALIZED;
+    others_unknown = level >= MPI_THREAD_SERIALIZED;           /* a rank may have several tasks then */
     for (unsigned i = 0; id == NULL && i < sizeof names / sizeof names[0]; i++) {
         id = getenv(names[i]);
+    }
+    PMPI_Comm_get_parent(&parent);
+    if (id == NULL && parent == MPI_COMM_NULL) {
+        id = getenv("ARMUS_WORD");                             /* the same in all ranks, and another one in each run of armus-run */
     }
     if (id != NULL) {
         unsigned long h = 5381;
@@ -729,7 +734,8 @@ static void begin(const void *from) {
         }
         snprintf(job, sizeof job, "%lu", h % 100000);
     } else {
-        snprintf(job, sizeof job, "%d", (int)getppid());       /* of MPICH: its helper on this host */
+        snprintf(job, sizeof job, "%d", (int)getppid());       /* a world that was spawned by MPICH: its helper on this host */
+        others_unknown = true;                                /* the ranks of other hosts are not known by name */
     }
     snprintf(process, sizeof process, "%s:%d/", job, rank);
     reach();

@@ -78,7 +78,7 @@ def _begin():
     if '--multiprocessing-fork' in getattr(sys, 'orig_argv', sys.argv):
         watch()
     else:
-        os.register_at_fork(after_in_parent=lambda: is_needed() and watch(), after_in_child=lambda: (hook(), is_needed() and watch()))
+        os.register_at_fork(after_in_parent=lambda: is_needed() and watch(), after_in_child=lambda: (hook(), 'multiprocessing' in sys.modules and watch()))
 
 
 def _next():
