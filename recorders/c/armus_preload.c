@@ -210,14 +210,13 @@ static _Atomic(uint64_t) *entry_of(const void *lock) { return &owned[(ADDRESS_OF
 
 static void takes(struct slot *s, const void *lock) {
     if (s != NULL && s->index < 0xffff) {
-        atomic_store(entry_of(lock), (uint64_t)(s->index + 1) << ADDRESS_BITS | ADDRESS_OF(lock));
+        atomic_store_explicit(entry_of(lock), (uint64_t)(s->index + 1) << ADDRESS_BITS | ADDRESS_OF(lock), memory_order_release);
     }
 }
 
 static void gives_back(const void *lock) {
-    uint64_t now = atomic_load(entry_of(lock));
-    if ((now & ((UINT64_C(1) << ADDRESS_BITS) - 1)) == ADDRESS_OF(lock)) {
-        atomic_compare_exchange_strong(entry_of(lock), &now, 0);
+    if ((atomic_load_explicit(entry_of(lock), memory_order_relaxed) & ((UINT64_C(1) << ADDRESS_BITS) - 1)) == ADDRESS_OF(lock)) {
+        atomic_store_explicit(entry_of(lock), 0, memory_order_release);     /* nobody else has this lock; another one that comes here meanwhile is only not known */
     }
 }
 
@@ -1116,10 +1115,15 @@ TEAM_WAIT(bool, GOMP_loop_end_cancel)
 TEAM_WAIT(bool, GOMP_sections_end_cancel)
 
 /* What a thread that takes a lock of OpenMP does, and one that gives it back. */
-#define TAKES(kind, name, object, parameters, words) \
+#define TAKES(kind, name, object, parameters, words) TAKES_BEHIND(false, kind, name, object, parameters, words)
+#define TAKES_BEHIND(tried, kind, name, object, parameters, words) \
     REAL(void, name, UNBRACKETED parameters) \
     void name parameters { \
         struct slot *s = own_slot(); \
+        if (tried) { \
+            takes(s, object); \
+            return; \
+        } \
         wait_begins(s, kind, object, HERE); \
         real_##name() words; \
         wait_ends(s); \
@@ -1141,16 +1145,16 @@ TEAM_WAIT(bool, GOMP_sections_end_cancel)
         return taken; \
     }
 #define UNBRACKETED(...) __VA_ARGS__
+TRIES(omp_test_lock, (void *lock), (lock))
+TRIES(omp_test_lock_, (void *lock), (lock))
 TAKES(CRITICAL, GOMP_critical_start, &unnamed_critical, (void), ())
 TAKES(CRITICAL, GOMP_critical_name_start, name, (void **name), (name))
-TAKES(OMP_LOCK, omp_set_lock, lock, (void *lock), (lock))
-TAKES(OMP_LOCK, omp_set_lock_, lock, (void *lock), (lock))
+TAKES_BEHIND(real_omp_test_lock()(lock), OMP_LOCK, omp_set_lock, lock, (void *lock), (lock))
+TAKES_BEHIND(real_omp_test_lock_()(lock), OMP_LOCK, omp_set_lock_, lock, (void *lock), (lock))
 GIVES_BACK(GOMP_critical_end, &unnamed_critical, (void), ())
 GIVES_BACK(GOMP_critical_name_end, name, (void **name), (name))
 GIVES_BACK(omp_unset_lock, lock, (void *lock), (lock))
 GIVES_BACK(omp_unset_lock_, lock, (void *lock), (lock))
-TRIES(omp_test_lock, (void *lock), (lock))
-TRIES(omp_test_lock_, (void *lock), (lock))
 
 /* ---- for the watcher of Python 3.8 to 3.12: the values of a frame's locals, each with a reference of its own. It is called with Python's lock held, and so at one moment;
  * nothing of it is of use where the frame is not laid out as those versions have it, and then its code is another than the one that is given. */
