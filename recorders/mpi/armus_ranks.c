@@ -1367,8 +1367,8 @@ FORTRAN_COLLECTIVE(REDUCE, mpi_reduce_, h, (int)*r, *n > 0, (void *a, void *b, F
 FORTRAN_COLLECTIVE(GATHER, mpi_gather_, h, (int)*r, *m > 0, (void *a, F n, F t, void *b, F m, F u, F r, F h, F e), (a, n, t, b, m, u, r, h, e))
 FORTRAN_COLLECTIVE(SCATTER, mpi_scatter_, h, (int)*r, *m > 0, (void *a, F n, F t, void *b, F m, F u, F r, F h, F e), (a, n, t, b, m, u, r, h, e))
 FORTRAN_COLLECTIVE(BCAST, mpi_bcast_, h, (int)*r, *n > 0, (void *a, F n, F t, F r, F h, F e), (a, n, t, r, h, e))
-FORTRAN(mpi_comm_dup_, (F h, F to, F e), (h, to, e), struct slot *s = begins(NONE, NULL, 0, 0, HERE), if (s != NULL && *e == 0) { made(PMPI_Comm_f2c(*h), PMPI_Comm_f2c(*to), "dup"); } ends(s))
-FORTRAN(mpi_comm_split_, (F h, F c, F k, F to, F e), (h, c, k, to, e), struct slot *s = begins(NONE, NULL, 0, 0, HERE), if (s != NULL && *e == 0) { made(PMPI_Comm_f2c(*h), PMPI_Comm_f2c(*to), "split"); } ends(s))
+FORTRAN(mpi_comm_dup_, (F h, F to, F e), (h, to, e), struct slot *s = collective(DUP, counts() ? PMPI_Comm_f2c(*h) : MPI_COMM_NULL, 0, true, HERE), if (s != NULL && *e == 0) { made(PMPI_Comm_f2c(*h), PMPI_Comm_f2c(*to), "dup"); } ends(s))
+FORTRAN(mpi_comm_split_, (F h, F c, F k, F to, F e), (h, c, k, to, e), struct slot *s = collective(SPLIT, counts() ? PMPI_Comm_f2c(*h) : MPI_COMM_NULL, 0, true, HERE), if (s != NULL && *e == 0) { made(PMPI_Comm_f2c(*h), PMPI_Comm_f2c(*to), "split"); } ends(s))
 #define FORTRAN_SEND(name) \
     FORTRAN(name, (void *a, F n, F t, F to, F g, F h, F e), (a, n, t, to, g, h, e), \
         int peer = counts() ? world_rank(known(PMPI_Comm_f2c(*h)), (int)*to) : -1; struct slot *s = begins(peer >= 0 ? SEND : NONE, NULL, peer, sends_to(peer), HERE), ends(s))
