@@ -12,6 +12,7 @@
 #include <fcntl.h>
 #include <linux/futex.h>
 #include <pthread.h>
+#include <sched.h>
 #include <semaphore.h>
 #include <signal.h>
 #include <stdarg.h>
@@ -28,11 +29,12 @@
 #include <sys/syscall.h>
 #include <sys/uio.h>
 #include <sys/un.h>
+#include <threads.h>
 #include <time.h>
 #include <unistd.h>
 
-enum kind { BARRIER, JOIN, MUTEX, RWLOCK, CONDITION, SEMAPHORE, CRITICAL, TEAM, TEAM_END, IDLE, ADDRESS, KINDS };
-static const char *const kind_names[KINDS] = {"barrier", "end-of", "mutex", "rwlock", "condition", "semaphore", "critical", "team", "team-end", "idle", "address"};
+enum kind { BARRIER, JOIN, MUTEX, RWLOCK, CONDITION, SEMAPHORE, CRITICAL, OMP_LOCK, TEAM, TEAM_END, IDLE, ADDRESS, KINDS };
+static const char *const kind_names[KINDS] = {"barrier", "end-of", "mutex", "rwlock", "condition", "semaphore", "critical", "lock", "team", "team-end", "idle", "address"};
 enum state { FREE, LIVE, ENDING };
 enum { CHUNK = 256, CHUNKS = 256, OBJECTS = 4096, LINE = 512, NAME = 40, MILLISECOND = 1000000, PERIOD = 50, LONGEST = 1000 };
 
@@ -60,7 +62,7 @@ struct slot {
     _Atomic(pid_t) tid;
     _Atomic(pthread_t) handle;
     const void *begins;             /* the function of the thread */
-    unsigned number;
+    unsigned number, index;         /* of the thread; of the slot */
     /* of the watcher alone */
     bool announced, foreign, stands, over;
     unsigned seen, told;            /* the counter at the last look; that of the wait that was announced, or 0 */
@@ -77,9 +79,9 @@ static _Atomic(unsigned) thread_numbers, team_numbers;
 static __thread struct slot *mine __attribute__((tls_model("initial-exec")));
 static _Atomic(int) active = -1;    /* -1 not begun, 0 off, 1 on */
 static int out = -1;
+static char address[256];
 static struct stat out_stat;
 static pid_t process, watcher_tid;
-static _Atomic(struct slot *) critical_owner;
 
 /* ---- the functions of the libraries behind this one */
 #define REAL(result, name, ...) \
@@ -113,6 +115,12 @@ REAL(int, pthread_rwlock_wrlock, pthread_rwlock_t *)
 REAL(int, pthread_rwlock_trywrlock, pthread_rwlock_t *)
 REAL(int, pthread_cond_wait, pthread_cond_t *, pthread_mutex_t *)
 REAL(int, sem_wait, sem_t *)
+REAL(int, thrd_create, thrd_t *, thrd_start_t, void *)
+REAL(void, thrd_exit, int)
+REAL(int, thrd_join, thrd_t, int *)
+REAL(int, mtx_lock, mtx_t *)
+REAL(int, mtx_trylock, mtx_t *)
+REAL(int, cnd_wait, cnd_t *, mtx_t *)
 
 /* ---- slots */
 static struct slot *slot_at(unsigned i) {
@@ -138,6 +146,7 @@ static struct slot *taken_slot(void) {
             int free_state = FREE;
             if (atomic_load_explicit(&chunk[i].state, memory_order_relaxed) == FREE && atomic_compare_exchange_strong(&chunk[i].state, &free_state, LIVE)) {
                 chunk[i].number = atomic_fetch_add(&thread_numbers, 1);
+                chunk[i].index = c * CHUNK + i;
                 chunk[i].group = -1;
                 return &chunk[i];
             }
@@ -188,6 +197,32 @@ static inline void wait_ends(void *slot) {
         unsigned count = atomic_load_explicit(&s->wait.count, memory_order_relaxed);
         atomic_store_explicit(&s->wait.count, (count + 1) & ~1u, memory_order_release);
     }
+}
+
+/* ---- the owners of OpenMP's locks, which do not know them. One word has the number of a slot and the address of the lock, so that both are of one moment; a lock that is
+ * pushed out by another has no owner that is known. */
+enum { OWNED = 1024, ADDRESS_BITS = 48 };
+static _Atomic(uint64_t) owned[OWNED];
+static char unnamed_critical;
+#define ADDRESS_OF(lock) ((uint64_t)(uintptr_t)(lock) & ((UINT64_C(1) << ADDRESS_BITS) - 1))
+
+static _Atomic(uint64_t) *entry_of(const void *lock) { return &owned[(ADDRESS_OF(lock) * UINT64_C(0x9e3779b97f4a7c15) >> 32) % OWNED]; }
+
+static void takes(struct slot *s, const void *lock) {
+    if (s != NULL && s->index < 0xffff) {
+        atomic_store_explicit(entry_of(lock), (uint64_t)(s->index + 1) << ADDRESS_BITS | ADDRESS_OF(lock), memory_order_release);
+    }
+}
+
+static void gives_back(const void *lock) {
+    if ((atomic_load_explicit(entry_of(lock), memory_order_relaxed) & ((UINT64_C(1) << ADDRESS_BITS) - 1)) == ADDRESS_OF(lock)) {
+        atomic_store_explicit(entry_of(lock), 0, memory_order_release);     /* nobody else has this lock; another one that comes here meanwhile is only not known */
+    }
+}
+
+static struct slot *owner_of_lock(const void *lock) {
+    uint64_t now = atomic_load(entry_of(lock));
+    return now != 0 && (now & ((UINT64_C(1) << ADDRESS_BITS) - 1)) == ADDRESS_OF(lock) ? slot_at((unsigned)(now >> ADDRESS_BITS) - 1) : NULL;
 }
 
 /* ---- lines */
@@ -304,10 +339,12 @@ static bool proc_text(const char *form, pid_t tid, char *to, size_t size) {
     return n > 0;
 }
 
+/* Whether a thread has ended; of one of which the kernel tells nothing that is not known. */
 static bool is_over(pid_t tid) {
     char line[256];
+    errno = 0;
     if (!proc_text("/proc/self/task/%d/stat", tid, line, sizeof line)) {
-        return true;
+        return (errno == ENOENT || errno == ESRCH) && proc_text("/proc/self/task/%d/stat", watcher_tid, line, sizeof line);
     }
     const char *close_of_name = strrchr(line, ')');
     return close_of_name != NULL && (close_of_name[2] == 'Z' || close_of_name[2] == 'X');
@@ -437,8 +474,8 @@ static void named(struct slot *s) {
     }
 }
 
-/* Threads that this library did not see begin: they run. */
-static void find_foreign(void) {
+/* Threads that this library did not see begin: they run. False where it cannot know them. */
+static bool find_foreign(void) {
     DIR *d = opendir("/proc/self/task");
     struct dirent *e;
     while (d != NULL && (e = readdir(d)) != NULL) {
@@ -454,6 +491,7 @@ static void find_foreign(void) {
     if (d != NULL) {
         closedir(d);
     }
+    return d != NULL;
 }
 
 /* ---- a look */
@@ -465,8 +503,8 @@ static struct slot *owner_of(const struct slot *s) {
     } else if (s->kind == RWLOCK) {
         pthread_rwlock_t l;
         owner = read_memory(s->object, &l, sizeof l) ? l.__data.__cur_writer : 0;
-    } else if (s->kind == CRITICAL) {
-        return s->object == NULL ? atomic_load(&critical_owner) : NULL;
+    } else if (s->kind == CRITICAL || s->kind == OMP_LOCK) {
+        return owner_of_lock(s->object);
     } else if (s->kind == JOIN) {
         EACH_SLOT(t) {
             if (atomic_load(&t->handle) == (pthread_t)(uintptr_t)s->object && !t->foreign) {
@@ -657,19 +695,26 @@ static void announce_wait(struct slot *s) {
     }
 }
 
+/* Who waits for a thread's end is announced first, then who waits for anybody, then who waits for a thread that has to do something, and the end of a team last: the last
+ * of them begins the message. */
+enum { TURNS = 4 };
+static int turn_of(const struct slot *s) { return s->kind == JOIN ? 0 : s->kind == TEAM_END ? TURNS - 1 : s->owner == NULL && s->kind != TEAM ? 1 : 2; }
+
 static void look(void) {
     int handlers = -1;
     bool news = false;
-    EACH_SLOT(s) {
-        look_at(s, &handlers);
+    EACH_SLOT(s) {                                             /* first who has ended: then whoever stands is not one whom these have let go */
         if (!s->over && (atomic_load(&s->state) == ENDING || s->foreign) && atomic_load(&s->tid) != 0) {
             s->over = is_over(atomic_load(&s->tid));
             news |= s->over;
         }
+    }
+    EACH_SLOT(s) {
+        look_at(s, &handlers);
         news |= s->stands && s->group < 0;
     }
-    if (news) {
-        find_foreign();
+    if (news && !find_foreign()) {
+        return;
     }
     EACH_SLOT(s) {
         if (atomic_load(&s->tid) == 0) {
@@ -699,9 +744,9 @@ static void look(void) {
             atomic_store(&s->state, FREE);
         }
     }
-    for (int pass = 0; pass < 3; pass++) {                     /* who waits for a thread's end first, and the end of a team last: so the first words name the cause */
+    for (int turn = 0; turn < TURNS; turn++) {
         EACH_SLOT(s) {
-            if (s->stands && s->group < 0 && s->announced && pass == (s->kind == JOIN ? 0 : s->kind == TEAM_END ? 2 : 1)) {
+            if (s->stands && s->group < 0 && s->announced && turn_of(s) == turn) {
                 announce_wait(s);
             }
         }
@@ -709,32 +754,16 @@ static void look(void) {
     hand_over();
 }
 
-static void *watch(void *nothing) {
-    struct timespec begun, done;
-    watcher_tid = (pid_t)syscall(SYS_gettid);
-    pthread_setname_np(pthread_self(), "armus");
-    while (out >= 0) {
-        clock_gettime(CLOCK_THREAD_CPUTIME_ID, &begun);
-        look();
-        clock_gettime(CLOCK_THREAD_CPUTIME_ID, &done);
-        long took = (done.tv_sec - begun.tv_sec) * 1000000000L + done.tv_nsec - begun.tv_nsec;
-        long pause = took * 25 > PERIOD * (long)MILLISECOND ? took * 25 : PERIOD * (long)MILLISECOND;
-        pause = pause < LONGEST * (long)MILLISECOND ? pause : LONGEST * (long)MILLISECOND;
-        struct timespec t = {pause / 1000000000L, pause % 1000000000L};
-        nanosleep(&t, NULL);
+/* The watcher's files are its own: what it opens takes no number from the program, and what the program closes is none of them. Where the system does not let it, its
+ * socket has a high number among those of the program. */
+static void take_own_files(void) {
+    if (unshare(CLONE_FILES) == 0 && syscall(SYS_close_range, 0u, ~0u, 0u) != 0) {
+        struct rlimit most;
+        long end = getrlimit(RLIMIT_NOFILE, &most) == 0 && most.rlim_cur < 1048576 ? (long)most.rlim_cur : 1048576;
+        for (long f = 0; f < end; f++) {
+            close((int)f);
+        }
     }
-    atomic_store(&active, 0);
-    return nothing;
-}
-
-/* ---- begin */
-static bool has_another_recorder(void) {
-    char exe[512];
-    ssize_t n = readlink("/proc/self/exe", exe, sizeof exe - 1);
-    exe[n > 0 ? n : 0] = 0;
-    const char *base = base_name(exe);
-    return dlsym(RTLD_DEFAULT, "JNI_CreateJavaVM") != NULL || dlsym(RTLD_DEFAULT, "Py_IsInitialized") != NULL || strcmp(base, "java") == 0
-        || dlsym(RTLD_DEFAULT, "MPI_Init") != NULL || strncmp(base, "orte", 4) == 0 || strncmp(base, "prte", 4) == 0 || strncmp(base, "hydra", 5) == 0;
 }
 
 static int connected(const char *path) {
@@ -762,11 +791,43 @@ static int connected(const char *path) {
     return s;
 }
 
-static void forked(void) {
-    struct stat now;
-    if (out >= 0 && fstat(out, &now) == 0 && now.st_ino == out_stat.st_ino) {
+static void *watch(void *nothing) {
+    struct timespec begun, done;
+    watcher_tid = (pid_t)syscall(SYS_gettid);
+    pthread_setname_np(pthread_self(), "armus");
+    take_own_files();
+    out = connected(address);
+    if (out >= 0 && fstat(out, &out_stat) != 0) {
         close(out);
+        out = -1;
     }
+    say("# process %d/", process);
+    while (out >= 0) {
+        clock_gettime(CLOCK_THREAD_CPUTIME_ID, &begun);
+        look();
+        clock_gettime(CLOCK_THREAD_CPUTIME_ID, &done);
+        long took = (done.tv_sec - begun.tv_sec) * 1000000000L + done.tv_nsec - begun.tv_nsec;
+        long pause = took * 25 > PERIOD * (long)MILLISECOND ? took * 25 : PERIOD * (long)MILLISECOND;
+        pause = pause < LONGEST * (long)MILLISECOND ? pause : LONGEST * (long)MILLISECOND;
+        struct timespec t = {pause / 1000000000L, pause % 1000000000L};
+        nanosleep(&t, NULL);
+    }
+    atomic_store(&active, 0);
+    return nothing;
+}
+
+/* ---- begin */
+static bool has_another_recorder(void) {
+    char exe[512];
+    ssize_t n = readlink("/proc/self/exe", exe, sizeof exe - 1);
+    exe[n > 0 ? n : 0] = 0;
+    const char *base = base_name(exe);
+    return dlsym(RTLD_DEFAULT, "JNI_CreateJavaVM") != NULL || dlsym(RTLD_DEFAULT, "Py_IsInitialized") != NULL || strcmp(base, "java") == 0
+        || dlsym(RTLD_DEFAULT, "MPI_Init") != NULL || strncmp(base, "orte", 4) == 0 || strncmp(base, "prte", 4) == 0 || strncmp(base, "hydra", 5) == 0;
+}
+
+/* The child begins anew. The socket is one of the watcher's own files, which a child has not; where the watcher has none of its own, nobody writes to it. */
+static void forked(void) {
     out = -1;
     length = 0;
     for (unsigned c = 0; c < CHUNKS; c++) {
@@ -780,7 +841,9 @@ static void forked(void) {
     memset(groups, 0, sizeof groups);
     any_is_said = false;
     mine = NULL;
-    atomic_store(&critical_owner, NULL);
+    for (unsigned i = 0; i < OWNED; i++) {
+        atomic_store(&owned[i], 0);
+    }
     atomic_store(&active, -1);
 }
 
@@ -792,32 +855,27 @@ static void begin_watching(void) {
         return;
     }
     int saved = errno;
+    sigset_t every, own;
+    pthread_attr_t kept;
+    pthread_t watcher;
     process = getpid();
-    out = connected(path);
-    if (out >= 0 && fstat(out, &out_stat) == 0) {
-        sigset_t all, own;
-        pthread_attr_t kept;
-        pthread_t watcher;
-        atomic_store(&thread_numbers, 0);
-        if (!atomic_exchange(&handled, true)) {
-            pthread_atfork(NULL, NULL, forked);
-        }
-        say("# process %d/", process);
-        atomic_store(&active, 1);
-        own_slot();                                            /* whoever begins is the first; main, if it is another, is found as foreign */
-        sigfillset(&all);
-        pthread_sigmask(SIG_SETMASK, &all, &own);
-        pthread_attr_init(&kept);
-        pthread_attr_setdetachstate(&kept, PTHREAD_CREATE_DETACHED);
-        pthread_attr_setstacksize(&kept, 256 * 1024);
-        if (real_pthread_create()(&watcher, &kept, watch, NULL) != 0) {
-            atomic_store(&active, 0);
-            close(out);
-            out = -1;
-        }
-        pthread_attr_destroy(&kept);
-        pthread_sigmask(SIG_SETMASK, &own, NULL);
+    snprintf(address, sizeof address, "%s", path);
+    atomic_store(&thread_numbers, 0);
+    if (!atomic_exchange(&handled, true)) {
+        pthread_atfork(NULL, NULL, forked);
     }
+    atomic_store(&active, 1);
+    own_slot();                                                /* whoever begins is the first; main, if it is another, is found as foreign */
+    sigfillset(&every);
+    pthread_sigmask(SIG_SETMASK, &every, &own);
+    pthread_attr_init(&kept);
+    pthread_attr_setdetachstate(&kept, PTHREAD_CREATE_DETACHED);
+    pthread_attr_setstacksize(&kept, 256 * 1024);
+    if (real_pthread_create()(&watcher, &kept, watch, NULL) != 0) {
+        atomic_store(&active, 0);
+    }
+    pthread_attr_destroy(&kept);
+    pthread_sigmask(SIG_SETMASK, &own, NULL);
     errno = saved;
 }
 
@@ -861,11 +919,55 @@ int pthread_create(pthread_t *to, const pthread_attr_t *kept, void *(*function)(
     return result;
 }
 
-__attribute__((noreturn)) void pthread_exit(void *result) {
+static void main_ends(void) {
     if (mine != NULL && atomic_load(&mine->tid) == process) {
         atomic_store(&mine->state, ENDING);
     }
+}
+
+__attribute__((noreturn)) void pthread_exit(void *result) {
+    main_ends();
     real_pthread_exit()(result);
+    __builtin_unreachable();
+}
+
+/* The threads of C11, which glibc makes by its own. */
+struct start_c11 { thrd_start_t function; void *word; struct slot *slot; };
+
+static int run_c11(void *word) {
+    struct start_c11 start = *(struct start_c11 *)word;
+    int result;
+    free(word);
+    mine = start.slot;
+    atomic_store(&mine->handle, pthread_self());
+    atomic_store(&mine->tid, (pid_t)syscall(SYS_gettid));
+    pthread_cleanup_push(thread_ends, start.slot);
+    result = start.function(start.word);
+    pthread_cleanup_pop(1);
+    return result;
+}
+
+int thrd_create(thrd_t *to, thrd_start_t function, void *word) {
+    struct slot *own = own_slot();
+    struct start_c11 *start = own != NULL ? malloc(sizeof *start) : NULL;
+    struct slot *s = start != NULL ? taken_slot() : NULL;
+    if (s == NULL) {
+        free(start);
+        return real_thrd_create()(to, function, word);
+    }
+    s->begins = (const void *)(uintptr_t)function;
+    *start = (struct start_c11){function, word, s};
+    int result = real_thrd_create()(to, run_c11, start);
+    if (result != thrd_success) {
+        atomic_store(&s->state, FREE);
+        free(start);
+    }
+    return result;
+}
+
+__attribute__((noreturn)) void thrd_exit(int result) {
+    main_ends();
+    real_thrd_exit()(result);
     __builtin_unreachable();
 }
 
@@ -879,7 +981,7 @@ __attribute__((noreturn)) void pthread_exit(void *result) {
     result = call; \
     pthread_cleanup_pop(1); \
     return result
-#define TRIED_FIRST(kind, type, name, tried) \
+#define TRIED_FIRST(kind, type, name, tried, busy) \
     static __attribute__((noinline)) int waits_##name(type *object, const void *from) { \
         struct slot *s = own_slot(); \
         wait_begins(s, kind, object, from, NULL); \
@@ -889,11 +991,13 @@ __attribute__((noreturn)) void pthread_exit(void *result) {
     } \
     int name(type *object) { \
         int result = real_##tried()(object); \
-        return __builtin_expect(result != EBUSY, 1) ? result : waits_##name(object, __builtin_extract_return_addr(__builtin_return_address(0))); \
+        return __builtin_expect(result != busy, 1) ? result : waits_##name(object, __builtin_extract_return_addr(__builtin_return_address(0))); \
     }
 
 int pthread_join(pthread_t thread, void **to) { CANCELLABLE(JOIN, (const void *)(uintptr_t)thread, real_pthread_join()(thread, to)); }
 int pthread_cond_wait(pthread_cond_t *c, pthread_mutex_t *m) { CANCELLABLE(CONDITION, c, real_pthread_cond_wait()(c, m)); }
+int thrd_join(thrd_t thread, int *to) { CANCELLABLE(JOIN, (const void *)(uintptr_t)thread, real_thrd_join()(thread, to)); }
+int cnd_wait(cnd_t *c, mtx_t *m) { CANCELLABLE(CONDITION, c, real_cnd_wait()(c, m)); }
 int sem_wait(sem_t *t) { CANCELLABLE(SEMAPHORE, t, real_sem_wait()(t)); }
 
 int pthread_barrier_wait(pthread_barrier_t *b) {
@@ -904,9 +1008,10 @@ int pthread_barrier_wait(pthread_barrier_t *b) {
     return result;
 }
 
-TRIED_FIRST(MUTEX, pthread_mutex_t, pthread_mutex_lock, pthread_mutex_trylock)
-TRIED_FIRST(RWLOCK, pthread_rwlock_t, pthread_rwlock_rdlock, pthread_rwlock_tryrdlock)
-TRIED_FIRST(RWLOCK, pthread_rwlock_t, pthread_rwlock_wrlock, pthread_rwlock_trywrlock)
+TRIED_FIRST(MUTEX, pthread_mutex_t, pthread_mutex_lock, pthread_mutex_trylock, EBUSY)
+TRIED_FIRST(RWLOCK, pthread_rwlock_t, pthread_rwlock_rdlock, pthread_rwlock_tryrdlock, EBUSY)
+TRIED_FIRST(RWLOCK, pthread_rwlock_t, pthread_rwlock_wrlock, pthread_rwlock_trywrlock, EBUSY)
+TRIED_FIRST(MUTEX, mtx_t, mtx_lock, mtx_trylock, thrd_busy)
 
 /* ---- teams of GCC's OpenMP. Its members are known: a thread waits for each of the team that has not come yet. */
 struct region { void (*function)(void *); void *word; unsigned number; struct slot *first; const void *from; };
@@ -1009,24 +1114,52 @@ TEAM_WAIT(bool, GOMP_barrier_cancel)
 TEAM_WAIT(bool, GOMP_loop_end_cancel)
 TEAM_WAIT(bool, GOMP_sections_end_cancel)
 
-REAL(void, GOMP_critical_start, void)
-REAL(void, GOMP_critical_end, void)
-void GOMP_critical_start(void) {
-    struct slot *s = own_slot();
-    wait_begins(s, CRITICAL, NULL, HERE);
-    real_GOMP_critical_start()();
-    wait_ends(s);
-    atomic_store(&critical_owner, s);
-}
-void GOMP_critical_end(void) {
-    atomic_store(&critical_owner, NULL);
-    real_GOMP_critical_end()();
-}
+/* What a thread that takes a lock of OpenMP does, and one that gives it back. */
+#define TAKES(kind, name, object, parameters, words) TAKES_BEHIND(false, kind, name, object, parameters, words)
+#define TAKES_BEHIND(tried, kind, name, object, parameters, words) \
+    REAL(void, name, UNBRACKETED parameters) \
+    void name parameters { \
+        struct slot *s = own_slot(); \
+        if (tried) { \
+            takes(s, object); \
+            return; \
+        } \
+        wait_begins(s, kind, object, HERE); \
+        real_##name() words; \
+        wait_ends(s); \
+        takes(s, object); \
+    }
+#define GIVES_BACK(name, object, parameters, words) \
+    REAL(void, name, UNBRACKETED parameters) \
+    void name parameters { \
+        gives_back(object); \
+        real_##name() words; \
+    }
+#define TRIES(name, parameters, words) \
+    REAL(int, name, UNBRACKETED parameters) \
+    int name parameters { \
+        int taken = real_##name() words; \
+        if (taken) { \
+            takes(own_slot(), lock); \
+        } \
+        return taken; \
+    }
+#define UNBRACKETED(...) __VA_ARGS__
+TRIES(omp_test_lock, (void *lock), (lock))
+TRIES(omp_test_lock_, (void *lock), (lock))
+TAKES(CRITICAL, GOMP_critical_start, &unnamed_critical, (void), ())
+TAKES(CRITICAL, GOMP_critical_name_start, name, (void **name), (name))
+TAKES_BEHIND(real_omp_test_lock()(lock), OMP_LOCK, omp_set_lock, lock, (void *lock), (lock))
+TAKES_BEHIND(real_omp_test_lock_()(lock), OMP_LOCK, omp_set_lock_, lock, (void *lock), (lock))
+GIVES_BACK(GOMP_critical_end, &unnamed_critical, (void), ())
+GIVES_BACK(GOMP_critical_name_end, name, (void **name), (name))
+GIVES_BACK(omp_unset_lock, lock, (void *lock), (lock))
+GIVES_BACK(omp_unset_lock_, lock, (void *lock), (lock))
 
-/* ---- for the watcher of Python 3.11 and 3.12: the values of a frame's locals, each with a reference of its own. It is called with Python's lock held, and so at one moment;
+/* ---- for the watcher of Python 3.8 to 3.12: the values of a frame's locals, each with a reference of its own. It is called with Python's lock held, and so at one moment;
  * nothing of it is of use where the frame is not laid out as those versions have it, and then its code is another than the one that is given. */
-long armus_frame_values(const char *frame, long to_code, const void *code, long to_values, long count, uintptr_t *values) {
-    const char *inner = *(const char *const *)(frame + 24);
+long armus_frame_values(const char *frame, long to_inner, long to_code, const void *code, long to_values, long count, uintptr_t *values) {
+    const char *inner = to_inner == 0 ? frame : *(const char *const *)(frame + to_inner);
     if (inner == NULL || *(const void *const *)(inner + to_code) != code) {
         return 0;
     }

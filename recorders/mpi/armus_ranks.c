@@ -11,6 +11,7 @@
 #include <fcntl.h>
 #include <mpi.h>
 #include <netdb.h>
+#include <poll.h>
 #include <pthread.h>
 #include <signal.h>
 #include <stdarg.h>
@@ -27,21 +28,27 @@
 #include <time.h>
 #include <unistd.h>
 
-enum kind { BARRIER, ALLREDUCE, ALLGATHER, ALLGATHERV, ALLTOALL, ALLTOALLV, REDUCE_SCATTER, REDUCE_SCATTER_BLOCK, FINALIZE,   /* all wait for all */
-            REDUCE, GATHER, GATHERV,                                                                                          /* the root waits for all */
-            BCAST, SCATTER, SCATTERV, KINDS,                                                                                  /* all wait for the root */
-            SEND, RECEIVE, ANY, NONE };
-static const char *const kind_names[KINDS] = {"Barrier", "Allreduce", "Allgather", "Allgatherv", "Alltoall", "Alltoallv", "Reduce_scatter", "Reduce_scatter_block",
-    "Finalize", "Reduce", "Gather", "Gatherv", "Bcast", "Scatter", "Scatterv"};
+enum kind { BARRIER, ALLREDUCE, ALLGATHER, ALLGATHERV, ALLTOALL, ALLTOALLV, ALLTOALLW, REDUCE_SCATTER, REDUCE_SCATTER_BLOCK, IBARRIER, IALLREDUCE, IALLGATHER,
+            IALLTOALL, DUP, SPLIT, FINALIZE,        /* all wait for all */
+            SCAN, EXSCAN,                           /* the last rank waits for all */
+            REDUCE, GATHER, GATHERV,                /* the root waits for all */
+            BCAST, SCATTER, SCATTERV, IBCAST, KINDS, /* all wait for the root */
+            SEND, RECEIVE, ANY, ONE_OF, ALL_OF, NONE };
+static const char *const kind_names[KINDS] = {"Barrier", "Allreduce", "Allgather", "Allgatherv", "Alltoall", "Alltoallv", "Alltoallw", "Reduce_scatter",
+    "Reduce_scatter_block", "Ibarrier", "Iallreduce", "Iallgather", "Ialltoall", "Comm_dup", "Comm_split", "Finalize", "Scan", "Exscan", "Reduce", "Gather", "Gatherv", "Bcast",
+    "Scatter", "Scatterv", "Ibcast"};
+#define FIRST_OF_LAST SCAN
 #define FIRST_ROOTED REDUCE
 #define FIRST_FROM_ROOT BCAST
-enum { FROM_ROOT = KINDS - BCAST, RANKS = 128, THREADS = 64, REQUESTS = 1024, LINE = 512, NAME = 40, PERIOD = 50 };
+enum { FROM_ROOT = KINDS - BCAST, RANKS = 128, THREADS = 64, REQUESTS = 1024, PARTS = 32, LINE = 512, NAME = 40, PERIOD = 50, REACHED_IN = 2000 };
 
 struct communicator {
-    bool named, gone;
+    bool named, gone, between;                      /* between: an inter-communicator, whose collectives wait for the other side alone */
     char name[NAME];
-    int size, me;
+    int size, me, side;
     int *world;                                     /* the rank in world of each rank */
+    int peers;                                      /* those that a message may go to: of an inter-communicator the other side */
+    int *peer;                                      /* their ranks in world */
     _Atomic(unsigned) came[KINDS];
     unsigned said[KINDS];                           /* the watcher's: what is announced; of those from a root only where this rank is the root */
     bool joined;
@@ -50,17 +57,26 @@ struct communicator {
     struct communicator *next;
 };
 
+/* One of several requests that a call waits for. */
+struct part { int kind, peer, place; unsigned needs; struct communicator *of; };
+
 struct slot {
     _Atomic(unsigned) count;                        /* odd: in a call that may wait */
     _Atomic(int) kind, peer;
     _Atomic(struct communicator *) of;
     _Atomic(unsigned) needs;
     _Atomic(const void *) from;
+    struct part part[PARTS];                        /* of ONE_OF and ALL_OF; written before the counter */
+    int parts;
     int depth;
     char task[NAME + 24];
+    /* the watcher's */
     bool announced;
     unsigned seen, stood, told;
-    unsigned wildcard;
+    unsigned number;                                /* of the announced wait, where it has a wildcard or several requests */
+    bool any;                                       /* it has a wildcard of its own */
+    int told_parts;                                 /* how many requests are tasks of their own now */
+    struct part waits[PARTS];
 };
 
 static struct slot slots[THREADS];
@@ -72,16 +88,17 @@ static int key = MPI_KEYVAL_INVALID, rank = -1, size;
 static _Atomic(unsigned) sent[RANKS], begun[RANKS], taken[RANKS], begun_any;
 static unsigned said_sent[RANKS], said_begun[RANKS];
 static _Atomic(bool) sends_uncounted, receives_uncounted, on;
-static bool left_sends, left_receives, joined_pairs, shared;
+static bool left_sends, left_receives, joined_pairs, shared, others_unknown;
 static char job[16], process[NAME];
 static int out = -1;
 static struct stat out_stat;
 static pthread_mutex_t line_lock = PTHREAD_MUTEX_INITIALIZER;   /* of two threads of the recorder's own lines: held for one look, never in a call of MPI */
+static pthread_mutex_t made_lock = PTHREAD_MUTEX_INITIALIZER;   /* of the table of inter-communicators */
 static pthread_t watcher;
 static _Atomic(bool) stopping;
 
 /* ---- lines */
-static char text[1 << 15];
+static char text[1 << 17];
 static size_t length;
 
 static void hand_over(void) {
@@ -158,13 +175,27 @@ static struct slot *begins(enum kind kind, struct communicator *of, int peer, un
     return s;
 }
 
+/* Each request that was waited for was a task of its own, which ends; and each wildcard with it. */
 static void goes_on(struct slot *s) {
-    if (s->wildcard != 0) {
-        say("%s?any-%u end", process, s->wildcard);
-        s->wildcard = 0;
+    for (int i = 0; i < s->told_parts; i++) {
+        if (s->waits[i].kind == ANY) {
+            say("%s?any-%u.%d end", process, s->number, s->waits[i].place);
+        }
+        say("%s.request-%d go", s->task, s->waits[i].place);
+        if (!s->any) {
+            say("%s.request-%d leave %srequests-%u", s->task, s->waits[i].place, process, s->number);
+        }
+    }
+    if (s->any) {
+        say("%s?any-%u end", process, s->number);
     }
     say("%s go", s->task);
-    s->told = 0;
+    for (int i = 0; i < s->told_parts; i++) {
+        say("%s.request-%d end", s->task, s->waits[i].place);
+    }
+    s->any = false;
+    s->told_parts = 0;
+    __atomic_store_n(&s->told, 0, __ATOMIC_SEQ_CST);
 }
 
 static void ends(struct slot *s) {
@@ -207,9 +238,12 @@ static void moves(const char *phaser, unsigned *said, unsigned now, bool joined)
     *said = now;
 }
 
-static void phaser_of(char *to, const struct communicator *c, int kind, int root) {
+/* The phaser of a kind; of an inter-communicator each side has its own, at which the other one waits. */
+static void phaser_of(char *to, const struct communicator *c, int kind, int root, bool waits) {
     if (kind >= FIRST_FROM_ROOT) {
         snprintf(to, 2 * NAME, "%s.%s-from-%d", c->name, kind_names[kind], root);
+    } else if (c->between) {
+        snprintf(to, 2 * NAME, "%s.%s-of-%s", c->name, kind_names[kind], (c->side == 0) != waits ? "one" : "two");
     } else {
         snprintf(to, 2 * NAME, "%s.%s", c->name, kind_names[kind]);
     }
@@ -219,10 +253,10 @@ static void phaser_of(char *to, const struct communicator *c, int kind, int root
 static void say_communicator(struct communicator *c, bool leaves) {
     char phaser[2 * NAME];
     for (int kind = 0; kind < KINDS; kind++) {
-        if (kind == FINALIZE && c != &world) {
+        if ((kind == FINALIZE && c != &world) || (c->between && kind >= FIRST_OF_LAST)) {
             continue;
         }
-        phaser_of(phaser, c, kind, c->me);
+        phaser_of(phaser, c, kind, c->me, false);
         if (leaves) {
             say("%s leave %s/%s", holder(), job, phaser);
         } else {
@@ -304,40 +338,136 @@ static void share(void) {
     shared_by = n;
 }
 
-static void wait_line(struct slot *s) {
-    char phaser[2 * NAME];
-    int kind = atomic_load(&s->kind), peer = atomic_load(&s->peer);
-    struct communicator *c = atomic_load(&s->of);
-    const char *at = place(atomic_load(&s->from));
-    static unsigned wildcards;
-    if (kind < KINDS) {
-        if (c == NULL || !c->named || (kind >= FIRST_ROOTED && kind < FIRST_FROM_ROOT && peer != c->me) || (kind >= FIRST_FROM_ROOT && peer == c->me)) {
-            return;                                 /* it may go on without the others */
+/* The event that a call or a request waits for: a phaser of this job and, in part->needs, its phase. False where it may come without the others. */
+static bool event_of(char *phaser, const struct part *p) {
+    struct communicator *c = p->of;
+    if (p->kind < KINDS) {
+        bool waits = c != NULL && c->named && (p->kind < FIRST_OF_LAST || (p->kind < FIRST_ROOTED ? c->me == c->size - 1 : p->kind < FIRST_FROM_ROOT ? p->peer == c->me : p->peer != c->me));
+        if (waits) {
+            phaser_of(phaser, c, p->kind, p->peer, true);
         }
-        phaser_of(phaser, c, kind, peer);
-        say("%s wait %s/%s %u @%s", s->task, job, phaser, atomic_load(&s->needs), at);
-    } else if ((kind == SEND || kind == RECEIVE) && size <= RANKS && peer >= 0) {
-        say("%s wait %s/%d%c%d %u @%s", s->task, job, kind == SEND ? rank : peer, kind == SEND ? '<' : '>', kind == SEND ? peer : rank, atomic_load(&s->needs), at);
-    } else if (kind == ANY && c != NULL) {
-        char line[LINE];
-        s->wildcard = ++wildcards;
-        size_t k = (size_t)snprintf(line, sizeof line, "%s?any-%u of", process, s->wildcard);
-        for (int r = 0; r < c->size && k < sizeof line; r++) {
-            if (c->world[r] != rank && c->world[r] >= 0) {
-                k += (size_t)snprintf(line + k, sizeof line - k, " %s:%d/rank-%d", job, c->world[r], c->world[r]);
-            }
-        }
-        if (k < LINE - 1 && c->size > 1) {
-            say("%s", line);
-        } else {
-            say("%s?any-%u any", process, s->wildcard);
-        }
-        say("%s?any-%u join %s/any-to-%d.%u 0", process, s->wildcard, job, rank, s->wildcard);
-        say("%s wait %s/any-to-%d.%u 1 @%s", s->task, job, rank, s->wildcard, at);
-    } else {
-        return;
+        return waits;
     }
-    s->told = s->seen;
+    if ((p->kind != SEND && p->kind != RECEIVE) || size > RANKS || p->peer < 0) {
+        return false;
+    }
+    snprintf(phaser, 2 * NAME, p->kind == SEND ? "%d<%d" : "%d>%d", p->kind == SEND ? rank : p->peer, p->kind == SEND ? p->peer : rank);
+    return true;
+}
+
+/* A wildcard of those that may send from a communicator: a member of the phaser of the same name. */
+static void say_any(const char *name, const struct communicator *c) {
+    char line[LINE];
+    size_t k = (size_t)snprintf(line, sizeof line, "%s?%s of", process, name);
+    bool known = c->peers > 1;
+    for (int r = 0; r < c->peers && k < sizeof line; r++) {
+        known &= c->peer[r] >= 0;
+        if (c->peer[r] != rank) {
+            k += (size_t)snprintf(line + k, sizeof line - k, " %s:%d/rank-%d", job, c->peer[r], c->peer[r]);
+        }
+    }
+    if (k < LINE - 1 && known && !others_unknown) {
+        say("%s", line);
+    } else {
+        say("%s?%s any", process, name);
+    }
+    say("%s?%s join %s%s 0", process, name, process, name);
+}
+
+/* Several requests: each is a task of its own that waits for its event. The thread waits for all of them, or for one. */
+static bool say_requests(struct slot *s, const char *at) {
+    bool all = atomic_load(&s->kind) == ALL_OF;
+    char phaser[2 * NAME], name[NAME], line[LINE];
+    int n = s->parts;
+    for (int i = 0; i < n; i++) {
+        s->waits[i] = s->part[i];
+    }
+    for (int i = 0; i < n; i++) {
+        if (s->waits[i].kind != ANY && !event_of(phaser, &s->waits[i])) {
+            if (!all) {
+                return false;                                  /* this one may come */
+            }
+            s->waits[i--] = s->waits[--n];
+        }
+    }
+    size_t k = (size_t)snprintf(line, sizeof line, "%s?any-%u of", process, s->number);
+    for (int i = 0; i < n; i++) {
+        const struct part *p = &s->waits[i];
+        say("%s.request-%d at @%s", s->task, p->place, at);
+        k += k < sizeof line ? (size_t)snprintf(line + k, sizeof line - k, " %s.request-%d", s->task, p->place) : 0;
+        if (all) {
+            say("%s.request-%d join %srequests-%u 0", s->task, p->place, process, s->number);
+        }
+    }
+    if (!all && n > 0) {
+        say(k < LINE - 1 ? "%s" : "%.0s%s?any-%u any", line, process, s->number);
+        say("%s?any-%u join %srequests-%u 0", process, s->number, process, s->number);
+        s->any = true;
+    }
+    s->told_parts = n;
+    for (int i = 0; i < n; i++) {
+        const struct part *p = &s->waits[i];
+        if (p->kind == ANY) {
+            snprintf(name, sizeof name, "any-%u.%d", s->number, p->place);
+            say_any(name, p->of);
+            say("%s.request-%d wait %s%s 1 @%s", s->task, p->place, process, name, at);
+        } else {
+            event_of(phaser, p);
+            say("%s.request-%d wait %s/%s %u @%s", s->task, p->place, job, phaser, p->needs, at);
+        }
+    }
+    if (n > 0) {
+        say("%s wait %srequests-%u 1 @%s", s->task, process, s->number, at);
+    }
+    return n > 0;
+}
+
+static bool wait_line(struct slot *s) {
+    struct part p = {.kind = atomic_load(&s->kind), .peer = atomic_load(&s->peer), .needs = atomic_load(&s->needs), .of = atomic_load(&s->of)};
+    char phaser[2 * NAME], at[300];
+    static unsigned numbers;
+    snprintf(at, sizeof at, "%s", place(atomic_load(&s->from)));
+    if (p.kind == ANY && p.of != NULL) {
+        s->number = ++numbers;
+        s->any = true;
+        snprintf(phaser, sizeof phaser, "any-%u", s->number);
+        say_any(phaser, p.of);
+        say("%s wait %s%s 1 @%s", s->task, process, phaser, at);
+        return true;
+    }
+    if (p.kind == ONE_OF || p.kind == ALL_OF) {
+        s->number = ++numbers;
+        return say_requests(s, at);
+    }
+    if (event_of(phaser, &p)) {
+        say("%s wait %s/%s %u @%s", s->task, job, phaser, p.needs, at);
+        return true;
+    }
+    return false;
+}
+
+/* So many looks a call has to stand in. A collective waits for the others in any case; a message that is on its way, or that is sent without a word, goes on by itself. */
+static unsigned patience(const struct slot *s) {
+    int kind = atomic_load(&s->kind);
+    return kind < KINDS ? 2 : kind == ANY || kind == ONE_OF || kind == ALL_OF ? 10 : 3;
+}
+
+/* A wait is announced where the thread still stands in it behind the last word: else all of it is taken back before it is written. */
+static void announce(struct slot *s, unsigned count) {
+    if (length > sizeof text - 2 * (PARTS + 2) * LINE) {
+        hand_over();
+    }
+    size_t before = length;
+    bool waits = wait_line(s);
+    if (waits) {
+        __atomic_store_n(&s->told, count, __ATOMIC_SEQ_CST);
+    }
+    if (!waits || __atomic_load_n(&s->count, __ATOMIC_SEQ_CST) != count) {
+        length = before;
+        s->any = false;
+        s->told_parts = 0;
+        __atomic_store_n(&s->told, 0, __ATOMIC_SEQ_CST);
+    }
 }
 
 static void look(void) {
@@ -362,10 +492,8 @@ static void look(void) {
     }
     for (unsigned i = 0; i < n; i++) {
         struct slot *s = &slots[i];
-        int kind = atomic_load(&s->kind);
-        unsigned enough = kind < KINDS ? 2 : kind == ANY ? 10 : 3;
-        if (s->stood >= enough - 1 && s->told == 0 && atomic_load(&s->count) == counts[i]) {
-            wait_line(s);
+        if (s->stood >= patience(s) - 1 && s->told == 0 && atomic_load(&s->count) == counts[i]) {
+            announce(s, counts[i]);
         }
     }
     hand_over();
@@ -382,21 +510,46 @@ static void *watch(void *nothing) {
 }
 
 /* ---- communicators */
+static int *ranks_in_world(MPI_Group group, int n) {
+    MPI_Group of_world;
+    int *to = malloc(2 * sizeof(int) * (size_t)(n > 0 ? n : 1));
+    for (int r = 0; r < n; r++) {
+        to[n + r] = r;
+    }
+    PMPI_Comm_group(MPI_COMM_WORLD, &of_world);
+    PMPI_Group_translate_ranks(group, n, to + n, of_world, to);
+    PMPI_Group_free(&of_world);
+    for (int r = 0; r < n; r++) {
+        to[r] = to[r] == MPI_UNDEFINED ? -1 : to[r];
+    }
+    return to;
+}
+
+static int least_of(const int *ranks, int n) {
+    int least = ranks[0];
+    for (int r = 1; r < n; r++) {
+        least = ranks[r] < least ? ranks[r] : least;
+    }
+    return least;
+}
+
 static void known_ranks(struct communicator *c, MPI_Comm handle) {
-    MPI_Group own, of_world;
+    MPI_Group own, others;
+    int between = 0;
+    PMPI_Comm_test_inter(handle, &between);
     PMPI_Comm_size(handle, &c->size);
     PMPI_Comm_rank(handle, &c->me);
-    c->world = malloc(2 * sizeof(int) * (size_t)c->size);
-    for (int r = 0; r < c->size; r++) {
-        c->world[c->size + r] = r;
-    }
     PMPI_Comm_group(handle, &own);
-    PMPI_Comm_group(MPI_COMM_WORLD, &of_world);
-    PMPI_Group_translate_ranks(own, c->size, c->world + c->size, of_world, c->world);
+    c->world = c->peer = ranks_in_world(own, c->size);
+    c->peers = c->size;
     PMPI_Group_free(&own);
-    PMPI_Group_free(&of_world);
-    for (int r = 0; r < c->size; r++) {
-        c->world[r] = c->world[r] == MPI_UNDEFINED ? -1 : c->world[r];
+    c->between = between;
+    if (between) {
+        PMPI_Comm_remote_size(handle, &c->peers);
+        PMPI_Comm_remote_group(handle, &others);
+        c->peer = ranks_in_world(others, c->peers);
+        PMPI_Group_free(&others);
+        c->side = least_of(c->world, c->size) > least_of(c->peer, c->peers);
     }
     for (int k = 0; k < FROM_ROOT; k++) {
         c->from[k] = calloc((size_t)c->size, sizeof *c->from[k]);
@@ -410,7 +563,7 @@ static void known_ranks(struct communicator *c, MPI_Comm handle) {
 /* What is known of a communicator; of one that came in a way that is not wrapped, who belongs to it. */
 static struct communicator *known(MPI_Comm handle) {
     void *found = NULL;
-    int is_there = 0, is_inter = 0;
+    int is_there = 0;
     if (handle == MPI_COMM_WORLD) {
         return &world;
     }
@@ -421,17 +574,14 @@ static struct communicator *known(MPI_Comm handle) {
     if (is_there) {
         return found;
     }
-    PMPI_Comm_test_inter(handle, &is_inter);
-    if (is_inter) {
-        return NULL;
-    }
     struct communicator *c = calloc(1, sizeof *c);
     known_ranks(c, handle);
     PMPI_Comm_set_attr(handle, key, c);
     return c;
 }
 
-/* A communicator gets the same name in all its ranks without a word between them: how it was made, as which one of its parent, and its first rank in world. */
+/* A communicator gets the same name in all its ranks without a word between them: how it was made, as which one of its parent, and its first rank in world. One with a
+ * rank of another world has none. */
 static void made(MPI_Comm parent, MPI_Comm handle, const char *how) {
     struct communicator *p = known(parent);
     if (p == NULL || !p->named || !atomic_load(&on)) {
@@ -440,13 +590,38 @@ static void made(MPI_Comm parent, MPI_Comm handle, const char *how) {
     p->made++;
     struct communicator *c = handle == MPI_COMM_NULL ? NULL : known(handle);
     if (c != NULL && c != &world) {
-        int least = c->world[0];
-        for (int r = 1; r < c->size; r++) {
-            least = c->world[r] < least ? c->world[r] : least;
-        }
-        int n = snprintf(c->name, sizeof c->name, p == &world ? "%.0s%s-%u=%d" : "%s.%s-%u=%d", p->name, how, p->made, least);
-        c->named = n > 0 && n < NAME;
+        int own = least_of(c->world, c->size), other = least_of(c->peer, c->peers);
+        int n = snprintf(c->name, sizeof c->name, p == &world ? "%.0s%s-%u=%d" : "%s.%s-%u=%d", p->name, how, p->made, own < other ? own : other);
+        c->named = n > 0 && n < NAME && own >= 0 && other >= 0;
     }
+}
+
+/* An inter-communicator is named by the ranks of both sides, and as which one of these. */
+static void made_between(MPI_Comm handle) {
+    struct communicator *c = known(handle);
+    enum { KNOWN = 256 };
+    static struct { uint32_t ranks; unsigned made; } pairs[KNOWN];
+    uint32_t h = 2166136261u;
+    if (c == NULL || least_of(c->world, c->size) < 0 || least_of(c->peer, c->peers) < 0) {
+        return;
+    }
+    for (int side = 0; side < 2; side++) {
+        const int *ranks = side == c->side ? c->world : c->peer;
+        int n = side == c->side ? c->size : c->peers;
+        for (int r = 0; r < n; r++) {
+            h = (h ^ (uint32_t)(ranks[r] + 1)) * 16777619u;
+        }
+        h = (h ^ 0xffffffffu) * 16777619u;
+    }
+    pthread_mutex_lock(&made_lock);
+    for (unsigned i = 0; i < KNOWN && !c->named; i++) {
+        if (pairs[i].made == 0 || pairs[i].ranks == h) {
+            pairs[i].ranks = h;
+            snprintf(c->name, sizeof c->name, "between-%08x-%u", (unsigned)h, ++pairs[i].made);
+            c->named = true;
+        }
+    }
+    pthread_mutex_unlock(&made_lock);
 }
 
 static int is_freed(MPI_Comm handle, int number, void *value, void *extra) {
@@ -480,10 +655,15 @@ static int by_tcp(const char *address) {
     if (getaddrinfo(host, port, &wanted, &found) != 0) {
         return -1;
     }
-    int s = socket(found->ai_family, SOCK_STREAM | SOCK_CLOEXEC, 0);
+    int s = socket(found->ai_family, SOCK_STREAM | SOCK_CLOEXEC | SOCK_NONBLOCK, 0), error = 0;
+    socklen_t length_of_error = sizeof error;
     if (s >= 0 && connect(s, found->ai_addr, found->ai_addrlen) < 0) {
-        close(s);
-        s = -1;
+        struct pollfd reached = {.fd = s, .events = POLLOUT};
+        bool comes = errno == EINPROGRESS && poll(&reached, 1, REACHED_IN) == 1 && getsockopt(s, SOL_SOCKET, SO_ERROR, &error, &length_of_error) == 0 && error == 0;
+        if (!comes) {
+            close(s);
+            s = -1;
+        }
     }
     freeaddrinfo(found);
     return s;
@@ -499,7 +679,7 @@ static void reach(void) {
     int s = -1;
     if (n < sizeof to.sun_path) {
         memcpy(to.sun_path, address, n);
-        s = socket(AF_UNIX, SOCK_STREAM | SOCK_CLOEXEC, 0);
+        s = socket(AF_UNIX, SOCK_STREAM | SOCK_CLOEXEC | SOCK_NONBLOCK, 0);
         if (s >= 0 && connect(s, (struct sockaddr *)&to, sizeof to) < 0) {
             close(s);
             s = -1;
@@ -530,15 +710,22 @@ static void reach(void) {
 
 static void begin(const void *from) {
     sigset_t every, own;
-    const char *names[] = {"OMPI_MCA_ess_base_jobid", "OMPI_MCA_orte_ess_jobid", "PMIX_NAMESPACE", "PMI_JOBID"}, *id = NULL;
-    int saved = errno;
+    MPI_Comm parent = MPI_COMM_NULL;
+    const char *names[] = {"OMPI_MCA_ess_base_jobid", "OMPI_MCA_orte_ess_jobid", "PMIX_NAMESPACE"}, *id = NULL;
+    int saved = errno, level = MPI_THREAD_SINGLE;
     if (atomic_load(&on) || getenv("ARMUS_SOCKET") == NULL) {
         return;
     }
     PMPI_Comm_rank(MPI_COMM_WORLD, &rank);
     PMPI_Comm_size(MPI_COMM_WORLD, &size);
+    PMPI_Query_thread(&level);
+    others_unknown = level >= MPI_THREAD_SERIALIZED;           /* a rank may have several tasks then */
     for (unsigned i = 0; id == NULL && i < sizeof names / sizeof names[0]; i++) {
         id = getenv(names[i]);
+    }
+    PMPI_Comm_get_parent(&parent);
+    if (id == NULL && parent == MPI_COMM_NULL) {
+        id = getenv("ARMUS_WORD");                             /* the same in all ranks, and another one in each run of armus-run */
     }
     if (id != NULL) {
         unsigned long h = 5381;
@@ -547,7 +734,8 @@ static void begin(const void *from) {
         }
         snprintf(job, sizeof job, "%lu", h % 100000);
     } else {
-        snprintf(job, sizeof job, "%d", (int)getppid());       /* of MPICH: its helper on this host */
+        snprintf(job, sizeof job, "%d", (int)getppid());       /* a world that was spawned by MPICH: its helper on this host */
+        others_unknown = true;                                /* the ranks of other hosts are not known by name */
     }
     snprintf(process, sizeof process, "%s:%d/", job, rank);
     reach();
@@ -621,21 +809,31 @@ int MPI_Init_thread(int *count, char ***words, int wanted, int *given) {
 }
 
 /* ---- collectives */
+/* Counts that this rank comes to a collective: how often it has, with this time; 0 where that is not known. */
+static unsigned comes(enum kind kind, struct communicator *c, int root) {
+    if (c == NULL || (c->between ? kind >= FIRST_OF_LAST : kind >= FIRST_ROOTED && (root < 0 || root >= c->size))) {
+        return 0;
+    }
+    return kind >= FIRST_FROM_ROOT ? atomic_fetch_add(&c->from[kind - FIRST_FROM_ROOT][root], 1) + 1 : atomic_fetch_add(&c->came[kind], 1) + 1;
+}
+
 static struct slot *collective(enum kind kind, MPI_Comm handle, int root, bool needs_data, const void *from) {
     if (!atomic_load_explicit(&on, memory_order_relaxed) || is_inside()) {
         return begins(NONE, NULL, 0, 0, from);
     }
     struct communicator *c = known(handle);
-    unsigned needs = 0;
-    if (c != NULL && (kind < FIRST_ROOTED || (root >= 0 && root < c->size))) {
-        needs = kind >= FIRST_FROM_ROOT ? atomic_fetch_add(&c->from[kind - FIRST_FROM_ROOT][root], 1) + 1 : atomic_fetch_add(&c->came[kind], 1) + 1;
-    }
+    unsigned needs = comes(kind, c, root);
     return begins(needs_data && needs > 0 ? kind : NONE, c, root, needs, from);
 }
 
-static bool all_send(const int *counts, MPI_Comm handle) {
-    int n = 0;
-    PMPI_Comm_size(handle, &n);
+static bool all_send(const int *counts, MPI_Comm handle, bool is_of_own) {
+    int n = 0, between = 0;
+    PMPI_Comm_test_inter(handle, &between);
+    if (between && !is_of_own) {
+        PMPI_Comm_remote_size(handle, &n);
+    } else {
+        PMPI_Comm_size(handle, &n);
+    }
     for (int i = 0; i < n; i++) {
         if (counts[i] == 0) {
             return false;                           /* nothing comes from there: it may go on without that rank */
@@ -655,10 +853,13 @@ static bool all_send(const int *counts, MPI_Comm handle) {
 COLLECTIVE(BARRIER, Barrier, h, 0, true, (MPI_Comm h), (h))
 COLLECTIVE(ALLREDUCE, Allreduce, h, 0, n > 0, (const void *a, void *b, int n, MPI_Datatype t, MPI_Op o, MPI_Comm h), (a, b, n, t, o, h))
 COLLECTIVE(ALLGATHER, Allgather, h, 0, m > 0, (const void *a, int n, MPI_Datatype t, void *b, int m, MPI_Datatype u, MPI_Comm h), (a, n, t, b, m, u, h))
-COLLECTIVE(ALLGATHERV, Allgatherv, h, 0, all_send(m, h), (const void *a, int n, MPI_Datatype t, void *b, const int *m, const int *d, MPI_Datatype u, MPI_Comm h), (a, n, t, b, m, d, u, h))
+COLLECTIVE(ALLGATHERV, Allgatherv, h, 0, all_send(m, h, false), (const void *a, int n, MPI_Datatype t, void *b, const int *m, const int *d, MPI_Datatype u, MPI_Comm h), (a, n, t, b, m, d, u, h))
 COLLECTIVE(ALLTOALL, Alltoall, h, 0, m > 0, (const void *a, int n, MPI_Datatype t, void *b, int m, MPI_Datatype u, MPI_Comm h), (a, n, t, b, m, u, h))
-COLLECTIVE(ALLTOALLV, Alltoallv, h, 0, all_send(m, h), (const void *a, const int *n, const int *c, MPI_Datatype t, void *b, const int *m, const int *d, MPI_Datatype u, MPI_Comm h), (a, n, c, t, b, m, d, u, h))
-COLLECTIVE(REDUCE_SCATTER, Reduce_scatter, h, 0, all_send(n, h), (const void *a, void *b, const int *n, MPI_Datatype t, MPI_Op o, MPI_Comm h), (a, b, n, t, o, h))
+COLLECTIVE(ALLTOALLV, Alltoallv, h, 0, all_send(m, h, false), (const void *a, const int *n, const int *c, MPI_Datatype t, void *b, const int *m, const int *d, MPI_Datatype u, MPI_Comm h), (a, n, c, t, b, m, d, u, h))
+COLLECTIVE(ALLTOALLW, Alltoallw, h, 0, all_send(m, h, false), (const void *a, const int *n, const int *c, const MPI_Datatype *t, void *b, const int *m, const int *d, const MPI_Datatype *u, MPI_Comm h), (a, n, c, t, b, m, d, u, h))
+COLLECTIVE(SCAN, Scan, h, 0, n > 0, (const void *a, void *b, int n, MPI_Datatype t, MPI_Op o, MPI_Comm h), (a, b, n, t, o, h))
+COLLECTIVE(EXSCAN, Exscan, h, 0, n > 0, (const void *a, void *b, int n, MPI_Datatype t, MPI_Op o, MPI_Comm h), (a, b, n, t, o, h))
+COLLECTIVE(REDUCE_SCATTER, Reduce_scatter, h, 0, all_send(n, h, true), (const void *a, void *b, const int *n, MPI_Datatype t, MPI_Op o, MPI_Comm h), (a, b, n, t, o, h))
 COLLECTIVE(REDUCE_SCATTER_BLOCK, Reduce_scatter_block, h, 0, n > 0, (const void *a, void *b, int n, MPI_Datatype t, MPI_Op o, MPI_Comm h), (a, b, n, t, o, h))
 COLLECTIVE(REDUCE, Reduce, h, r, n > 0, (const void *a, void *b, int n, MPI_Datatype t, MPI_Op o, int r, MPI_Comm h), (a, b, n, t, o, r, h))
 COLLECTIVE(GATHER, Gather, h, r, m > 0, (const void *a, int n, MPI_Datatype t, void *b, int m, MPI_Datatype u, int r, MPI_Comm h), (a, n, t, b, m, u, r, h))
@@ -675,9 +876,10 @@ int MPI_Finalize(void) {
     return result;
 }
 
-#define MAKES(name, how, parent, to, parameters, words) \
+#define MAKES(name, how, parent, to, parameters, words) MAKES_AS(NONE, name, how, parent, to, parameters, words)
+#define MAKES_AS(KIND, name, how, parent, to, parameters, words) \
     int MPI_##name parameters { \
-        struct slot *s = begins(NONE, NULL, 0, 0, HERE); \
+        struct slot *s = KIND < KINDS ? collective(KIND, parent, 0, true, HERE) : begins(NONE, NULL, 0, 0, HERE); \
         int result = PMPI_##name words; \
         if (s != NULL && result == MPI_SUCCESS) { \
             made(parent, *to, how); \
@@ -686,17 +888,29 @@ int MPI_Finalize(void) {
         return result; \
     }
 
-MAKES(Comm_dup, "dup", h, to, (MPI_Comm h, MPI_Comm *to), (h, to))
+MAKES_AS(DUP, Comm_dup, "dup", h, to, (MPI_Comm h, MPI_Comm *to), (h, to))
 MAKES(Comm_dup_with_info, "dup", h, to, (MPI_Comm h, MPI_Info i, MPI_Comm *to), (h, i, to))
-MAKES(Comm_split, "split", h, to, (MPI_Comm h, int color, int order, MPI_Comm *to), (h, color, order, to))
+MAKES_AS(SPLIT, Comm_split, "split", h, to, (MPI_Comm h, int color, int order, MPI_Comm *to), (h, color, order, to))
 MAKES(Comm_split_type, "split", h, to, (MPI_Comm h, int type, int order, MPI_Info i, MPI_Comm *to), (h, type, order, i, to))
 MAKES(Comm_create, "create", h, to, (MPI_Comm h, MPI_Group g, MPI_Comm *to), (h, g, to))
 MAKES(Cart_create, "cart", h, to, (MPI_Comm h, int n, const int *d, const int *p, int r, MPI_Comm *to), (h, n, d, p, r, to))
 MAKES(Cart_sub, "sub", h, to, (MPI_Comm h, const int *d, MPI_Comm *to), (h, d, to))
 MAKES(Graph_create, "graph", h, to, (MPI_Comm h, int n, const int *i, const int *e, int r, MPI_Comm *to), (h, n, i, e, r, to))
 
+int MPI_Intercomm_create(MPI_Comm own, int leader, MPI_Comm through, int other, int tag, MPI_Comm *to) {
+    struct slot *s = begins(NONE, NULL, 0, 0, HERE);
+    int result = PMPI_Intercomm_create(own, leader, through, other, tag, to);
+    if (s != NULL && result == MPI_SUCCESS && *to != MPI_COMM_NULL) {
+        made_between(*to);
+    }
+    ends(s);
+    return result;
+}
+
+MAKES(Intercomm_merge, "merge", h, to, (MPI_Comm h, int high, MPI_Comm *to), (h, high, to))
+
 /* ---- messages: counted for each pair of ranks of world, all tags and communicators together. So a receive waits for less than it needs, and never for more. */
-static int world_rank(const struct communicator *c, int r) { return c != NULL && r >= 0 && r < c->size && c->world[r] < RANKS && c->world[r] != rank ? c->world[r] : -1; }
+static int world_rank(const struct communicator *c, int r) { return c != NULL && r >= 0 && r < c->peers && c->peer[r] < RANKS && c->peer[r] != rank ? c->peer[r] : -1; }
 
 static unsigned sends_to(int peer) { return peer >= 0 ? atomic_fetch_add(&sent[peer], 1) + 1 : 0; }
 
@@ -787,31 +1001,57 @@ int MPI_Sendrecv_replace(void *a, int n, MPI_Datatype t, int to, int tag, int fr
     return result;
 }
 
-/* ---- requests */
-struct request { MPI_Request handle; int kind, peer; unsigned needs; struct communicator *of; };
+/* ---- requests. A table has what is known of each; one that is pushed out by another is only not known any more. */
+struct request { MPI_Request handle; int kind, peer; unsigned needs; struct communicator *of; bool there, begins_again; };
 static struct request requests[REQUESTS];
-static pthread_mutex_t request_lock = PTHREAD_MUTEX_INITIALIZER;
+static pthread_mutex_t request_lock = PTHREAD_MUTEX_INITIALIZER;   /* of the table: never held in a call of MPI */
 
-static void remember(MPI_Request handle, int kind, int peer, unsigned needs, struct communicator *of) {
+/* The entry of a handle, or one that it may have. */
+static struct request *entry_of(MPI_Request handle) {
+    enum { PLACES = 8 };
+    struct request *first = &requests[((uint64_t)(uintptr_t)handle * 0x9e3779b97f4a7c15u >> 40) % (REQUESTS / PLACES) * PLACES], *free_one = NULL;
+    for (int i = 0; i < PLACES; i++) {
+        if (first[i].there && first[i].handle == handle) {
+            return &first[i];
+        }
+        free_one = free_one == NULL && !first[i].there ? &first[i] : free_one;
+    }
+    return free_one != NULL ? free_one : first;
+}
+
+static void remember(struct request q) {
     pthread_mutex_lock(&request_lock);
-    requests[((uintptr_t)handle >> 3) % REQUESTS] = (struct request){handle, kind, peer, needs, of};   /* one that is pushed out is only not known */
+    q.there = true;
+    *entry_of(q.handle) = q;
     pthread_mutex_unlock(&request_lock);
 }
 
-static bool recall(MPI_Request handle, struct request *to, bool forget) {
-    pthread_mutex_lock(&request_lock);
-    struct request *r = &requests[((uintptr_t)handle >> 3) % REQUESTS];
-    bool is_there = handle != MPI_REQUEST_NULL && r->handle == handle && r->needs > 0;
-    if (is_there) {
-        *to = *r;
-        if (forget) {
-            r->needs = 0;
+/* What is known of a request; kind NONE where that is nothing. */
+static struct request recall(MPI_Request handle) {
+    struct request found = {.kind = NONE, .peer = -1};
+    if (handle != MPI_REQUEST_NULL) {
+        pthread_mutex_lock(&request_lock);
+        const struct request *r = entry_of(handle);
+        if (r->there && r->handle == handle) {
+            found = *r;
         }
+        pthread_mutex_unlock(&request_lock);
+    }
+    return found;
+}
+
+/* One that begins again stays, but is not under way any more. */
+static void forget(MPI_Request handle) {
+    pthread_mutex_lock(&request_lock);
+    struct request *r = entry_of(handle);
+    if (r->handle == handle) {
+        r->there = r->begins_again && r->there;
+        r->needs = 0;
     }
     pthread_mutex_unlock(&request_lock);
-    return is_there;
 }
 
+#define REQUEST_OF(KIND, to, needed, c) (struct request){.handle = *q, .kind = KIND, .peer = to, .needs = needed, .of = c}
 #define BEGINS_SEND(name) \
     int MPI_##name(const void *a, int n, MPI_Datatype t, int to, int tag, MPI_Comm h, MPI_Request *q) { \
         int peer = counts() ? world_rank(known(h), to) : -1; \
@@ -819,7 +1059,7 @@ static bool recall(MPI_Request handle, struct request *to, bool forget) {
         struct slot *s = begins(NONE, NULL, peer, needs, HERE); \
         int result = PMPI_##name(a, n, t, to, tag, h, q); \
         if (s != NULL && peer >= 0 && result == MPI_SUCCESS) { \
-            remember(*q, SEND, peer, needs, NULL); \
+            remember(REQUEST_OF(SEND, peer, needs, NULL)); \
         } \
         ends(s); \
         return result; \
@@ -832,75 +1072,273 @@ BEGINS_SEND(Ibsend)
 int MPI_Irecv(void *a, int n, MPI_Datatype t, int from, int tag, MPI_Comm h, MPI_Request *q) {
     struct communicator *c = counts() ? known(h) : NULL;
     int peer = world_rank(c, from);
-    unsigned needs = receives_from(peer);
+    receives_from(peer);
     if (from == MPI_ANY_SOURCE && c != NULL) {
         atomic_fetch_add(&begun_any, 1);
     }
-    struct slot *s = begins(NONE, NULL, peer, needs, HERE);
+    struct slot *s = begins(NONE, NULL, peer, 0, HERE);
     int result = PMPI_Irecv(a, n, t, from, tag, h, q);
     if (s != NULL && c != NULL && (peer >= 0 || from == MPI_ANY_SOURCE) && result == MPI_SUCCESS) {
-        remember(*q, peer >= 0 ? RECEIVE : ANY, peer, 1, c);
+        remember(REQUEST_OF(peer >= 0 ? RECEIVE : ANY, peer, 1, c));
     }
     ends(s);
     return result;
 }
 
-static struct slot *waits(const struct request *r, bool is_known, const void *from) {
-    unsigned needs = is_known && r->kind == RECEIVE ? atomic_load(&taken[r->peer]) + 1 : is_known ? r->needs : 0;
-    return begins(is_known ? (enum kind)r->kind : NONE, is_known ? r->of : NULL, is_known ? r->peer : -1, needs, from);
+#define BEGINS_COLLECTIVE(KIND, name, root, needs_data, parameters, words) \
+    int MPI_##name parameters { \
+        struct communicator *c = counts() ? known(h) : NULL; \
+        unsigned needs = comes(KIND, c, root); \
+        struct slot *s = begins(NONE, NULL, 0, 0, HERE); \
+        int result = PMPI_##name words; \
+        if (s != NULL && needs > 0 && (needs_data) && result == MPI_SUCCESS) { \
+            remember(REQUEST_OF(KIND, root, needs, c)); \
+        } \
+        ends(s); \
+        return result; \
+    }
+BEGINS_COLLECTIVE(IBARRIER, Ibarrier, 0, true, (MPI_Comm h, MPI_Request *q), (h, q))
+BEGINS_COLLECTIVE(IALLREDUCE, Iallreduce, 0, n > 0, (const void *a, void *b, int n, MPI_Datatype t, MPI_Op o, MPI_Comm h, MPI_Request *q), (a, b, n, t, o, h, q))
+BEGINS_COLLECTIVE(IALLGATHER, Iallgather, 0, m > 0, (const void *a, int n, MPI_Datatype t, void *b, int m, MPI_Datatype u, MPI_Comm h, MPI_Request *q), (a, n, t, b, m, u, h, q))
+BEGINS_COLLECTIVE(IALLTOALL, Ialltoall, 0, m > 0, (const void *a, int n, MPI_Datatype t, void *b, int m, MPI_Datatype u, MPI_Comm h, MPI_Request *q), (a, n, t, b, m, u, h, q))
+BEGINS_COLLECTIVE(IBCAST, Ibcast, r, n > 0, (void *a, int n, MPI_Datatype t, int r, MPI_Comm h, MPI_Request *q), (a, n, t, r, h, q))
+
+/* A request that was done. A receive counts as taken where its source is known; with no status that is the one that was named. */
+static void is_done(MPI_Request handle, const struct request *r, const MPI_Status *status) {
+    int cancelled = 0;
+    if ((r->kind == RECEIVE || r->kind == ANY) && r->needs > 0) {
+        if (status != NULL) {
+            PMPI_Test_cancelled(status, &cancelled);
+        }
+        if (status != NULL && !cancelled) {
+            was_taken(r->of, status);
+        } else if (status == NULL && r->kind == RECEIVE) {
+            atomic_fetch_add(&taken[r->peer], 1);
+        }
+    }
+    if (r->kind != NONE) {
+        forget(handle);
+    }
+}
+
+/* What a call waits for: the requests that are under way. Of receives from one rank that all have to come the second needs one message more than the first. */
+static struct slot *waits(int n, const MPI_Request *q, const struct request *known_ones, bool all, const void *from) {
+    struct slot *s = atomic_load_explicit(&on, memory_order_relaxed) && !is_inside() ? own_slot() : NULL;
+    unsigned sends = 0, others = 0;
+    bool whole = true;
+    if (s == NULL || s->depth > 0) {
+        return begins(NONE, NULL, 0, 0, from);
+    }
+    for (int i = 0; i < n; i++) {
+        if (q[i] != MPI_REQUEST_NULL && !(known_ones[i].begins_again && known_ones[i].needs == 0)) {
+            whole &= known_ones[i].kind != NONE && known_ones[i].needs > 0;
+            sends += known_ones[i].kind == SEND;
+            others += known_ones[i].kind != SEND && known_ones[i].kind != NONE;
+        }
+    }
+    bool sends_alone = all && others == 0;              /* it may be that all but one went off without a word: then one has still to be taken */
+    if ((sends_alone || !all) && !whole) {
+        return begins(NONE, NULL, 0, 0, from);
+    }
+    s->parts = 0;
+    for (int i = 0; i < n; i++) {
+        const struct request *r = &known_ones[i];
+        if (q[i] == MPI_REQUEST_NULL || r->kind == NONE || r->needs == 0 || (all && others > 0 && r->kind == SEND)) {
+            continue;
+        }
+        if (s->parts == PARTS) {
+            if (!all || sends_alone) {
+                return begins(NONE, NULL, 0, 0, from);
+            }
+            break;
+        }
+        unsigned needs = r->needs;
+        if (r->kind == RECEIVE) {
+            needs = atomic_load(&taken[r->peer]) + 1;
+            for (int k = 0; k < s->parts && all; k++) {
+                needs += s->part[k].kind == RECEIVE && s->part[k].peer == r->peer;
+            }
+        }
+        s->part[s->parts++] = (struct part){r->kind, r->peer, i, needs, r->of};
+    }
+    if (s->parts == 1 && sends + others == 1) {
+        return begins((enum kind)s->part[0].kind, s->part[0].of, s->part[0].peer, s->part[0].needs, from);
+    }
+    return begins(s->parts == 0 ? NONE : all && !sends_alone ? ALL_OF : ONE_OF, NULL, -1, 0, from);
 }
 
 int MPI_Wait(MPI_Request *q, MPI_Status *status) {
     MPI_Status own, *into = status == MPI_STATUS_IGNORE ? &own : status;
-    struct request r = {.kind = NONE};
-    bool is_known = counts() && recall(*q, &r, true);
-    struct slot *s = waits(&r, is_known, HERE);
+    MPI_Request handle = *q;
+    struct request r = counts() ? recall(handle) : (struct request){.kind = NONE};
+    struct slot *s = waits(1, q, &r, true, HERE);
     int result = PMPI_Wait(q, into);
-    if (s != NULL && is_known && r.kind != SEND && result == MPI_SUCCESS) {
-        was_taken(r.of, into);
+    if (s != NULL && result == MPI_SUCCESS) {
+        is_done(handle, &r, into);
     }
     ends(s);
     return result;
 }
 
-/* Of several requests it is not known which are done: only a single one is told. */
-int MPI_Waitall(int n, MPI_Request *q, MPI_Status *status) {
-    struct request r = {.kind = NONE};
-    bool is_known = counts() && n == 1 && recall(q[0], &r, false);
-    struct request *before = counts() && n > 0 ? malloc((size_t)n * sizeof *before) : NULL;
-    for (int i = 0; before != NULL && i < n; i++) {
-        before[i].needs = 0;
-        recall(q[i], &before[i], true);
+/* Handles and what is known of them, as they stand before a call that may change them. */
+struct before { int n; MPI_Request *handles; struct request *known_ones; };
+
+static struct before before_of(int n, const MPI_Request *q) {
+    struct before b = {counts() && n > 0 ? n : 0, NULL, NULL};
+    if (b.n > 0) {
+        b.handles = malloc((size_t)n * sizeof *b.handles);
+        b.known_ones = malloc((size_t)n * sizeof *b.known_ones);
+        b.n = b.handles != NULL && b.known_ones != NULL ? n : 0;
     }
-    struct slot *s = waits(&r, is_known, HERE);
-    int result = PMPI_Waitall(n, q, status);
-    for (int i = 0; before != NULL && i < n; i++) {
-        if (before[i].needs > 0 && before[i].kind == RECEIVE && result == MPI_SUCCESS) {
-            atomic_fetch_add(&taken[before[i].peer], 1);
-        }
+    for (int i = 0; i < b.n; i++) {
+        b.handles[i] = q[i];
+        b.known_ones[i] = recall(q[i]);
     }
-    free(before);
+    return b;
+}
+
+static void free_before(struct before b) {
+    free(b.handles);
+    free(b.known_ones);
+}
+
+static void one_is_done(const struct before *b, int i, const MPI_Status *status) {
+    if (i >= 0 && i < b->n) {
+        is_done(b->handles[i], &b->known_ones[i], status);
+    }
+}
+
+static void all_are_done(const struct before *b, const MPI_Status *status) {
+    for (int i = 0; i < b->n; i++) {
+        one_is_done(b, i, status == MPI_STATUSES_IGNORE ? NULL : &status[i]);
+    }
+}
+
+static void some_are_done(const struct before *b, const int *done, const int *which, const MPI_Status *status) {
+    for (int i = 0; *done != MPI_UNDEFINED && i < *done; i++) {
+        one_is_done(b, which[i], status == MPI_STATUSES_IGNORE ? NULL : &status[i]);
+    }
+}
+
+#define OF_SEVERAL(name, beginning, parameters, words, behind) \
+    int MPI_##name parameters { \
+        MPI_Status own, *into = &own; \
+        struct before b = before_of(n, q); \
+        struct slot *s = beginning; \
+        int result = PMPI_##name words; \
+        (void)into; \
+        if (s != NULL && result == MPI_SUCCESS) { \
+            behind; \
+        } \
+        free_before(b); \
+        ends(s); \
+        return result; \
+    }
+#define INTO (status == MPI_STATUS_IGNORE ? into : (into = status))
+OF_SEVERAL(Waitall, waits(b.n, b.handles, b.known_ones, true, HERE), (int n, MPI_Request *q, MPI_Status *status), (n, q, status), all_are_done(&b, status))
+OF_SEVERAL(Waitany, waits(b.n, b.handles, b.known_ones, false, HERE), (int n, MPI_Request *q, int *which, MPI_Status *status), (n, q, which, INTO), one_is_done(&b, *which, into))
+OF_SEVERAL(Waitsome, waits(b.n, b.handles, b.known_ones, false, HERE), (int n, MPI_Request *q, int *done, int *which, MPI_Status *status), (n, q, done, which, status),
+    some_are_done(&b, done, which, status))
+OF_SEVERAL(Testall, begins(NONE, NULL, 0, 0, HERE), (int n, MPI_Request *q, int *flag, MPI_Status *status), (n, q, flag, status), if (*flag) { all_are_done(&b, status); })
+OF_SEVERAL(Testany, begins(NONE, NULL, 0, 0, HERE), (int n, MPI_Request *q, int *which, int *flag, MPI_Status *status), (n, q, which, flag, INTO),
+    if (*flag && *which != MPI_UNDEFINED) { one_is_done(&b, *which, into); })
+OF_SEVERAL(Testsome, begins(NONE, NULL, 0, 0, HERE), (int n, MPI_Request *q, int *done, int *which, MPI_Status *status), (n, q, done, which, status),
+    some_are_done(&b, done, which, status))
+
+int MPI_Test(MPI_Request *q, int *flag, MPI_Status *status) {
+    MPI_Status own, *into = status == MPI_STATUS_IGNORE ? &own : status;
+    MPI_Request handle = *q;
+    struct request r = counts() ? recall(handle) : (struct request){.kind = NONE};
+    struct slot *s = begins(NONE, NULL, 0, 0, HERE);
+    int result = PMPI_Test(q, flag, into);
+    if (s != NULL && result == MPI_SUCCESS && *flag) {
+        is_done(handle, &r, into);
+    }
     ends(s);
     return result;
 }
 
-/* Requests that are begun again and again are not counted: nobody is told to wait for such a rank. */
+/* One that is given up is not counted, whether it was taken or not. */
+#define GIVES_UP(name) \
+    int MPI_##name(MPI_Request *q) { \
+        pthread_mutex_lock(&request_lock); \
+        entry_of(*q)->there = false; \
+        pthread_mutex_unlock(&request_lock); \
+        return PMPI_##name(q); \
+    }
+GIVES_UP(Request_free)
+GIVES_UP(Cancel)
+
+/* Requests that begin again and again: counted at each beginning. One of which nothing is known is not counted, and then nobody is told to wait for this rank. */
+#define MADE_ONCE(KIND, name, parameters, words) \
+    int MPI_##name parameters { \
+        struct communicator *c = counts() ? known(h) : NULL; \
+        int result = PMPI_##name words; \
+        if (c != NULL && result == MPI_SUCCESS) { \
+            remember((struct request){.handle = *q, .kind = KIND == RECEIVE && to == MPI_ANY_SOURCE ? ANY : KIND, .peer = world_rank(c, to), .of = c, .begins_again = true}); \
+        } \
+        return result; \
+    }
+MADE_ONCE(SEND, Send_init, (const void *a, int n, MPI_Datatype t, int to, int tag, MPI_Comm h, MPI_Request *q), (a, n, t, to, tag, h, q))
+MADE_ONCE(SEND, Ssend_init, (const void *a, int n, MPI_Datatype t, int to, int tag, MPI_Comm h, MPI_Request *q), (a, n, t, to, tag, h, q))
+MADE_ONCE(SEND, Rsend_init, (const void *a, int n, MPI_Datatype t, int to, int tag, MPI_Comm h, MPI_Request *q), (a, n, t, to, tag, h, q))
+MADE_ONCE(SEND, Bsend_init, (const void *a, int n, MPI_Datatype t, int to, int tag, MPI_Comm h, MPI_Request *q), (a, n, t, to, tag, h, q))
+MADE_ONCE(RECEIVE, Recv_init, (void *a, int n, MPI_Datatype t, int to, int tag, MPI_Comm h, MPI_Request *q), (a, n, t, to, tag, h, q))
+
+static void begins_again(MPI_Request handle) {
+    pthread_mutex_lock(&request_lock);
+    struct request *r = entry_of(handle);
+    if (!r->there || r->handle != handle || !r->begins_again) {
+        atomic_store(&sends_uncounted, true);
+        atomic_store(&receives_uncounted, true);
+    } else if (r->kind == ANY) {
+        atomic_fetch_add(&begun_any, 1);
+        r->needs = 1;
+    } else if (r->peer >= 0) {
+        r->needs = r->kind == SEND ? sends_to(r->peer) : receives_from(r->peer);
+    }
+    pthread_mutex_unlock(&request_lock);
+}
+
+int MPI_Start(MPI_Request *q) {
+    if (counts()) {
+        begins_again(*q);
+    }
+    struct slot *s = begins(NONE, NULL, 0, 0, HERE);
+    int result = PMPI_Start(q);
+    ends(s);
+    return result;
+}
+
+int MPI_Startall(int n, MPI_Request *q) {
+    for (int i = 0; counts() && i < n; i++) {
+        begins_again(q[i]);
+    }
+    struct slot *s = begins(NONE, NULL, 0, 0, HERE);
+    int result = PMPI_Startall(n, q);
+    ends(s);
+    return result;
+}
+
+/* Messages that are not counted: nobody is told to wait for this rank. */
 #define UNCOUNTED(name, flag, parameters, words) \
     int MPI_##name parameters { \
         atomic_store(&flag, true); \
         return PMPI_##name words; \
     }
-UNCOUNTED(Send_init, sends_uncounted, (const void *a, int n, MPI_Datatype t, int to, int tag, MPI_Comm h, MPI_Request *q), (a, n, t, to, tag, h, q))
-UNCOUNTED(Ssend_init, sends_uncounted, (const void *a, int n, MPI_Datatype t, int to, int tag, MPI_Comm h, MPI_Request *q), (a, n, t, to, tag, h, q))
-UNCOUNTED(Rsend_init, sends_uncounted, (const void *a, int n, MPI_Datatype t, int to, int tag, MPI_Comm h, MPI_Request *q), (a, n, t, to, tag, h, q))
-UNCOUNTED(Bsend_init, sends_uncounted, (const void *a, int n, MPI_Datatype t, int to, int tag, MPI_Comm h, MPI_Request *q), (a, n, t, to, tag, h, q))
-UNCOUNTED(Recv_init, receives_uncounted, (void *a, int n, MPI_Datatype t, int from, int tag, MPI_Comm h, MPI_Request *q), (a, n, t, from, tag, h, q))
 UNCOUNTED(Mrecv, receives_uncounted, (void *a, int n, MPI_Datatype t, MPI_Message *m, MPI_Status *s), (a, n, t, m, s))
 UNCOUNTED(Imrecv, receives_uncounted, (void *a, int n, MPI_Datatype t, MPI_Message *m, MPI_Request *q), (a, n, t, m, q))
 #if MPI_VERSION >= 4
+#define UNCOUNTED_BOTH(name, parameters, words) \
+    int MPI_##name parameters { \
+        atomic_store(&sends_uncounted, true); \
+        atomic_store(&receives_uncounted, true); \
+        return PMPI_##name words; \
+    }
 UNCOUNTED(Psend_init, sends_uncounted, (const void *a, int p, MPI_Count n, MPI_Datatype t, int to, int tag, MPI_Comm h, MPI_Info i, MPI_Request *q), (a, p, n, t, to, tag, h, i, q))
 UNCOUNTED(Precv_init, receives_uncounted, (void *a, int p, MPI_Count n, MPI_Datatype t, int from, int tag, MPI_Comm h, MPI_Info i, MPI_Request *q), (a, p, n, t, from, tag, h, i, q))
-UNCOUNTED(Isendrecv, sends_uncounted, (const void *a, int n, MPI_Datatype t, int to, int tag, void *b, int m, MPI_Datatype u, int from, int tag2, MPI_Comm h, MPI_Request *q), (a, n, t, to, tag, b, m, u, from, tag2, h, q))
+UNCOUNTED_BOTH(Isendrecv, (const void *a, int n, MPI_Datatype t, int to, int tag, void *b, int m, MPI_Datatype u, int from, int tag2, MPI_Comm h, MPI_Request *q), (a, n, t, to, tag, b, m, u, from, tag2, h, q))
+UNCOUNTED_BOTH(Isendrecv_replace, (void *a, int n, MPI_Datatype t, int to, int tag, int from, int tag2, MPI_Comm h, MPI_Request *q), (a, n, t, to, tag, from, tag2, h, q))
 #endif
 
 /* ---- Fortran: its calls go to MPI's own Fortran functions, which may call MPI in C again; that is inside of the call. */
@@ -929,8 +1367,8 @@ FORTRAN_COLLECTIVE(REDUCE, mpi_reduce_, h, (int)*r, *n > 0, (void *a, void *b, F
 FORTRAN_COLLECTIVE(GATHER, mpi_gather_, h, (int)*r, *m > 0, (void *a, F n, F t, void *b, F m, F u, F r, F h, F e), (a, n, t, b, m, u, r, h, e))
 FORTRAN_COLLECTIVE(SCATTER, mpi_scatter_, h, (int)*r, *m > 0, (void *a, F n, F t, void *b, F m, F u, F r, F h, F e), (a, n, t, b, m, u, r, h, e))
 FORTRAN_COLLECTIVE(BCAST, mpi_bcast_, h, (int)*r, *n > 0, (void *a, F n, F t, F r, F h, F e), (a, n, t, r, h, e))
-FORTRAN(mpi_comm_dup_, (F h, F to, F e), (h, to, e), struct slot *s = begins(NONE, NULL, 0, 0, HERE), if (s != NULL && *e == 0) { made(PMPI_Comm_f2c(*h), PMPI_Comm_f2c(*to), "dup"); } ends(s))
-FORTRAN(mpi_comm_split_, (F h, F c, F k, F to, F e), (h, c, k, to, e), struct slot *s = begins(NONE, NULL, 0, 0, HERE), if (s != NULL && *e == 0) { made(PMPI_Comm_f2c(*h), PMPI_Comm_f2c(*to), "split"); } ends(s))
+FORTRAN(mpi_comm_dup_, (F h, F to, F e), (h, to, e), struct slot *s = collective(DUP, counts() ? PMPI_Comm_f2c(*h) : MPI_COMM_NULL, 0, true, HERE), if (s != NULL && *e == 0) { made(PMPI_Comm_f2c(*h), PMPI_Comm_f2c(*to), "dup"); } ends(s))
+FORTRAN(mpi_comm_split_, (F h, F c, F k, F to, F e), (h, c, k, to, e), struct slot *s = collective(SPLIT, counts() ? PMPI_Comm_f2c(*h) : MPI_COMM_NULL, 0, true, HERE), if (s != NULL && *e == 0) { made(PMPI_Comm_f2c(*h), PMPI_Comm_f2c(*to), "split"); } ends(s))
 #define FORTRAN_SEND(name) \
     FORTRAN(name, (void *a, F n, F t, F to, F g, F h, F e), (a, n, t, to, g, h, e), \
         int peer = counts() ? world_rank(known(PMPI_Comm_f2c(*h)), (int)*to) : -1; struct slot *s = begins(peer >= 0 ? SEND : NONE, NULL, peer, sends_to(peer), HERE), ends(s))

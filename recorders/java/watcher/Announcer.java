@@ -13,6 +13,7 @@ import java.util.Set;
 final class Announcer {
     private static final int NAME = 40;
     private static final int LINE = 511;
+    private static final int TURNS = 3;
 
     /** Those who wait for one turn of one object. */
     private static final class Group {
@@ -104,8 +105,14 @@ final class Announcer {
                 used.remove(names.remove(key));
             }
         }
-        waitAll(present, standing, true);
-        waitAll(present, standing, false);
+        for (int turn = 0; turn < TURNS; turn++) {
+            waitAll(present, standing, turn);
+        }
+    }
+
+    /** Who joins is announced first, then who waits for anybody, and then who waits for a thread that has to do something: the last of them begins the message. */
+    private static int turnOf(Wait wait) {
+        return wait.ends != null ? 0 : wait.by < 0 ? 1 : TURNS - 1;
     }
 
     private void retire(String key) {
@@ -119,11 +126,10 @@ final class Announcer {
         inUse.remove(group.name);
     }
 
-    /** Who joins comes first, so that the words that close a circle are of another wait, where there is one. */
-    private void waitAll(Map<Long, Thread> present, Map<Long, Wait> standing, boolean joins) {
+    private void waitAll(Map<Long, Thread> present, Map<Long, Wait> standing, int turn) {
         for (Map.Entry<Long, Wait> entry : standing.entrySet()) {
             Wait wait = entry.getValue();
-            if (names.containsKey(entry.getKey()) && !waits.containsKey(entry.getKey()) && (wait.ends != null) == joins) {
+            if (names.containsKey(entry.getKey()) && !waits.containsKey(entry.getKey()) && turnOf(wait) == turn) {
                 Group group = groups.get(wait.key());
                 if (group == null) {
                     group = begin(wait, present, standing);

@@ -18,6 +18,11 @@ import java.util.HashSet;
 import java.util.List;
 import java.util.Map;
 import java.util.Set;
+import java.util.concurrent.FutureTask;
+import java.util.regex.Matcher;
+import java.util.regex.Pattern;
+import javax.management.JMException;
+import javax.management.ObjectName;
 
 /** What the library and the kernel keep for themselves. */
 final class Inside {
@@ -71,6 +76,37 @@ final class Inside {
         }
     }
 
+    /** The value of a field that this class of the library declares, and not one of the program's that has the same name. */
+    private Object declared(Class<?> type, Object of, String name) {
+        String key = "declared " + type.getName() + " " + name;
+        try {
+            Field field = fields.get(key);
+            if (field == null) {
+                field = type.getDeclaredField(name);
+                field.setAccessible(true);
+                fields.put(key, field);
+            }
+            return field.get(of);
+        } catch (ReflectiveOperationException | RuntimeException e) {
+            return null;
+        }
+    }
+
+    /** The number by which the machine knows a thread, whatever the program's class says of it. */
+    long id(Thread thread) {
+        Object number = declared(Thread.class, thread, "tid");
+        return number instanceof Long ? (Long) number : thread.getId();
+    }
+
+    Object runner(FutureTask<?> future) {
+        return declared(FutureTask.class, future, "runner");
+    }
+
+    boolean isDone(FutureTask<?> future) {
+        Object state = declared(FutureTask.class, future, "state");
+        return !(state instanceof Integer) || (Integer) state > 1;     // 0 is new, 1 is about to be done
+    }
+
     /** Whether the count of a latch is 0. */
     boolean isOpen(Object sync) {
         Object state = value(sync, "state");
@@ -102,8 +138,8 @@ final class Inside {
                 Object handlers = value(Class.forName(name), "handlers");
                 if (handlers instanceof Map) {
                     for (Object handler : new ArrayList<>(((Map<?, ?>) handlers).values())) {
-                        if (!handler.getClass().getName().startsWith("java.lang.Terminator") && !handler.getClass().getName().contains(".Signal")
-                            && !handler.getClass().getName().startsWith("jdk.internal.misc.")) {
+                        String kind = handler.getClass().getName();
+                        if (!kind.startsWith("java.lang.Terminator") && !kind.endsWith("NativeHandler") && !kind.endsWith("NativeSignalHandler")) {
                             return true;
                         }
                     }
@@ -115,31 +151,57 @@ final class Inside {
         return false;
     }
 
+    /** Whether the kernel knows the threads by their names. A Java 8 does not tell it. */
+    static boolean namesAreKept() {
+        return System.getenv("ARMUS_AS_JAVA_8") == null && "armus watcher".equals(firstLine(new File("/proc/thread-self/comm")));
+    }
+
+    /** The kernel's numbers of the threads, by the machine's own, as a dump of the machine has them. It stops all threads for a moment. */
+    static Map<Long, String> numbersInKernel() {
+        Map<Long, String> numbers = new HashMap<>();
+        try {
+            Object dump = ManagementFactory.getPlatformMBeanServer().invoke(new ObjectName("com.sun.management:type=DiagnosticCommand"), "threadPrint",
+                new Object[] {new String[0]}, new String[] {String[].class.getName()});
+            Matcher found = Pattern.compile("^\".*\" #(\\d+) .*\\bnid=(0x[0-9a-f]+|\\d+)", Pattern.MULTILINE).matcher(String.valueOf(dump));
+            while (found.find()) {
+                numbers.put(Long.valueOf(found.group(1)), Long.decode(found.group(2)).toString());
+            }
+        } catch (JMException | RuntimeException e) {
+            return numbers;
+        }
+        return numbers;
+    }
+
+    private static String firstLine(File file) {
+        try (BufferedReader reader = new BufferedReader(new InputStreamReader(new FileInputStream(file), StandardCharsets.ISO_8859_1), 512)) {
+            return reader.readLine();
+        } catch (IOException e) {
+            return null;
+        }
+    }
+
     static String process() {
         String name = ManagementFactory.getRuntimeMXBean().getName();
         return name.substring(0, name.indexOf('@'));
     }
 
-    static String kernelName(Thread thread) {
+    static String kernelName(long id, Thread thread) {
         byte[] bytes = thread.getName().getBytes(StandardCharsets.UTF_8);
-        return thread.getId() == 1 ? "java" : new String(bytes, 0, Math.min(NAME, bytes.length), StandardCharsets.ISO_8859_1);
+        return id == 1 ? "java" : new String(bytes, 0, Math.min(NAME, bytes.length), StandardCharsets.ISO_8859_1);
     }
 
-    /** The names, as the kernel has them, of threads that it lets run: a thread that was woken and has not come to run yet is one. */
-    static Set<String> runningNames() {
-        Set<String> names = new HashSet<>();
+    /** The threads that the kernel lets run, by its names and its numbers of them: a thread that was woken and has not come to run yet is one. */
+    static Set<String> running() {
+        Set<String> found = new HashSet<>();
         File[] tasks = new File("/proc/self/task").listFiles();
         for (File task : tasks == null ? new File[0] : tasks) {
-            try (BufferedReader reader = new BufferedReader(new InputStreamReader(new FileInputStream(new File(task, "stat")), StandardCharsets.ISO_8859_1), 512)) {
-                String line = reader.readLine();
-                int close = line == null ? -1 : line.lastIndexOf(')');
-                if (close > 0 && close + 2 < line.length() && "RD".indexOf(line.charAt(close + 2)) >= 0) {
-                    names.add(line.substring(line.indexOf('(') + 1, close));
-                }
-            } catch (IOException e) {
-                continue;                                      // it has ended
+            String line = firstLine(new File(task, "stat"));   // nothing where it has ended
+            int close = line == null ? -1 : line.lastIndexOf(')');
+            if (close > 0 && close + 2 < line.length() && "RD".indexOf(line.charAt(close + 2)) >= 0) {
+                found.add(line.substring(line.indexOf('(') + 1, close));
+                found.add(task.getName());
             }
         }
-        return names;
+        return found;
     }
 }

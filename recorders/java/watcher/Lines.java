@@ -19,7 +19,7 @@ final class Lines {
     Lines(String address, String process) throws IOException {
         this.process = process;
         String[] parts = address.split("\\|");
-        SocketChannel found = unix(parts[0]);
+        SocketChannel found = System.getenv("ARMUS_AS_JAVA_8") == null ? unix(parts[0]) : null;
         if (found == null && parts.length > 2) {
             found = SocketChannel.open(new InetSocketAddress(parts[1], Integer.parseInt(parts[2])));
             say("# word " + (parts.length > 3 ? parts[3] : System.getenv("ARMUS_WORD")));

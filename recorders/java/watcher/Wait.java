@@ -24,6 +24,7 @@ final class Wait {
     private Phaser phaser;
     private FutureTask<?> future;
     private Object latch;
+    private Thread joined;
     private Inside inside;
 
     Wait(String mark, String place) {
@@ -42,10 +43,11 @@ final class Wait {
         isOwned = true;
     }
 
-    void end(Thread joined) {
-        any("end-of", "end-of " + joined.getId());
-        by = joined.getId();
+    void end(Thread joined, long id) {
+        any("end-of", "end-of " + id);
+        by = id;
         ends = joined.getName();
+        this.joined = joined;
     }
 
     void future(Inside inside, FutureTask<?> future) {
@@ -73,14 +75,14 @@ final class Wait {
 
     /** Whether what it waits for has come, though the thread still stands there. */
     boolean isOver() {
-        return phaser != null && phaser.getPhase() != phase || future != null && future.isDone() || latch != null && inside.isOpen(latch);
+        return phaser != null && phaser.getPhase() != phase || future != null && inside.isDone(future) || joined != null && !joined.isAlive() || latch != null && inside.isOpen(latch);
     }
 
     /** The runner of a future is known only when it runs. */
     void refresh(Map<Long, Thread> present) {
         if (future != null) {
-            Object runner = inside.value(future, "runner");
-            by = runner instanceof Thread && present.containsKey(((Thread) runner).getId()) ? ((Thread) runner).getId() : -1;
+            Object runner = inside.runner(future);
+            by = runner instanceof Thread && present.containsKey(inside.id((Thread) runner)) ? inside.id((Thread) runner) : -1;
         }
     }
 

@@ -34,6 +34,9 @@ public final class Watcher implements Runnable {
     private Map<Long, String> stoodBefore = new HashMap<>();
     private final Map<Long, Wait> known = new HashMap<>();
     private boolean virtualThreads;
+    private boolean namesAreKept;
+    private Map<Long, Thread> there = Collections.emptyMap();
+    private Map<Long, String> inKernel = new HashMap<>();
 
     private Watcher(Lines lines, Inside inside) {
         this.lines = lines;
@@ -77,6 +80,7 @@ public final class Watcher implements Runnable {
     @Override
     public void run() {
         try {
+            namesAreKept = Inside.namesAreKept();
             long pause = PERIOD;
             while (true) {
                 Thread.sleep(pause);
@@ -106,7 +110,12 @@ public final class Watcher implements Runnable {
         Map<Long, Thread> present = new LinkedHashMap<>();
         for (int i = 0; i < count; i++) {
             if (!OWN_THREADS.contains(found[i].getName())) {
-                present.put(found[i].getId(), found[i]);
+                present.put(inside.id(found[i]), found[i]);
+            }
+        }
+        for (Map.Entry<Long, Thread> entry : there.entrySet()) {
+            if (entry.getValue().isAlive()) {
+                present.putIfAbsent(entry.getKey(), entry.getValue());   // it left its group, and has not ended yet
             }
         }
         return present;
@@ -118,11 +127,12 @@ public final class Watcher implements Runnable {
     }
 
     private void look() throws IOException {
-        Map<Long, Thread> present = present();
+        Map<Long, Thread> present = present();                 // who is not here has ended before anybody is looked at
+        there = present;
         List<Long> asleep = new ArrayList<>();
-        for (Thread thread : present.values()) {
-            if (mayWait(thread)) {
-                asleep.add(thread.getId());
+        for (Map.Entry<Long, Thread> entry : present.entrySet()) {
+            if (mayWait(entry.getValue())) {
+                asleep.add(entry.getKey());
             }
         }
         if (threads == null) {
@@ -176,16 +186,20 @@ public final class Watcher implements Runnable {
     /** Who stands is announced, but not who is only on its way out of the wait: the kernel lets that thread run, or the object says that the wait is over. */
     private void tell(Map<Long, Thread> before, Map<Long, String> stands) throws IOException {
         Map<Long, Wait> standing = new LinkedHashMap<>();
-        Set<String> running = known.isEmpty() ? Collections.<String>emptySet() : Inside.runningNames();
+        if (!namesAreKept && !inKernel.keySet().containsAll(known.keySet())) {
+            inKernel = Inside.numbersInKernel();
+        }
+        Set<String> running = known.isEmpty() ? Collections.<String>emptySet() : Inside.running();
         for (Map.Entry<Long, Wait> entry : known.entrySet()) {
             Thread thread = before.get(entry.getKey());
             Wait wait = entry.getValue();
-            if (thread != null && !wait.isOver() && (wait.isOwned || !running.contains(Inside.kernelName(thread)))) {
+            if (thread != null && !wait.isOver() && (wait.isOwned || sleeps(entry.getKey(), thread, running))) {
                 wait.refresh(before);
                 standing.put(entry.getKey(), wait);
             }
         }
-        Map<Long, Thread> present = present();                 // who began meanwhile runs
+        Map<Long, Thread> present = new LinkedHashMap<>(before);
+        present.putAll(present());                             // who began meanwhile runs
         for (Thread thread : present.values()) {
             virtualThreads |= thread.getClass().getName().equals("jdk.internal.misc.CarrierThread");
         }
@@ -203,6 +217,10 @@ public final class Watcher implements Runnable {
         lines.handOver();
     }
 
+    private boolean sleeps(Long id, Thread thread, Set<String> running) {
+        return namesAreKept ? !running.contains(Inside.kernelName(id, thread)) : inKernel.containsKey(id) && !running.contains(inKernel.get(id));
+    }
+
     private Wait waitOf(ThreadInfo info, Map<Long, Thread> present) {
         Thread thread = present.get(info.getThreadId());
         StackTraceElement[] frames = info.getStackTrace();
@@ -215,7 +233,7 @@ public final class Watcher implements Runnable {
         if (blocker == null) {
             Thread joined = joined(info, frames, present);
             if (joined != null) {
-                wait.end(joined);
+                wait.end(joined, inside.id(joined));
             } else {
                 wait.any(isParked(frames) ? "park" : info.getLockInfo() == null ? "wait" : simple(info.getLockInfo().getClassName()), String.valueOf(info.getLockName()));
             }

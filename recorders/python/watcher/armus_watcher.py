@@ -2,9 +2,8 @@
 program is replaced. What a thread waits for is what its frames say: where it stands in threading, queue and concurrent.futures, and in which line of the program.
 That it has not run between two looks is what the kernel says."""
 import ast
-import gc
+import functools
 import inspect
-import linecache
 import os
 import platform
 import socket
@@ -17,8 +16,9 @@ import weakref
 
 PERIOD, LONGEST = 0.05, 1.0
 FUTEX = {'x86_64': 202, 'aarch64': 98, 'riscv64': 98, 'ppc64le': 221, 's390x': 238}.get(platform.machine())
+EPOLL = {'x86_64': 232, 'aarch64': 22, 'riscv64': 22}.get(platform.machine())
 STANDARD = os.path.dirname(os.__file__) + os.sep
-OWN = __file__
+BEGUN = time.time()
 
 
 # ---- what the kernel says of a thread
@@ -36,19 +36,35 @@ def switches(native):
     return text[text.find(b'voluntary_ctxt_switches'):] if text else None
 
 
+IN_SELECT = 'select'
+
+
 def sleeps_at(native):
-    """The address at which a thread sleeps without a limit, or nothing."""
+    """The address at which a thread sleeps without a limit, IN_SELECT where it waits so for files, or nothing."""
     words = text_of(f'/proc/self/task/{native}/syscall').split()
-    if len(words) < 6 or words[0] != str(FUTEX).encode() or int(words[4], 16) != 0:
+    if len(words) < 6:
         return None
-    return int(words[1], 16)
+    number, limit = words[0], int(words[4], 16)
+    if number == str(EPOLL).encode() and limit & 0xffffffff == 0xffffffff:
+        return IN_SELECT
+    return int(words[1], 16) if number == str(FUTEX).encode() and limit == 0 else None
 
 
 class Memory:
     """The process's own memory, read without touching it."""
 
     def __init__(self):
-        self.file = os.open('/proc/self/mem', os.O_RDONLY | os.O_CLOEXEC)
+        self.file = moved_file(os.open('/proc/self/mem', os.O_RDONLY | os.O_CLOEXEC))
+        self.is_same = self.identity()
+
+    def identity(self):
+        found = os.fstat(self.file)
+        return found.st_dev, found.st_ino
+
+    def close(self):
+        """Not a file of the program's own that has its number now."""
+        if self.identity() == self.is_same:
+            os.close(self.file)
 
     def words(self, address, count):
         try:
@@ -64,29 +80,29 @@ class Memory:
 
 # ---- names and values of a frame, without making its dictionary of locals, which would keep values alive
 def local_values(frame, memory):
-    """Pairs of a name, or None where it is not known, and a value."""
+    """Pairs of a name and a value."""
     code = frame.f_code
-    if not code.co_flags & inspect.CO_OPTIMIZED:
+    if not code.co_flags & inspect.CO_OPTIMIZED or sys.version_info >= (3, 13):
         return list(frame.f_locals.items())
-    if sys.version_info >= (3, 13):
-        return list(frame.f_locals.items())
-    if sys.version_info < (3, 11):
-        return [(None, value) for value in gc.get_referents(frame)]
-    names = code.co_varnames + tuple(n for n in code.co_cellvars if n not in code.co_varnames) + code.co_freevars
+    cells = code.co_cellvars if sys.version_info < (3, 11) else tuple(n for n in code.co_cellvars if n not in code.co_varnames)
+    names = code.co_varnames + cells + code.co_freevars
     return [(name, value.cell_contents if type(value) is CELL and not is_empty(value) else value) for name, value in zip(names, frame_values(frame, code, len(names)))
             if value is not None]
 
 
 def frame_values(frame, code, count):
-    """What the locals of a frame of Python 3.11 and 3.12 have. Without the library of the C recorder, which takes them all at one moment, they are not looked at."""
+    """What the locals of a frame of Python 3.8 to 3.12 have. Without the library of the C recorder, which takes them all at one moment, they are not looked at."""
     import ctypes
     try:
         take = ctypes.PyDLL(None).armus_frame_values
     except AttributeError:
         return []
-    take.restype, take.argtypes = ctypes.c_long, (ctypes.py_object, ctypes.c_long, ctypes.py_object, ctypes.c_long, ctypes.c_long, ctypes.c_void_p)
+    take.restype, take.argtypes = ctypes.c_long, (ctypes.py_object, ctypes.c_long, ctypes.c_long, ctypes.py_object, ctypes.c_long, ctypes.c_long, ctypes.c_void_p)
     found = (ctypes.c_size_t * (count + 1))()
-    taken = take(frame, 32 if sys.version_info < (3, 12) else 0, code, 72, count, found)
+    if sys.version_info < (3, 11):
+        taken = take(frame, 0, 32, code, type(frame).__basicsize__ - 8, count, found)      # the last word of the frame itself is the first local
+    else:
+        taken = take(frame, 24, 32 if sys.version_info < (3, 12) else 0, code, 72, count, found)
     values = [ctypes.cast(p, ctypes.py_object).value if p else None for p in found[:taken]]
     for p in found[:taken]:
         if p:
@@ -108,8 +124,8 @@ def is_empty(cell):
 def attribute(value, name):
     """An attribute as it is stored, without running code of the program."""
     try:
-        return vars(value)[name]
-    except (TypeError, KeyError):
+        return object.__getattribute__(value, '__dict__')[name]
+    except (AttributeError, TypeError, KeyError):
         try:
             found = inspect.getattr_static(value, name)
             if inspect.ismemberdescriptor(found):
@@ -122,9 +138,9 @@ def attribute(value, name):
 def evaluated(node, frame, locals_):
     """The values that an expression of names, attributes and plain indices may have."""
     if isinstance(node, ast.Name):
-        near = [v for n, v in locals_ if n == node.id or n is None]
-        return near if any(n == node.id for n, _ in locals_) or (near and node.id in frame.f_code.co_varnames) else \
-            near + [frame.f_globals[node.id]] if node.id in frame.f_globals else near
+        near = [v for n, v in locals_ if n == node.id]
+        of_function = frame.f_code.co_varnames + frame.f_code.co_cellvars + frame.f_code.co_freevars
+        return near if near or node.id in of_function or node.id not in frame.f_globals else [frame.f_globals[node.id]]
     if isinstance(node, ast.Attribute):
         return [v for v in (attribute(o, node.attr) for o in evaluated(node.value, frame, locals_)) if v is not None]
     if isinstance(node, ast.Subscript):
@@ -133,7 +149,7 @@ def evaluated(node, frame, locals_):
         keys = [index.value] if isinstance(index, ast.Constant) else evaluated(index, frame, locals_)
         for o in evaluated(node.value, frame, locals_):
             for k in keys:
-                if type(o) in (list, tuple, dict):
+                if type(o) in (list, tuple, dict) and type(k) in (int, str):
                     try:
                         found.append(o[k])
                     except (LookupError, TypeError):
@@ -147,11 +163,11 @@ class Text:
     """Of a file: the calls and with-statements in each line, and the regions in which a lock is held."""
     known = {}
 
-    def __init__(self, file, frame_globals):
+    def __init__(self, file):
         self.at, self.regions = {}, []
         try:
-            tree = ast.parse(''.join(linecache.getlines(file, frame_globals)))
-        except (SyntaxError, ValueError, RecursionError, MemoryError):
+            tree = ast.parse(self.read(file))
+        except (OSError, SyntaxError, ValueError, RecursionError, MemoryError):
             return
         for node in ast.walk(tree):
             if isinstance(node, (ast.With, ast.AsyncWith)):
@@ -164,6 +180,15 @@ class Text:
                 if isinstance(body, list):
                     for one, two in zip(body, body[1:]):
                         self.tried(one, two)
+
+    @staticmethod
+    def read(file):
+        """The text that the program was made of: a plain file that is older than the program's beginning. What else has the name may be the program's input."""
+        found = os.stat(file)
+        if not stat.S_ISREG(found.st_mode) or found.st_mtime > BEGUN:
+            return b''
+        with open(file, 'rb') as opened:
+            return opened.read()
 
     def note(self, first, last, verb, expression):
         for line in range(first, min(max(last, first), first + 20) + 1):
@@ -182,7 +207,7 @@ class Text:
     def of(cls, frame):
         file = frame.f_code.co_filename
         if file not in cls.known:
-            cls.known[file] = cls(file, frame.f_globals)
+            cls.known[file] = cls(file)
         return cls.known[file]
 
 
@@ -213,6 +238,17 @@ def frames_of(frame):
         frame = frame.f_back
 
 
+def frames_of_coroutine(coroutine):
+    """The frames of what a task runs, the innermost first."""
+    found = []
+    while coroutine is not None:
+        frame = getattr(coroutine, 'cr_frame', None) or getattr(coroutine, 'gi_frame', None) or getattr(coroutine, 'ag_frame', None)
+        if frame is not None:
+            found.append(frame)
+        coroutine = getattr(coroutine, 'cr_await', None) or getattr(coroutine, 'gi_yieldfrom', None) or getattr(coroutine, 'ag_await', None)
+    return reversed(found)
+
+
 # ---- lines
 class Lines:
     def __init__(self, connection, process):
@@ -225,6 +261,11 @@ class Lines:
 
     def say(self, line):
         self.lines.append(line)
+
+    def close(self):
+        if self.identity() != self.is_same:
+            self.connection.detach()
+        self.connection.close()
 
     def hand_over(self):
         """All lines of a look at once. What cannot be written ends the recorder."""
@@ -249,10 +290,14 @@ ALL = 'all'
 class Wait:
     """What a thread waits for: an object of a kind, and keepers: each is None (any thread of this process), ALL (of all processes) or a list of threads of which one has
     to act."""
-    __slots__ = ('kind', 'object', 'keepers', 'place', 'name', 'last')
+    __slots__ = ('kind', 'object', 'keepers', 'place', 'name', 'ends')
 
-    def __init__(self, kind, object_, keepers, place, name=None, last=False):
-        self.kind, self.object, self.keepers, self.place, self.name, self.last = kind, object_, keepers, place, name, last
+    def __init__(self, kind, object_, keepers, place, name=None, ends=False):
+        self.kind, self.object, self.keepers, self.place, self.name, self.ends = kind, object_, keepers, place, name, ends
+
+    def turn(self):
+        """Who waits for an end is announced first, then who waits for anybody, and then who waits for one that has to do something: the last of them begins the message."""
+        return 0 if self.ends else 1 if None in self.keepers or ALL in self.keepers else 2
 
     def key(self):
         return self.kind, id(self.object), tuple(k if k in (None, ALL) else tuple(k) for k in self.keepers)
@@ -319,7 +364,7 @@ class Announcer:
             self.lines.say(f'{self.task(key)} end')
             self.used.discard(self.names.pop(key))
         waiting = [k for k in standing if k in self.names and k not in self.waits]
-        for key in sorted(waiting, key=lambda k: standing[k].last, reverse=True):
+        for key in sorted(waiting, key=lambda k: standing[k].turn()):
             self.wait(key, standing[key])
 
     def say_any(self):
@@ -374,6 +419,7 @@ class Watcher:
         self.announcer, self.memory, self.own = Announcer(lines), Memory(), _thread.get_ident()
         self.native_offset = self.found_offset()
         self.seen, self.slept, self.beginning = {}, {}, {}
+        self.task_keys = weakref.WeakKeyDictionary()
         self.main = None
 
     def found_offset(self):
@@ -398,14 +444,18 @@ class Watcher:
             return 'main' if thread is threading._main_thread else thread._name
         return f'thread-{len(self.announcer.names)}'
 
+    @classmethod
+    def place(cls, frame):
+        return cls.place_among(list(frames_of(frame)))
+
     @staticmethod
-    def place(frame):
+    def place_among(frames):
         """The innermost line outside of the standard library; of a thread that is within it altogether, the innermost line."""
-        for f in frames_of(frame):
+        for f in frames:
             file = f.f_code.co_filename
             if not (file.startswith(STANDARD) and 'site-packages' not in file) and not file.startswith('<frozen'):
                 return f'{os.path.basename(file)}:{f.f_lineno}'
-        return f'{os.path.basename(frame.f_code.co_filename)}:{frame.f_lineno}'
+        return f'{os.path.basename(frames[0].f_code.co_filename)}:{frames[0].f_lineno}'
 
     def slept_since(self, key, native, mark):
         """Whether a thread has not run since the last look, and where it sleeps."""
@@ -428,6 +478,9 @@ class Watcher:
         standing = {}
         if asleep:
             for ident in asleep:
+                if asleep[ident] is IN_SELECT:
+                    self.add_loop(ident, natives[ident], frames[ident], present, standing)
+                    continue
                 wait = self.wait_of(ident, frames[ident], asleep, frames)
                 if wait is not None:
                     standing[ident] = wait
@@ -458,7 +511,7 @@ class Watcher:
                 if text_of(f'/proc/self/task/{native}/stat').rpartition(b') ')[2][:1] in (b'Z', b'X', b''):
                     continue
                 present[key] = f'native-{native}', 'native'
-                if at is not None:
+                if at is not None and at is not IN_SELECT:
                     standing[key] = Wait('native', None, [None], 'native', f'native-{native}')
 
     def end_main(self, present, standing, frames):
@@ -480,7 +533,9 @@ class Watcher:
         signal = sys.modules.get('signal')
         if signal is None:
             return False
-        return any(callable(h) and h is not signal.default_int_handler for h in map(signal.getsignal, signal.valid_signals()) if not isinstance(h, int))
+        runner = getattr(sys.modules.get('asyncio.runners'), 'Runner', None)
+        return any(callable(h) and h is not signal.default_int_handler and not (isinstance(h, functools.partial) and isinstance(getattr(h.func, '__self__', None), runner or ()))
+                   for h in map(signal.getsignal, signal.valid_signals()) if not isinstance(h, int))
 
     # ---- what a frame waits for
     def wait_of(self, ident, frame, asleep, frames):
@@ -503,7 +558,7 @@ class Watcher:
         if name in ('_wait_for_tstate_lock', 'join') and isinstance(this, threading.Thread):
             if values.get('timeout') not in (None, -1) or not this.is_alive():
                 return None
-            return Wait('end-of', this, [[this.ident]], place, f'end-of-{self.announcer.names.get(this.ident, named(this._name))}', last=True)
+            return Wait('end-of', this, [[this.ident]], place, f'end-of-{self.announcer.names.get(this.ident, named(this._name))}', ends=True)
         if name in ('_acquire_restore', '__enter__', 'acquire'):
             return self.of_lock(self.lock_at(address, [getattr(this, '_lock', None), getattr(this, '_block', None)]), place, frames, ident)
         return None
@@ -567,6 +622,67 @@ class Watcher:
             return None
         return Wait(type(this).__name__, this, [ALL], place)
 
+    # ---- asyncio: a loop that waits for nothing but its own tasks, other threads and signals, and each of its tasks
+    def add_loop(self, ident, native, frame, present, standing):
+        loop = self.idle_loop(frame)
+        if loop is None:
+            return
+        try:
+            tasks = {self.task_key(task): task for task in sys.modules['asyncio.tasks'].all_tasks(loop)}
+            frames = {key: list(frames_of_coroutine(task.get_coro())) for key, task in tasks.items()}
+            waits = {key: self.wait_of_task(task, key, tasks, frames) for key, task in tasks.items()}
+            names = {key: (task.get_name(), self.place_of_task(frames[key])) for key, task in tasks.items()}
+        except (AttributeError, RuntimeError):                   # it goes on meanwhile
+            return
+        if self.slept[ident][1] == switches(native):
+            present.update(names)
+            standing.update((key, wait) for key, wait in waits.items() if wait is not None)
+            standing[ident] = Wait('loop', loop, [None], self.place(frame), ends=True)
+
+    @staticmethod
+    def idle_loop(frame):
+        """The loop that this frame runs. Nothing is ready in it, no time will come, and it waits for no file but its own by which other threads wake it."""
+        base = sys.modules.get('asyncio.base_events')
+        for f in frames_of(frame):
+            if base is not None and f.f_code.co_name == '_run_once' and f.f_code.co_filename == base.__file__:
+                loop = f.f_locals.get('self')
+                try:
+                    files = list(loop._selector.get_map().values())
+                    if loop._ready or any(not handle._cancelled for handle in loop._scheduled) or any(file.fileobj is not loop._ssock and file.fd != loop._ssock.fileno() for file in files):
+                        return None
+                    return loop
+                except (AttributeError, RuntimeError):           # a loop of another sort, or one that goes on
+                    return None
+        return None
+
+    def task_key(self, task):
+        return self.task_keys.setdefault(task, ('task', len(self.task_keys), id(task)))
+
+    def place_of_task(self, frames):
+        return self.place_among(frames) if frames else 'asyncio'
+
+    def wait_of_task(self, task, key, tasks, frames):
+        place, waiter, keys = self.place_of_task(frames[key]), task._fut_waiter, {id(t): k for k, t in tasks.items()}
+        if waiter is None or waiter.done():
+            return None
+        if id(waiter) in keys:
+            return Wait('end-of', waiter, [[keys[id(waiter)]]], place, f'end-of-{named(waiter.get_name())}', ends=True)
+        children = [child for child in getattr(waiter, '_children', ()) if not child.done()]
+        if children:
+            return Wait('gather', waiter, [[keys[id(child)]] for child in children], place, ends=True) if all(id(child) in keys for child in children) else None
+        this = None
+        for frame in frames[key]:
+            if os.path.basename(os.path.dirname(frame.f_code.co_filename)) != 'asyncio' or os.path.basename(frame.f_code.co_filename) not in ('locks.py', 'queues.py', 'mixins.py'):
+                break
+            this = frame.f_locals.get('self', this)
+        if this is None:
+            return None
+        kind = type(this).__name__
+        if isinstance(this, sys.modules['asyncio.locks'].Lock):
+            holders = [k for k in tasks if self.holds_among(frames[k], this, k == key)]
+            return Wait(kind, this, [holders if len(holders) == 1 and this.locked() else None], place)
+        return Wait(kind, this, [None], place)
+
     # ---- locks
     def lock_at(self, address, candidates):
         """The one of them whose lock is at the address where the thread sleeps."""
@@ -601,10 +717,12 @@ class Watcher:
         return Wait('Lock', lock, [holders if len(holders) == 1 else None], place)
 
     def holds(self, frame, lock, waits):
-        """Whether a thread stands inside of a with-statement of this lock, or between its acquire and the release of a finally."""
-        for n, f in enumerate(frames_of(frame)):
-            if f.f_code.co_filename.startswith(STANDARD):
-                continue
+        return self.holds_among(frames_of(frame), lock, waits)
+
+    def holds_among(self, frames, lock, waits):
+        """Whether one with these frames stands inside of a with-statement of this lock, or between its acquire and the release of a finally."""
+        outside = [f for f in frames if not f.f_code.co_filename.startswith(STANDARD) or 'site-packages' in f.f_code.co_filename]
+        for n, f in enumerate(outside):
             for region, expression in Text.of(f).regions:
                 if region[0][0] <= f.f_lineno <= region[1][0] and is_inside(f, region) and f.f_code.co_firstlineno <= region[0][0] \
                         and not (n == 0 and waits and stands_at(f)[1] is None):
@@ -628,7 +746,7 @@ class Life:
         connection = socket.socket(socket.AF_UNIX)
         try:
             connection.connect(path)
-            connection = moved(connection)
+            connection = socket.socket(fileno=moved_file(connection.detach()))
             process = str(os.getpid())
             self.lines = Lines(connection, process)
             self.lines.say(f'# process {process}/')
@@ -653,11 +771,11 @@ class Life:
                 import traceback
                 traceback.print_exc()
         finally:
-            try:
-                self.lines.connection.close()
-                os.close(watcher.memory.file)
-            except Exception:
-                pass
+            for close in (lambda: self.lines.close(), lambda: watcher.memory.close()):
+                try:
+                    close()
+                except Exception:                         # there is nothing to close, or it is closed
+                    pass
             self.done.release()
 
     def end(self):
@@ -675,17 +793,17 @@ class Life:
             time.sleep(0.0005)
 
 
-def moved(connection):
-    """The socket with a number that the program is not likely to meet."""
+def moved_file(number):
+    """The file under a number that the program is not likely to meet."""
     import fcntl
     import resource
     limit = resource.getrlimit(resource.RLIMIT_NOFILE)[0]
     high = min(limit if limit > 0 else 65536, 65536)
     try:
-        other = socket.socket(fileno=fcntl.fcntl(connection.fileno(), fcntl.F_DUPFD_CLOEXEC, high - high // 16))
+        other = fcntl.fcntl(number, fcntl.F_DUPFD_CLOEXEC, high - high // 16)
     except OSError:
-        return connection
-    connection.close()
+        return number
+    os.close(number)
     return other
 
 
@@ -724,5 +842,5 @@ def behind_fork():
     life = Life.current
     if life is not None:
         life.hook()
-        if len(sys._current_frames()) > 1 or 'multiprocessing' in sys.modules:
+        if len(sys._current_frames()) > 1 or 'multiprocessing' in sys.modules or 'asyncio' in sys.modules:
             begin(life.hook)

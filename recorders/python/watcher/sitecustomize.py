@@ -1,6 +1,6 @@
 """Brings the watcher of armus-run into a Python program. armus-run puts this folder in front of PYTHONPATH, so each Python imports this module when it begins.
 The folder leaves the module path at once, another sitecustomize is loaded as it would be without this one, and the watcher itself is loaded when the program
-begins its first thread."""
+begins its first thread or loads asyncio."""
 import os
 import sys
 
@@ -61,12 +61,24 @@ def _begin():
         state.pop('process', None)
         replace(real, hooks)
 
+    class Finder:
+        """Finds nothing. It is asked for asyncio's loops when they are loaded, and then the watcher begins."""
+        @staticmethod
+        def find_spec(name, path=None, target=None):
+            if name == 'asyncio.base_events':
+                sys.meta_path[:] = [f for f in sys.meta_path if f is not Finder]
+                watch()
+            return None
+
+    def is_needed():
+        return 'multiprocessing' in sys.modules or 'asyncio' in sys.modules
+
+    sys.meta_path.insert(0, Finder)
     hook()
     if '--multiprocessing-fork' in getattr(sys, 'orig_argv', sys.argv):
         watch()
     else:
-        os.register_at_fork(after_in_parent=lambda: 'multiprocessing' in sys.modules and watch(),
-                            after_in_child=lambda: (hook(), 'multiprocessing' in sys.modules and watch()))
+        os.register_at_fork(after_in_parent=lambda: is_needed() and watch(), after_in_child=lambda: (hook(), 'multiprocessing' in sys.modules and watch()))
 
 
 def _next():
