@@ -5,7 +5,7 @@ use Rattle.armus_base.proofs.Elements.{nothing_in_nil}
 use Rattle.monitor_messages.specs.Runs.{MonitorOptions, MonitorRun, run_begun}
 use Rattle.monitor.specs.HeardLines.{AreHeardLines, HasHeard, HasHeardAll}
 use Rattle.monitor.specs.MonitorCalls.{CallsFor, EndsMonitored, IsEndOutput, IsFaultOutput, IsPrompt, at_end, at_fault, memory_wanting, read_failed, write_failed}
-use Rattle.monitor.specs.Transfers.{AreWrites, HasNoEnd, IsReadToEnd, Transfer, WereRead, WereWritten, bytes_read, bytes_written}
+use Rattle.monitor.specs.Transfers.{AreWrites, HasReadNoEnd, IsReadToEnd, Transfer, WereRead, WereWritten, bytes_read, bytes_written}
 use Rattle.monitor.specs.inside.Ending.{EndsTrace, EndsWithLine, EndsWithWords, HasListened}
 use Rattle.monitor.specs.declared.hearing.HearFault.{HearFault}
 use Rattle.monitor.specs.declared.hearing.HearFault.TheVariants.{NoMemory, WriteFailed}
@@ -15,9 +15,9 @@ use Rattle.monitor.proofs.Logs.{read_more, reads_nothing, written_more}
 behind_first : {A : Type 0} (x y : A) (xs ys : List A) → x ∷ xs ≡ y ∷ ys → xs ≡ ys
 behind_first x y xs ys e = ap (drop 1) e
 
-pub prompt_read : (options : MonitorOptions) (log : List Transfer) (bytes : List ℕ) → IsPrompt options log → HasNoEnd log × CallsFor options (bytes_read log) (bytes_written log) → IsPrompt options (WereRead bytes ∷ log)
+pub prompt_read : (options : MonitorOptions) (log : List Transfer) (bytes : List ℕ) → IsPrompt options log → HasReadNoEnd log × CallsFor options (bytes_read log) (bytes_written log) → IsPrompt options (WereRead bytes ∷ log)
 prompt_read options log bytes prompt calls [] before b e =
-    subst (λ l. HasNoEnd l × CallsFor options (bytes_read l) (bytes_written l)) (behind_first (WereRead bytes) (WereRead b) log before e) calls
+    subst (λ l. HasReadNoEnd l × CallsFor options (bytes_read l) (bytes_written l)) (behind_first (WereRead bytes) (WereRead b) log before e) calls
 prompt_read options log bytes prompt calls (x ∷ later) before b e = prompt later before b (behind_first (WereRead bytes) x log (later ++ WereRead b ∷ before) e)
 
 pub prompt_writes : (options : MonitorOptions) (writes log : List Transfer) → AreWrites writes → IsPrompt options log → IsPrompt options (writes ++ log)
@@ -68,7 +68,7 @@ listens_on options log writes bytes old new so_far are hears =
     (subst (λ written. IsListening options (bytes_read log ++ bytes) written new) (sym (written_then writes log bytes))
     (hears options (bytes_read log) (bytes_written log) so_far.listening))
 
-no_end_behind : (writes log : List Transfer) (bytes : List ℕ) → AreWrites writes → 0 < length bytes → HasNoEnd log → HasNoEnd (writes ++ WereRead bytes ∷ log)
+no_end_behind : (writes log : List Transfer) (bytes : List ℕ) → AreWrites writes → 0 < length bytes → HasReadNoEnd log → HasReadNoEnd (writes ++ WereRead bytes ∷ log)
 no_end_behind [] log [] are some none = absurd (omega arith)
 no_end_behind [] log (b ∷ bytes) are some none = none
 no_end_behind (WereRead more ∷ writes) log bytes are some none = absurd are

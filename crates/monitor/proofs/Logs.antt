@@ -3,7 +3,7 @@ use Rattle.std.proofs.Common.{◌≡◌, ℕ, None, Some, Option, List, [], ◌�
 use Rattle.std.specs.Io.KnownBytes.{Appends, Consumes}
 use Rattle.std.specs.Option.{option_map}
 use Rattle.std.proofs.KnownBytes.{Appends-trans, Consumes-trans}
-use Rattle.monitor.specs.Transfers.{AreWrites, LogGrows, Passes, PortView, Transfer, WereRead, WereWritten, bytes_read, bytes_written}
+use Rattle.monitor.specs.Transfers.{AreWrites, LogGrows, PassesThrough, PortView, Transfer, WereRead, WereWritten, bytes_read, bytes_written}
 
 grows_none : (o : Option (List Transfer)) → LogGrows o o []
 grows_none None = refl
@@ -49,11 +49,11 @@ appends_nothing None = tt
 appends_nothing (Some xs) = sym (append-nil xs)
 
 -- through a port nothing passed
-pub passes_nothing : (v : PortView) → Passes v v []
+pub passes_nothing : (v : PortView) → PassesThrough v v []
 passes_nothing v = record { log = grows_none v.log; left = consumes_nothing v.left; taken = appends_nothing v.taken }
 
 -- and one thing behind another
-pub passes_more : (a b c : PortView) (more later : List Transfer) → Passes a b more → Passes b c later → Passes a c (later ++ more)
+pub passes_more : (a b c : PortView) (more later : List Transfer) → PassesThrough a b more → PassesThrough b c later → PassesThrough a c (later ++ more)
 passes_more a b c more later one other = record {
   log = grows_more a.log b.log c.log more later one.log other.log;
   left = subst (Consumes a.left c.left) (sym (read_more later more)) (Consumes-trans a.left b.left c.left (bytes_read more) (bytes_read later) one.left other.left);

@@ -6,7 +6,7 @@ use Rattle.monitor_words.specs.Stops.{TellsStuck}
 use Rattle.monitor_messages.specs.Runs.{MonitorOptions, MonitorRun, ended_status}
 use Rattle.monitor.specs.HeardLines.{HasHeard, HasHeardAll}
 use Rattle.monitor.specs.MonitorRequests.{MonitorRequest, Monitors, NoCommand, ShowsHelp, ShowsVersion, monitor_help_lines, monitor_usage_line, monitor_version_line}
-use Rattle.monitor.specs.Transfers.{AreWrites, HasNoEnd, IsReadToEnd, Transfer, WereRead, bytes_read, bytes_written}
+use Rattle.monitor.specs.Transfers.{AreWrites, HasReadNoEnd, IsReadToEnd, Transfer, WereRead, bytes_read, bytes_written}
 
 -- these bytes call for this output while the trace goes on, and no line of them stopped the monitor
 abbrev pub CallsFor : MonitorOptions → List ℕ → List ℕ → Type 0
@@ -17,7 +17,7 @@ CallsFor options bytes output = (run : MonitorRun) × HasHeard options bytes run
 abbrev pub IsPrompt : MonitorOptions → List Transfer → Type 0
 IsPrompt options log =
     (later before : List Transfer) (bytes : List ℕ) → log ≡ later ++ WereRead bytes ∷ before →
-    HasNoEnd before × CallsFor options (bytes_read before) (bytes_written before)
+    HasReadNoEnd before × CallsFor options (bytes_read before) (bytes_written before)
 
 -- what some first bytes call for
 abbrev pub IsCalledBefore : MonitorOptions → List ℕ → List ℕ → Type 0
@@ -62,7 +62,7 @@ IsSomeOutput options log output =
 pub data EndsMonitored (options : MonitorOptions) (log : List Transfer) (status : ℕ) : Type 0 where
   at_end : IsReadToEnd log → IsEndOutput options (bytes_read log) (bytes_written log) status → EndsMonitored options log status
   at_fault : status ≡ 3 → IsFaultOutput options (bytes_read log) (bytes_written log) → EndsMonitored options log status
-  read_failed : status ≡ 4 → HasNoEnd log → CallsFor options (bytes_read log) (bytes_written log) → EndsMonitored options log status
+  read_failed : status ≡ 4 → HasReadNoEnd log → CallsFor options (bytes_read log) (bytes_written log) → EndsMonitored options log status
   write_failed : status ≡ 5 → (left : List ℕ) → IsSomeOutput options log (bytes_written log ++ left) → EndsMonitored options log status
   memory_wanting : status ≡ 6 → IsOutputOfFront options log (bytes_written log) → EndsMonitored options log status
 

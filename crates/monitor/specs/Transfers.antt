@@ -27,11 +27,11 @@ AreWrites (WereRead bytes ∷ log) = ⊥
 AreWrites (WereWritten bytes ∷ log) = AreWrites log
 
 -- no end of the trace was read
-abbrev pub HasNoEnd : List Transfer → Type 0
-HasNoEnd [] = Unit {0}
-HasNoEnd (WereRead [] ∷ log) = ⊥
-HasNoEnd (WereRead (b ∷ bytes) ∷ log) = HasNoEnd log
-HasNoEnd (WereWritten bytes ∷ log) = HasNoEnd log
+abbrev pub HasReadNoEnd : List Transfer → Type 0
+HasReadNoEnd [] = Unit {0}
+HasReadNoEnd (WereRead [] ∷ log) = ⊥
+HasReadNoEnd (WereRead (b ∷ bytes) ∷ log) = HasReadNoEnd log
+HasReadNoEnd (WereWritten bytes ∷ log) = HasReadNoEnd log
 
 -- the end of the trace was read, once, and then nothing more
 abbrev pub IsReadToEnd : List Transfer → Type 0
@@ -48,15 +48,15 @@ abbrev pub LogGrows : Option (List Transfer) → Option (List Transfer) → List
 LogGrows old new more = new ≡ option_map (λ log. more ++ log) old
 
 -- this passed through the port
-pub record Passes (old new : PortView) (more : List Transfer) : Type 0 where
+pub record PassesThrough (old new : PortView) (more : List Transfer) : Type 0 where
   pub log : LogGrows old.log new.log more
   pub left : Consumes old.left new.left (bytes_read more)
   pub taken : Appends old.taken new.taken (bytes_written more)
 
 -- by a read the bytes passed that it gave, and nothing where it failed
 abbrev pub PassesRead : {E : Type 0} → PortView → PortView → Result ℕ E → List ℕ → Type 0
-PassesRead old new result buffer = MatchResult result (λ n. Passes old new (WereRead (take n buffer) ∷ [])) (λ e. Passes old new [])
+PassesRead old new result buffer = MatchResult result (λ n. PassesThrough old new (WereRead (take n buffer) ∷ [])) (λ e. PassesThrough old new [])
 
 -- by a write the bytes passed that it took, and nothing where it failed
 abbrev pub PassesWrite : {E : Type 0} → PortView → PortView → Result ℕ E → List ℕ → Type 0
-PassesWrite old new result piece = MatchResult result (λ n. Passes old new (WereWritten (take n piece) ∷ [])) (λ e. Passes old new [])
+PassesWrite old new result piece = MatchResult result (λ n. PassesThrough old new (WereWritten (take n piece) ∷ [])) (λ e. PassesThrough old new [])

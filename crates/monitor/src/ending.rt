@@ -1,7 +1,7 @@
 // The end of a trace.
 ghost use Rattle.std.specs.Prelude.{◌≡◌, ◌≢◌, ◌<◌, [], List};
 ghost use Rattle.monitor_messages.specs.Runs.{ended_status};
-ghost use Rattle.monitor.specs.Transfers.{AreWrites, Passes, Transfer, bytes_written};
+ghost use Rattle.monitor.specs.Transfers.{AreWrites, PassesThrough, Transfer, bytes_written};
 ghost use Rattle.monitor.specs.MonitorCalls.{HasFaultAt};
 ghost use Rattle.monitor.specs.calls.StatusNumbers.{number_of_monitor_status};
 ghost use Rattle.monitor.specs.inside.Ending.{EndsReport, EndsTrace};
@@ -36,7 +36,7 @@ fn end_with_report<P: Port>(
     out: &mut Vec<u8>,
 ) -> MonitorStatus
     requires out { out.old.items ≡ [] }
-    ensures ends { (log : List Transfer) × Passes (P.view port.old) (P.view port.new) log × AreWrites log × EndsReport monitor.now (bytes_written log) (number_of_monitor_status result) }
+    ensures ends { (log : List Transfer) × PassesThrough (P.view port.old) (P.view port.new) log × AreWrites log × EndsReport monitor.now (bytes_written log) (number_of_monitor_status result) }
     ensures reading { (P.read_faults port.new ≡ P.read_faults port.old) × (number_of_monitor_status result ≢ 4) }
     ensures writing { HasFaultAt 5 (P.write_faults port.old) (P.write_faults port.new) (number_of_monitor_status result) }
 {
@@ -57,7 +57,7 @@ pub(crate) fn end_trace<P: Port>(
     out: &mut Vec<u8>,
 ) -> MonitorStatus
     requires out { out.old.items ≡ [] }
-    ensures ends { (log : List Transfer) × Passes (P.view port.old) (P.view port.new) log × AreWrites log × EndsTrace listener.old (bytes_written log) (number_of_monitor_status result) }
+    ensures ends { (log : List Transfer) × PassesThrough (P.view port.old) (P.view port.new) log × AreWrites log × EndsTrace listener.old (bytes_written log) (number_of_monitor_status result) }
     ensures reading { (P.read_faults port.new ≡ P.read_faults port.old) × (number_of_monitor_status result ≢ 4) }
     ensures writing { HasFaultAt 5 (P.write_faults port.old) (P.write_faults port.new) (number_of_monitor_status result) }
 {

@@ -1,6 +1,6 @@
 // Hearing what was read, and writing what it calls for.
 ghost use Rattle.std.specs.Prelude.{◌≡◌, ◌∷◌, ◌++◌, [], List, ℕ, IfErr, OnOk};
-ghost use Rattle.monitor.specs.Transfers.{AreWrites, Passes, Transfer, bytes_written};
+ghost use Rattle.monitor.specs.Transfers.{AreWrites, PassesThrough, Transfer, bytes_written};
 ghost use Rattle.monitor.specs.inside.Listening.{HasHearCause, HearsBytes, StopsHearing};
 
 use crate::Port;
@@ -27,9 +27,9 @@ pub(crate) fn hear_piece<P: Port>(
     piece: &[u8],
 ) -> Result<(), HearFault>
     requires out { out.old.items ≡ [] }
-    ensures heard { OnOk result ((log : List Transfer) × Passes (P.view port.old) (P.view port.new) log × AreWrites log × HearsBytes listener.old piece.now (bytes_written log) listener.new) }
+    ensures heard { OnOk result ((log : List Transfer) × PassesThrough (P.view port.old) (P.view port.new) log × AreWrites log × HearsBytes listener.old piece.now (bytes_written log) listener.new) }
     ensures done { OnOk result (out.new.items ≡ []) }
-    ensures err { IfErr result (λ e. (log : List Transfer) × (left : List ℕ) × Passes (P.view port.old) (P.view port.new) log × AreWrites log × StopsHearing listener.old piece.now log left × (e ≡ HearFault.NoMemory → left ≡ [])) }
+    ensures err { IfErr result (λ e. (log : List Transfer) × (left : List ℕ) × PassesThrough (P.view port.old) (P.view port.new) log × AreWrites log × StopsHearing listener.old piece.now log left × (e ≡ HearFault.NoMemory → left ≡ [])) }
     ensures fine { OnOk result (P.write_faults port.new ≡ P.write_faults port.old) }
     ensures cause { IfErr result (λ e. HasHearCause e (P.write_faults port.old) (P.write_faults port.new)) }
     ensures other { P.read_faults port.new ≡ P.read_faults port.old }

@@ -3,7 +3,7 @@ ghost use Rattle.std.specs.Prelude.{◌≡◌, ◌≢◌, ◌<◌, [], List, ℕ
 ghost use Rattle.monitor_messages.specs.Runs.{MonitorOptions};
 ghost use Rattle.monitor.specs.MonitorCalls.{EndsAsked, EndsMonitored, EndsTold, HasFaultAt, IsPrompt};
 ghost use Rattle.monitor.specs.MonitorRequests.{monitor_asked};
-ghost use Rattle.monitor.specs.Transfers.{Passes, Transfer};
+ghost use Rattle.monitor.specs.Transfers.{PassesThrough, Transfer};
 ghost use Rattle.monitor.specs.calls.Requested.{monitor_requested};
 ghost use Rattle.monitor.specs.calls.StatusNumbers.{number_of_monitor_status};
 ghost use Rattle.monitor.specs.inside.Ending.{HasListened};
@@ -55,7 +55,7 @@ fn listen<P: Port>(
     out: &mut Vec<u8>,
 ) -> MonitorStatus
     requires out { out.old.items ≡ [] }
-    ensures ends { (log : List Transfer) × Passes (P.view port.old) (P.view port.new) log
+    ensures ends { (log : List Transfer) × PassesThrough (P.view port.old) (P.view port.new) log
         × ((options : MonitorOptions) → HasListened options [] listener.old → IsPrompt options log × EndsMonitored options log (number_of_monitor_status result)) }
     ensures reading { HasFaultAt 4 (P.read_faults port.old) (P.read_faults port.new) (number_of_monitor_status result) }
     ensures writing { HasFaultAt 5 (P.write_faults port.old) (P.write_faults port.new) (number_of_monitor_status result) }
@@ -85,7 +85,7 @@ fn monitor_trace<P: Port>(
     keeps_going: bool,
     port: &mut P,
 ) -> MonitorStatus
-    ensures ends { (log : List Transfer) × Passes (P.view port.old) (P.view port.new) log × IsPrompt (record { guards = guards; keeps_going = keeps_going }) log
+    ensures ends { (log : List Transfer) × PassesThrough (P.view port.old) (P.view port.new) log × IsPrompt (record { guards = guards; keeps_going = keeps_going }) log
         × EndsMonitored (record { guards = guards; keeps_going = keeps_going }) log (number_of_monitor_status result) }
     ensures reading { HasFaultAt 4 (P.read_faults port.old) (P.read_faults port.new) (number_of_monitor_status result) }
     ensures writing { HasFaultAt 5 (P.write_faults port.old) (P.write_faults port.new) (number_of_monitor_status result) }
@@ -97,7 +97,7 @@ fn monitor_trace<P: Port>(
 
 // Writes these words, and answers the status.
 fn tell<P: Port>(port: &mut P, words: &str, status: MonitorStatus) -> MonitorStatus
-    ensures ends { (log : List Transfer) × Passes (P.view port.old) (P.view port.new) log × EndsTold words.now (number_of_monitor_status status) log (number_of_monitor_status result) }
+    ensures ends { (log : List Transfer) × PassesThrough (P.view port.old) (P.view port.new) log × EndsTold words.now (number_of_monitor_status status) log (number_of_monitor_status result) }
     ensures reading { P.read_faults port.new ≡ P.read_faults port.old }
     ensures writing { (number_of_monitor_status status < 3) → HasFaultAt 5 (P.write_faults port.old) (P.write_faults port.new) (number_of_monitor_status result) }
     ensures sound { (number_of_monitor_status status < 3) → number_of_monitor_status result ≢ 4 }
@@ -110,7 +110,7 @@ fn tell<P: Port>(port: &mut P, words: &str, status: MonitorStatus) -> MonitorSta
 
 // Does what the request asks for.
 fn answer_request<P: Port>(alloc: Global, request: &MonitorRequest, port: &mut P) -> MonitorStatus
-    ensures ends { (log : List Transfer) × Passes (P.view port.old) (P.view port.new) log × EndsAsked (monitor_requested request.now) log (number_of_monitor_status result) }
+    ensures ends { (log : List Transfer) × PassesThrough (P.view port.old) (P.view port.new) log × EndsAsked (monitor_requested request.now) log (number_of_monitor_status result) }
     ensures reading { HasFaultAt 4 (P.read_faults port.old) (P.read_faults port.new) (number_of_monitor_status result) }
     ensures writing { HasFaultAt 5 (P.write_faults port.old) (P.write_faults port.new) (number_of_monitor_status result) }
 {
@@ -132,7 +132,7 @@ fn answer_request<P: Port>(alloc: Global, request: &MonitorRequest, port: &mut P
 /// passed over, and 3 comes at the end in place of 0. It writes the lines of help or of the version and answers 0, where the words ask for them, and for all
 /// other words the line of usage, and answers 2; nothing is read then. It answers 4 and 5 where reading or writing failed, and 6 for want of memory.
 pub fn monitor<P: Port>(alloc: Global, words: &[String], port: &mut P) -> u8
-    ensures call { (log : List Transfer) × Passes (P.view port.old) (P.view port.new) log × EndsAsked (monitor_asked (map string_bytes words.now)) log result }
+    ensures call { (log : List Transfer) × PassesThrough (P.view port.old) (P.view port.new) log × EndsAsked (monitor_asked (map string_bytes words.now)) log result }
     ensures reading { HasFaultAt 4 (P.read_faults port.old) (P.read_faults port.new) result }
     ensures writing { HasFaultAt 5 (P.write_faults port.old) (P.write_faults port.new) result }
 {

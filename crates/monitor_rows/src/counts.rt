@@ -55,7 +55,7 @@ fn count_ended(list: &[ListedParticipant]) -> u32
 }
 
 /// How many tasks run, wait, are stuck and have ended; wildcards are not counted.
-pub fn counts_of_state(state: &MonitorState, stuck: &StuckTasks) -> StateCounts
+pub(crate) fn counts_of_state(state: &MonitorState, stuck: &StuckTasks) -> StateCounts
     ensures { result ≡ state_counts state.now (has_stuck_number stuck.now) }
 {
     let list = state.participants();

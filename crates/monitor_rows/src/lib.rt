@@ -15,9 +15,8 @@ mod rows;
 mod standing;
 mod waits;
 
-pub use counts::counts_of_state;
 pub use known_names::names_of_known;
 pub use listing::put_wait_list;
 pub use reports::put_state_report;
-pub use rows::{report_rows, wait_rows_of};
-pub use standing::{is_anybody_kept_waiting, is_task_kept_waiting, wait_standing_of};
+pub use rows::wait_rows_of;
+pub use standing::is_anybody_kept_waiting;

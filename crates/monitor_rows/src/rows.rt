@@ -230,7 +230,7 @@ fn kept_waiting(alloc: Global, state: &MonitorState) -> Result<Vec<&ListedPartic
 }
 
 /// The rows of all tasks that are kept waiting, in list order of their first, ten at most, and how many tasks are left.
-pub fn report_rows(
+pub(crate) fn report_rows(
     alloc: Global,
     state: &MonitorState,
     stuck: &StuckTasks,

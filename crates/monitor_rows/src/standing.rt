@@ -1,7 +1,6 @@
 // How a waiting task stands.
-ghost use Rattle.std.specs.Prelude.{◌≡◌, ◌<◌, length, slice_index_or};
+ghost use Rattle.std.specs.Prelude.{◌≡◌};
 ghost use Rattle.std.specs.List.{list_any};
-ghost use Rattle.monitor_laws.specs.States.{Participant as Listed};
 ghost use Rattle.monitor_laws.specs.Stuck.{has_phase_below};
 ghost use Rattle.monitor_words.specs.Messages.{is_kept_waiting};
 ghost use Rattle.monitor_words.specs.Stops.{keeps_waiting};
@@ -68,20 +67,4 @@ pub(crate) fn standing_in(
         return WaitStanding::Held;
     }
     WaitStanding::Free
-}
-
-/// Whether somebody keeps the task waiting that stands at this place of the list.
-pub fn is_task_kept_waiting(state: &MonitorState, task: usize) -> bool
-    requires { task < length state.now.list }
-    ensures { (t : Listed) → t ≡ slice_index_or state.now.list task t → result ≡ is_kept_waiting state.now t }
-{
-    is_kept_in(state, &state.participants()[task])
-}
-
-/// How the task stands that waits at this place of the list.
-pub fn wait_standing_of(state: &MonitorState, stuck: &StuckTasks, task: usize) -> WaitStanding
-    requires { task < length state.now.list }
-    ensures { (t : Listed) → t ≡ slice_index_or state.now.list task t → result ≡ wait_standing state.now (has_stuck_number stuck.now) t }
-{
-    standing_in(state, stuck, &state.participants()[task])
 }

@@ -15,4 +15,4 @@ mod stuck;
 
 pub use known_tasks::{StuckTask, StuckTasks};
 pub use laws::one_known;
-pub use stuck::{stuck_after, stuck_tasks};
+pub use stuck::stuck_after;

@@ -20,8 +20,8 @@ pub(crate) fn somebody_waits(list: &[ListedParticipant]) -> bool
     list.iter().any(|u| u.condition().waits())
 }
 
-/// The stuck tasks of a state, in list order.
-pub fn stuck_tasks(alloc: Global, state: &MonitorState) -> Result<StuckTasks, NoMemory>
+// The stuck tasks of a state, in list order.
+fn stuck_tasks(alloc: Global, state: &MonitorState) -> Result<StuckTasks, NoMemory>
     ensures { IfOk result (λ known. AreStuckTasks state.now known) }
 {
     if !somebody_waits(state.participants()) {

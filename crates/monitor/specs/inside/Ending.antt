@@ -5,7 +5,7 @@ use Rattle.monitor_words.specs.Stops.{TellsStuck}
 use Rattle.monitor_messages.specs.Runs.{MonitorOptions, MonitorRun, ended_status}
 use Rattle.monitor.specs.HeardLines.{HasHeardAll}
 use Rattle.monitor.specs.MonitorCalls.{IsEndOutput, IsPrompt}
-use Rattle.monitor.specs.Transfers.{HasNoEnd, Transfer, bytes_read, bytes_written}
+use Rattle.monitor.specs.Transfers.{HasReadNoEnd, Transfer, bytes_read, bytes_written}
 use Rattle.monitor.specs.inside.Listening.{Heard, IsListening}
 
 -- whoever has listened so far and hears the end of the trace writes these words and ends with this status
@@ -38,6 +38,6 @@ EndsReport run written status =
 -- a call that has come so far, and goes on
 pub record HasListened (options : MonitorOptions) (log : List Transfer) (heard : Heard) : Type 0 where
   pub prompt : IsPrompt options log
-  pub no_end : HasNoEnd log
+  pub no_end : HasReadNoEnd log
   pub listening : IsListening options (bytes_read log) (bytes_written log) heard
   pub goes_on : heard.run.stopped ≡ false

@@ -2,7 +2,7 @@ use Rattle.std.proofs.Common.{rules, ◌≡◌, ◌≤◌, ◌∷◌, ◌++◌, 
 use Rattle.std.specs.Prelude.{get_or}
 use Rattle.std.proofs.lemmas.Grind.{get_or_default_zero}
 use Rattle.std.proofs.lemmas.List.{take_all}
-use Rattle.monitor.specs.Transfers.{AreWrites, Passes, Transfer, bytes_written}
+use Rattle.monitor.specs.Transfers.{AreWrites, PassesThrough, Transfer, bytes_written}
 use Rattle.monitor.specs.inside.Listening.{HearsBytes, StopsHearing}
 use Rattle.monitor.specs.declared.hearing.HearFault.TheVariants.{NoMemory}
 use Rattle.monitor.proofs.Logs.{passes_more, writes_more}

@@ -2,7 +2,7 @@ use Rattle.std.proofs.Common.{rules, ◌≡◌, ◌∷◌, ◌++◌, [], List, �
 use Rattle.std.proofs.lemmas.List.{length-take-le}
 use Rattle.monitor_messages.specs.Runs.{MonitorOptions}
 use Rattle.monitor.specs.MonitorCalls.{EndsMonitored}
-use Rattle.monitor.specs.Transfers.{Passes, Transfer, WereRead}
+use Rattle.monitor.specs.Transfers.{PassesThrough, Transfer, WereRead}
 use Rattle.monitor.specs.inside.Ending.{HasListened}
 use Rattle.monitor.specs.inside.Listening.{number_of_hear_fault}
 use Rattle.monitor.proofs.Calls.{ends_at_end, ends_at_fault, ends_uncounted, ends_unread, goes_on_behind, prompt_piece, stopped_early}
@@ -27,8 +27,8 @@ returns-in-Ok-eq0-clause-ends g c =
     let log = c.loop.invariant.1 in
     let writes = c.end_trace.ensures.ends in
     let none : c.in-Ok-eq0.field-0 ≡ 0 = search rules in
-    let ended : Passes (g.P.Port.view c.loop.port) (g.P.Port.view c.read.new.self) (WereRead [] ∷ []) =
-    subst (λ n. Passes (g.P.Port.view c.loop.port) (g.P.Port.view c.read.new.self) (WereRead (take n c.read.new.buf) ∷ [])) none c.in-Ok-eq0.ensures.passes
+    let ended : PassesThrough (g.P.Port.view c.loop.port) (g.P.Port.view c.read.new.self) (WereRead [] ∷ []) =
+    subst (λ n. PassesThrough (g.P.Port.view c.loop.port) (g.P.Port.view c.read.new.self) (WereRead (take n c.read.new.buf) ∷ [])) none c.in-Ok-eq0.ensures.passes
     in (
       writes.0 ++ WereRead [] ∷ log.0,
       passes_more _ _ _ (WereRead [] ∷ log.0) writes.0 (passes_more _ _ _ log.0 (WereRead [] ∷ []) log.1 ended) writes.1,
