@@ -1,15 +1,12 @@
 -- One more byte: what a listener has behind it.
-use Rattle.std.proofs.Common.{◌≡◌, ℕ, ◌<◌, ◌≤◌, Bool, true, false, ◌||◌, None, Some, Option, List, [], ◌∷◌, ◌++◌, length, take, refl, sym, ◌∙◌, ap, subst, inl, inr, ◌⊎◌, arith, append-nil, append_assoc, length-append}
-use Rattle.std.specs.Prelude.{Contains, min, nat_lt, ◌==◌, if◌then◌else◌}
-use Rattle.std.specs.List.{list_any}
-use Rattle.std.proofs.Math.Nat.{min-le_left, min-le_right}
-use Rattle.std.proofs.lemmas.Bool.{cases_Bool, cond-true, cond-false, lt-ltb, le-ltb, or_parts}
+use Rattle.std.proofs.Common.{◌≡◌, ℕ, ◌<◌, ◌≤◌, false, ◌||◌, None, Some, List, [], ◌∷◌, ◌++◌, length, take, refl, sym, ◌∙◌, ap, subst, inl, inr, ◌⊎◌, arith, append-nil, append_assoc, length-append}
+use Rattle.std.specs.Prelude.{min, nat_lt, ◌==◌}
+use Rattle.std.proofs.Math.Nat.{min-le_right}
+use Rattle.std.proofs.lemmas.Bool.{cond-true, cond-false, lt-ltb, le-ltb, or_parts}
 use Rattle.std.proofs.lemmas.List.{length-take, take_all, take-append-le}
 use Rattle.armus_base.proofs.Elements.{Contains-cons_cases}
-use Rattle.monitor_laws.specs.Lines.{TraceLine}
-use Rattle.monitor_laws.specs.Faults.{first_fault}
-use Rattle.trace_lines.specs.Grammar.{IsLine, most_line_bytes}
-use Rattle.monitor_messages.specs.Runs.{IsHeard, IsNextRun, IsMonitorRunOf, MonitorOptions, MonitorRun, SaysLine}
+use Rattle.trace_lines.specs.Grammar.{most_line_bytes}
+use Rattle.monitor_messages.specs.Runs.{IsNextRun, IsMonitorRunOf, MonitorOptions, MonitorRun, SaysLine}
 use Rattle.monitor.specs.HeardLines.{AreHeardLines, HasHeardAll, all_lines, called_lines, ended_lines, has_line_end}
 use Rattle.monitor.specs.inside.Listening.{Heard, HearsBytes, IsListening}
 

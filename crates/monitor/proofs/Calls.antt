@@ -1,11 +1,10 @@
 -- A call, read by read.
 use Rattle.std.proofs.Common.{◌≡◌, ℕ, ◌<◌, true, false, List, [], ◌∷◌, ◌++◌, drop, length, refl, sym, ◌∙◌, ap, subst, inl, inr, arith, append-nil, append_assoc}
-use Rattle.std.specs.Prelude.{take}
 use Rattle.armus_base.proofs.Elements.{nothing_in_nil}
 use Rattle.monitor_messages.specs.Runs.{MonitorOptions, MonitorRun, run_begun}
-use Rattle.monitor.specs.HeardLines.{AreHeardLines, HasHeard, HasHeardAll}
-use Rattle.monitor.specs.MonitorCalls.{CallsFor, EndsMonitored, IsEndOutput, IsFaultOutput, IsPrompt, at_end, at_fault, memory_wanting, read_failed, write_failed}
-use Rattle.monitor.specs.Transfers.{AreWrites, HasReadNoEnd, IsReadToEnd, Transfer, WereRead, WereWritten, bytes_read, bytes_written}
+use Rattle.monitor.specs.HeardLines.{HasHeard, HasHeardAll}
+use Rattle.monitor.specs.MonitorCalls.{CallsFor, EndsMonitored, IsEndOutput, IsPrompt, at_end, at_fault, memory_wanting, read_failed, write_failed}
+use Rattle.monitor.specs.Transfers.{AreWrites, HasReadNoEnd, Transfer, WereRead, WereWritten, bytes_read, bytes_written}
 use Rattle.monitor.specs.inside.Ending.{EndsTrace, EndsWithLine, EndsWithWords, HasListened}
 use Rattle.monitor.specs.declared.hearing.HearFault.{HearFault}
 use Rattle.monitor.specs.declared.hearing.HearFault.TheVariants.{NoMemory, WriteFailed}

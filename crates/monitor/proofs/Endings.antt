@@ -1,5 +1,5 @@
 -- What the end of a trace calls for.
-use Rattle.std.proofs.Common.{◌≡◌, ℕ, Bool, true, false, ◌||◌, List, ◌++◌, refl, sym, ◌∙◌, ap, subst, inl, inr, append-nil, append_assoc}
+use Rattle.std.proofs.Common.{◌≡◌, ℕ, Bool, true, false, List, ◌++◌, refl, sym, ◌∙◌, ap, subst, inl, inr, append-nil, append_assoc}
 use Rattle.monitor_words.specs.Messages.{report_words}
 use Rattle.monitor_words.specs.Stops.{TellsStuck}
 use Rattle.monitor_messages.specs.Runs.{MonitorOptions, MonitorRun, ended_status}

@@ -25,10 +25,11 @@ EndsTrace heard written status =
     ⊎ ((status ≡ 5) × ((left : List ℕ) × (EndsWithLine heard (written ++ left) ⊎ ((whole : ℕ) × EndsWithWords heard (written ++ left) whole))))
     ⊎ ((status ≡ 6) × ((written ≡ []) ⊎ EndsWithLine heard written))
 
--- behind the last line: the report of the state with the status; or some first bytes of it, where writing failed; or nothing, for want of memory
+-- these words are the report of the state
 abbrev pub IsReportOf : MonitorRun → List ℕ → Type 0
 IsReportOf run words = (stuck : ℕ → Bool) × TellsStuck run.state stuck × (words ≡ report_words run.state stuck)
 
+-- behind the last line: the report of the state with the status; or some first bytes of it, where writing failed; or nothing, for want of memory
 abbrev pub EndsReport : MonitorRun → List ℕ → ℕ → Type 0
 EndsReport run written status =
     (IsReportOf run written × (status ≡ ended_status run))

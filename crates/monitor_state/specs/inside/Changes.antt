@@ -32,6 +32,7 @@ abbrev pub changed_value : Change → Participant → Participant
 changed_value (Says what place) u = placed_at (place_value place) (announced_by (said_value what.now) u)
 changed_value (Plays condition) u = record u { condition = condition_value condition }
 
+-- the change may be made of this one: what is said may be announced
 abbrev pub MayChange : Change → Participant → Type 0
 MayChange (Says what place) u = MayAnnounce (said_value what.now) u
 MayChange (Plays condition) u = Unit {0}

@@ -7,6 +7,7 @@ use Rattle.monitor_laws.specs.States.{Participant, is_live_task}
 abbrev pub is_player : List (List ℕ) → Participant → Bool
 is_player names u = is_live_task u.condition && list_any (λ t. bytes_eq t u.name) names
 
+-- how many were named before
 abbrev pub participant_number : Participant → ℕ
 participant_number u = u.number
 

@@ -1,4 +1,4 @@
-use Rattle.std.proofs.Common.{rules, ◌≡◌, ◌++◌, [], refl, sym, ◌∙◌, ap, inl, inr, subst}
+use Rattle.std.proofs.Common.{rules, ◌++◌, [], refl, ◌∙◌, ap, inl, inr, subst}
 use Rattle.monitor_messages.specs.Runs.{MonitorRun}
 use Rattle.monitor.specs.Transfers.{bytes_written}
 use Rattle.monitor.specs.inside.Ending.{EndsReport}

@@ -1,10 +1,9 @@
-use Rattle.std.proofs.Common.{rules, ◌≡◌, ◌≤◌, ◌∷◌, ◌++◌, [], List, ℕ, refl, sym, subst, take, length, arith, ap, ◌∙◌}
+use Rattle.std.proofs.Common.{rules, ◌≡◌, ◌++◌, [], refl, sym, subst, take, ap, ◌∙◌}
 use Rattle.std.specs.Prelude.{get_or}
 use Rattle.std.proofs.lemmas.Grind.{get_or_default_zero}
 use Rattle.std.proofs.lemmas.List.{take_all}
-use Rattle.monitor.specs.Transfers.{AreWrites, PassesThrough, Transfer, bytes_written}
-use Rattle.monitor.specs.inside.Listening.{HearsBytes, StopsHearing}
-use Rattle.monitor.specs.declared.hearing.HearFault.TheVariants.{NoMemory}
+use Rattle.monitor.specs.Transfers.{bytes_written}
+use Rattle.monitor.specs.inside.Listening.{HearsBytes}
 use Rattle.monitor.proofs.Logs.{passes_more, writes_more}
 use Rattle.monitor.proofs.Pieces.{one_more_byte, stops_before, stops_in_byte}
 use Rattle.monitor.proofs.hearing.hear_piece.Goals as goal

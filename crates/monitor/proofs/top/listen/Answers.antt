@@ -1,10 +1,7 @@
-use Rattle.std.proofs.Common.{rules, ◌≡◌, ◌∷◌, ◌++◌, [], List, ℕ, refl, sym, ◌∙◌, ap, subst, take, length, arith, ◌<◌}
+use Rattle.std.proofs.Common.{rules, ◌≡◌, ◌∷◌, ◌++◌, [], refl, sym, ◌∙◌, subst, take, length, arith, ◌<◌}
 use Rattle.std.proofs.lemmas.List.{length-take-le}
-use Rattle.monitor_messages.specs.Runs.{MonitorOptions}
 use Rattle.monitor.specs.MonitorCalls.{EndsMonitored}
-use Rattle.monitor.specs.Transfers.{PassesThrough, Transfer, WereRead}
-use Rattle.monitor.specs.inside.Ending.{HasListened}
-use Rattle.monitor.specs.inside.Listening.{number_of_hear_fault}
+use Rattle.monitor.specs.Transfers.{PassesThrough, WereRead}
 use Rattle.monitor.proofs.Calls.{ends_at_end, ends_at_fault, ends_uncounted, ends_unread, goes_on_behind, prompt_piece, stopped_early}
 use Rattle.monitor.proofs.Logs.{passes_more, passes_nothing}
 use Rattle.monitor.proofs.top.listen.Goals as goal

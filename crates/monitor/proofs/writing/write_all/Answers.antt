@@ -1,4 +1,4 @@
-use Rattle.std.proofs.Common.{◌≡◌, ◌-◌, ◌≤◌, ◌++◌, ◌∷◌, [], length, arith, take, drop, ap, sym, subst, ◌∙◌, length-drop}
+use Rattle.std.proofs.Common.{◌≡◌, ◌-◌, ◌≤◌, ◌++◌, ◌∷◌, [], length, arith, take, drop, ap, sym, ◌∙◌, length-drop}
 use Rattle.std.proofs.lemmas.List.{take-append-drop, take_rest}
 use lib.Seq.{take-add}
 use Rattle.monitor.specs.Transfers.{WereWritten}
