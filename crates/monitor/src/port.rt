@@ -1,6 +1,7 @@
 // Where the monitor reads and writes: one object for both directions.
-ghost use Rattle.std.specs.Prelude.{ℕ, ◌≡◌, ◌<◌, length, None};
+ghost use Rattle.std.specs.Prelude.{ℕ, ◌≡◌, ◌<◌, length, None, IfOk};
 ghost use Rattle.std.specs.Io.{ReadsAtMost};
+ghost use Rattle.std.specs.Io.KnownBytes.{IsAtEnd};
 ghost use Rattle.armus_base.specs.calls.Causes.{HasCause};
 ghost use Rattle.armus_base.specs.calls.Outside.{TakesSome};
 ghost use Rattle.monitor.specs.Transfers.{PassesRead, PassesWrite, PortView};
@@ -19,12 +20,13 @@ pub trait Port {
     /// How often a write has failed, up to 2^64 - 1.
     ghost write_faults: { Self → ℕ };
 
-    /// Reads some bytes into the front of the buffer, and answers how many: 0 says that the trace has ended. Failed comes exactly where the count of
-    /// failed reads rises, by one.
+    /// Reads some bytes into the front of the buffer, and answers how many: 0 says that the trace has ended, so that nothing is left. Failed comes exactly
+    /// where the count of failed reads rises, by one.
     fn read(&mut self, buf: &mut [u8]) -> Result<usize, Failed>
         requires room { 0 < length buf.old }
         ensures bound { ReadsAtMost result buf.new }
         ensures passes { PassesRead (view self.old) (view self.new) result buf.new }
+        ensures end { IfOk result (λ n. n ≡ 0 → IsAtEnd (view self.new).left) }
         ensures cause { HasCause (read_faults self.old) (read_faults self.new) result }
         ensures other { write_faults self.new ≡ write_faults self.old };
 
