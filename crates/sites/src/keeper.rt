@@ -8,6 +8,11 @@ use armus_base::List;
 use std::alloc::Global;
 
 /// A store of rows, one or none for each site. It counts its faults.
+///
+/// `MemKeeper` and `SafeKeeper` hold rows in memory. For a store that several machines reach, implement this trait: everything above works over it as it is. `put`
+/// replaces a row as a whole, so a reader finds the old row or the new one. Build the new row first, and put it in place by the step that cannot fail, or whose
+/// failure leaves the old one. Only calls change `rows`, but a store that other machines write changes by itself. So let `rows` be what this keeper saw last, where
+/// `get` reads the store and fails if it finds another row than it knows; or let `rows` be those of the store by agreement, and believe the clauses below of it.
 pub trait Keeper: Send {
     /// For each of its sites, in order, the row that is held of it, if one is.
     ghost rows: { Self → Seq (Option (Seq ℕ)) };
