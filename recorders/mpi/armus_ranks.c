@@ -1562,8 +1562,13 @@ UNCOUNTED_BOTH(Isendrecv, (const void *a, int n, MPI_Datatype t, int to, int tag
 UNCOUNTED_BOTH(Isendrecv_replace, (void *a, int n, MPI_Datatype t, int to, int tag, int from, int tag2, MPI_Comm h, MPI_Request *q), (a, n, t, to, tag, from, tag2, h, q))
 #endif
 
-/* ---- Fortran: its calls go to MPI's own Fortran functions, which may call MPI in C again; that is inside of the call. */
+/* ---- Fortran: its calls go to MPI's own Fortran functions, which may call MPI in C again; that is inside of the call. The module mpi_f08 has names of its own, of two
+ * forms, for the same words; there the last one, the error, may be left out. */
 #define FORTRAN(name, parameters, words, before, after) \
+    FORTRAN_AS(name##_, parameters, words, before, after) \
+    FORTRAN_AS(name##_f08_, parameters, words, before, after) \
+    FORTRAN_AS(name##_f08ts_, parameters, words, before, after)
+#define FORTRAN_AS(name, parameters, words, before, after) \
     void name parameters { \
         static void (*real) parameters; \
         if (real == NULL) { \
@@ -1574,40 +1579,51 @@ UNCOUNTED_BOTH(Isendrecv_replace, (void *a, int n, MPI_Datatype t, int to, int t
         after; \
     }
 #define F MPI_Fint *
+
+static bool succeeded(F error) { return error == NULL || *error == MPI_SUCCESS; }
+
 #define FORTRAN_COLLECTIVE(KIND, name, handle, root, needs_data, parameters, words) \
     FORTRAN(name, parameters, words, struct slot *s = collective(KIND, counts() ? PMPI_Comm_f2c(*handle) : MPI_COMM_NULL, root, needs_data, HERE), ends(s))
 
-FORTRAN(mpi_init_, (F e), (e), , begin(HERE))
-FORTRAN(mpi_init_thread_, (F w, F g, F e), (w, g, e), , begin(HERE))
-FORTRAN(mpi_finalize_, (F e), (e), struct slot *s = collective(FINALIZE, MPI_COMM_WORLD, 0, true, HERE), ends(s); end())
-FORTRAN_COLLECTIVE(BARRIER, mpi_barrier_, h, 0, true, (F h, F e), (h, e))
-FORTRAN_COLLECTIVE(ALLREDUCE, mpi_allreduce_, h, 0, *n > 0, (void *a, void *b, F n, F t, F o, F h, F e), (a, b, n, t, o, h, e))
-FORTRAN_COLLECTIVE(ALLGATHER, mpi_allgather_, h, 0, *m > 0, (void *a, F n, F t, void *b, F m, F u, F h, F e), (a, n, t, b, m, u, h, e))
-FORTRAN_COLLECTIVE(ALLTOALL, mpi_alltoall_, h, 0, *m > 0, (void *a, F n, F t, void *b, F m, F u, F h, F e), (a, n, t, b, m, u, h, e))
-FORTRAN_COLLECTIVE(REDUCE, mpi_reduce_, h, (int)*r, *n > 0, (void *a, void *b, F n, F t, F o, F r, F h, F e), (a, b, n, t, o, r, h, e))
-FORTRAN_COLLECTIVE(GATHER, mpi_gather_, h, (int)*r, *m > 0, (void *a, F n, F t, void *b, F m, F u, F r, F h, F e), (a, n, t, b, m, u, r, h, e))
-FORTRAN_COLLECTIVE(SCATTER, mpi_scatter_, h, (int)*r, *m > 0, (void *a, F n, F t, void *b, F m, F u, F r, F h, F e), (a, n, t, b, m, u, r, h, e))
-FORTRAN_COLLECTIVE(BCAST, mpi_bcast_, h, (int)*r, *n > 0, (void *a, F n, F t, F r, F h, F e), (a, n, t, r, h, e))
-FORTRAN(mpi_comm_dup_, (F h, F to, F e), (h, to, e), struct slot *s = collective(DUP, counts() ? PMPI_Comm_f2c(*h) : MPI_COMM_NULL, 0, true, HERE), if (s != NULL && *e == 0) { made(PMPI_Comm_f2c(*h), PMPI_Comm_f2c(*to), "dup"); } ends(s))
-FORTRAN(mpi_comm_split_, (F h, F c, F k, F to, F e), (h, c, k, to, e), struct slot *s = collective(SPLIT, counts() ? PMPI_Comm_f2c(*h) : MPI_COMM_NULL, 0, true, HERE), if (s != NULL && *e == 0) { made(PMPI_Comm_f2c(*h), PMPI_Comm_f2c(*to), "split"); } ends(s))
+FORTRAN(mpi_init, (F e), (e), , begin(HERE))
+FORTRAN(mpi_init_thread, (F w, F g, F e), (w, g, e), , begin(HERE))
+FORTRAN(mpi_finalize, (F e), (e), struct slot *s = collective(FINALIZE, MPI_COMM_WORLD, 0, true, HERE), ends(s); end())
+FORTRAN_COLLECTIVE(BARRIER, mpi_barrier, h, 0, true, (F h, F e), (h, e))
+FORTRAN_COLLECTIVE(ALLREDUCE, mpi_allreduce, h, 0, *n > 0, (void *a, void *b, F n, F t, F o, F h, F e), (a, b, n, t, o, h, e))
+FORTRAN_COLLECTIVE(ALLGATHER, mpi_allgather, h, 0, *m > 0, (void *a, F n, F t, void *b, F m, F u, F h, F e), (a, n, t, b, m, u, h, e))
+FORTRAN_COLLECTIVE(ALLTOALL, mpi_alltoall, h, 0, *m > 0, (void *a, F n, F t, void *b, F m, F u, F h, F e), (a, n, t, b, m, u, h, e))
+FORTRAN_COLLECTIVE(REDUCE, mpi_reduce, h, (int)*r, *n > 0, (void *a, void *b, F n, F t, F o, F r, F h, F e), (a, b, n, t, o, r, h, e))
+FORTRAN_COLLECTIVE(GATHER, mpi_gather, h, (int)*r, *m > 0, (void *a, F n, F t, void *b, F m, F u, F r, F h, F e), (a, n, t, b, m, u, r, h, e))
+FORTRAN_COLLECTIVE(SCATTER, mpi_scatter, h, (int)*r, *m > 0, (void *a, F n, F t, void *b, F m, F u, F r, F h, F e), (a, n, t, b, m, u, r, h, e))
+FORTRAN_COLLECTIVE(BCAST, mpi_bcast, h, (int)*r, *n > 0, (void *a, F n, F t, F r, F h, F e), (a, n, t, r, h, e))
+FORTRAN(mpi_comm_dup, (F h, F to, F e), (h, to, e), struct slot *s = collective(DUP, counts() ? PMPI_Comm_f2c(*h) : MPI_COMM_NULL, 0, true, HERE), if (s != NULL && succeeded(e)) { made(PMPI_Comm_f2c(*h), PMPI_Comm_f2c(*to), "dup"); } ends(s))
+FORTRAN(mpi_comm_split, (F h, F c, F k, F to, F e), (h, c, k, to, e), struct slot *s = collective(SPLIT, counts() ? PMPI_Comm_f2c(*h) : MPI_COMM_NULL, 0, true, HERE), if (s != NULL && succeeded(e)) { made(PMPI_Comm_f2c(*h), PMPI_Comm_f2c(*to), "split"); } ends(s))
 #define FORTRAN_SEND(name) \
     FORTRAN(name, (void *a, F n, F t, F to, F g, F h, F e), (a, n, t, to, g, h, e), \
         int peer = counts() ? world_rank(known(PMPI_Comm_f2c(*h)), (int)*to) : -1; struct slot *s = begins(peer >= 0 ? SEND : NONE, NULL, peer, sends_to(peer), HERE), ends(s))
-FORTRAN_SEND(mpi_send_)
-FORTRAN_SEND(mpi_ssend_)
-FORTRAN_SEND(mpi_bsend_)
-FORTRAN_SEND(mpi_rsend_)
-FORTRAN(mpi_recv_, (void *a, F n, F t, F from, F g, F h, F st, F e), (a, n, t, from, g, h, st, e),
+FORTRAN_SEND(mpi_send)
+FORTRAN_SEND(mpi_ssend)
+FORTRAN_SEND(mpi_bsend)
+FORTRAN_SEND(mpi_rsend)
+FORTRAN(mpi_recv, (void *a, F n, F t, F from, F g, F h, F st, F e), (a, n, t, from, g, h, st, e),
     struct communicator *c = counts() ? known(PMPI_Comm_f2c(*h)) : NULL; struct slot *s = receives((int)*from, c, HERE),
-    if (s != NULL && *e == 0 && world_rank(c, (int)*from) >= 0) { atomic_fetch_add(&taken[world_rank(c, (int)*from)], 1); } ends(s))
+    if (s != NULL && succeeded(e) && world_rank(c, (int)*from) >= 0) { atomic_fetch_add(&taken[world_rank(c, (int)*from)], 1); } ends(s))
 #define FORTRAN_UNCOUNTED(name, flag, parameters, words) FORTRAN(name, parameters, words, atomic_store(&flag, true), )
-FORTRAN_UNCOUNTED(mpi_isend_, sends_uncounted, (void *a, F n, F t, F to, F g, F h, F q, F e), (a, n, t, to, g, h, q, e))
-FORTRAN_UNCOUNTED(mpi_issend_, sends_uncounted, (void *a, F n, F t, F to, F g, F h, F q, F e), (a, n, t, to, g, h, q, e))
-FORTRAN_UNCOUNTED(mpi_ibsend_, sends_uncounted, (void *a, F n, F t, F to, F g, F h, F q, F e), (a, n, t, to, g, h, q, e))
-FORTRAN_UNCOUNTED(mpi_irsend_, sends_uncounted, (void *a, F n, F t, F to, F g, F h, F q, F e), (a, n, t, to, g, h, q, e))
-FORTRAN_UNCOUNTED(mpi_irecv_, receives_uncounted, (void *a, F n, F t, F from, F g, F h, F q, F e), (a, n, t, from, g, h, q, e))
-FORTRAN_UNCOUNTED(mpi_send_init_, sends_uncounted, (void *a, F n, F t, F to, F g, F h, F q, F e), (a, n, t, to, g, h, q, e))
-FORTRAN_UNCOUNTED(mpi_recv_init_, receives_uncounted, (void *a, F n, F t, F from, F g, F h, F q, F e), (a, n, t, from, g, h, q, e))
-FORTRAN(mpi_sendrecv_, (void *a, F n, F t, F to, F g, void *b, F m, F u, F from, F g2, F h, F st, F e), (a, n, t, to, g, b, m, u, from, g2, h, st, e),
-    struct communicator *c = counts() ? known(PMPI_Comm_f2c(*h)) : NULL; sends_to(world_rank(c, (int)*to)); struct slot *s = receives((int)*from, c, HERE),
-    if (s != NULL && *e == 0 && world_rank(c, (int)*from) >= 0) { atomic_fetch_add(&taken[world_rank(c, (int)*from)], 1); } ends(s))
+FORTRAN_UNCOUNTED(mpi_isend, sends_uncounted, (void *a, F n, F t, F to, F g, F h, F q, F e), (a, n, t, to, g, h, q, e))
+FORTRAN_UNCOUNTED(mpi_issend, sends_uncounted, (void *a, F n, F t, F to, F g, F h, F q, F e), (a, n, t, to, g, h, q, e))
+FORTRAN_UNCOUNTED(mpi_ibsend, sends_uncounted, (void *a, F n, F t, F to, F g, F h, F q, F e), (a, n, t, to, g, h, q, e))
+FORTRAN_UNCOUNTED(mpi_irsend, sends_uncounted, (void *a, F n, F t, F to, F g, F h, F q, F e), (a, n, t, to, g, h, q, e))
+FORTRAN_UNCOUNTED(mpi_irecv, receives_uncounted, (void *a, F n, F t, F from, F g, F h, F q, F e), (a, n, t, from, g, h, q, e))
+FORTRAN_UNCOUNTED(mpi_send_init, sends_uncounted, (void *a, F n, F t, F to, F g, F h, F q, F e), (a, n, t, to, g, h, q, e))
+FORTRAN_UNCOUNTED(mpi_ssend_init, sends_uncounted, (void *a, F n, F t, F to, F g, F h, F q, F e), (a, n, t, to, g, h, q, e))
+FORTRAN_UNCOUNTED(mpi_bsend_init, sends_uncounted, (void *a, F n, F t, F to, F g, F h, F q, F e), (a, n, t, to, g, h, q, e))
+FORTRAN_UNCOUNTED(mpi_rsend_init, sends_uncounted, (void *a, F n, F t, F to, F g, F h, F q, F e), (a, n, t, to, g, h, q, e))
+FORTRAN_UNCOUNTED(mpi_mrecv, receives_uncounted, (void *a, F n, F t, F m, F st, F e), (a, n, t, m, st, e))
+FORTRAN_UNCOUNTED(mpi_imrecv, receives_uncounted, (void *a, F n, F t, F m, F q, F e), (a, n, t, m, q, e))
+FORTRAN_UNCOUNTED(mpi_recv_init, receives_uncounted, (void *a, F n, F t, F from, F g, F h, F q, F e), (a, n, t, from, g, h, q, e))
+#define FORTRAN_BOTH_WAYS(name, parameters, words) \
+    FORTRAN(name, parameters, words, \
+        struct communicator *c = counts() ? known(PMPI_Comm_f2c(*h)) : NULL; sends_to(world_rank(c, (int)*to)); struct slot *s = receives((int)*from, c, HERE), \
+        if (s != NULL && succeeded(e) && world_rank(c, (int)*from) >= 0) { atomic_fetch_add(&taken[world_rank(c, (int)*from)], 1); } ends(s))
+FORTRAN_BOTH_WAYS(mpi_sendrecv, (void *a, F n, F t, F to, F g, void *b, F m, F u, F from, F g2, F h, F st, F e), (a, n, t, to, g, b, m, u, from, g2, h, st, e))
+FORTRAN_BOTH_WAYS(mpi_sendrecv_replace, (void *a, F n, F t, F to, F g, F from, F g2, F h, F st, F e), (a, n, t, to, g, from, g2, h, st, e))
