@@ -18,7 +18,11 @@ import java.util.HashSet;
 import java.util.List;
 import java.util.Map;
 import java.util.Set;
+import java.util.concurrent.CompletableFuture;
+import java.util.concurrent.CountDownLatch;
+import java.util.concurrent.CyclicBarrier;
 import java.util.concurrent.FutureTask;
+import java.util.concurrent.locks.AbstractOwnableSynchronizer;
 import java.util.regex.Matcher;
 import java.util.regex.Pattern;
 import javax.management.JMException;
@@ -77,7 +81,7 @@ final class Inside {
     }
 
     /** The value of a field that this class of the library declares, and not one of the program's that has the same name. */
-    private Object declared(Class<?> type, Object of, String name) {
+    Object declared(Class<?> type, Object of, String name) {
         String key = "declared " + type.getName() + " " + name;
         try {
             Field field = fields.get(key);
@@ -96,6 +100,41 @@ final class Inside {
     long id(Thread thread) {
         Object number = declared(Thread.class, thread, "tid");
         return number instanceof Long ? (Long) number : thread.getId();
+    }
+
+    /** Whether a thread has been started. */
+    boolean hasBegun(Thread thread) {
+        Object status = declared(Thread.class, thread, "threadStatus");
+        if (status == null) {
+            Object holder = declared(Thread.class, thread, "holder");
+            status = holder == null ? null : value(holder, "threadStatus");
+        }
+        return !(status instanceof Integer) || (Integer) status != 0;
+    }
+
+    /** The thread that has a lock for itself, of those locks of the library that know it; nothing where there is none. */
+    Thread holder(Object lock) {
+        Object sync = declared(lock.getClass(), lock, "sync");
+        return sync == null ? null : (Thread) declared(AbstractOwnableSynchronizer.class, sync, "exclusiveOwnerThread");
+    }
+
+    /** The object of a barrier that is another one for each turn. */
+    Object generation(CyclicBarrier barrier) {
+        return declared(CyclicBarrier.class, barrier, "generation");
+    }
+
+    boolean isBroken(Object generation) {
+        return Boolean.TRUE.equals(value(generation, "broken"));
+    }
+
+    /** Whether the count of a latch is 0. */
+    boolean isOpen(CountDownLatch latch) {
+        Object sync = declared(CountDownLatch.class, latch, "sync");
+        return sync == null || isOpen(sync);
+    }
+
+    boolean isDone(CompletableFuture<?> future) {
+        return declared(CompletableFuture.class, future, "result") != null;
     }
 
     Object runner(FutureTask<?> future) {

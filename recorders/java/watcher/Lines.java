@@ -12,7 +12,8 @@ final class Lines {
     private static final int LONGEST = 511;
 
     final String process;
-    private final SocketChannel channel;
+    /** Does not wait where it is read or written. */
+    final SocketChannel channel;
     private final StringBuilder text = new StringBuilder();
 
     /** address: the path of a Unix socket, and behind '|' a host and behind another '|' its port, for a Java without Unix sockets. */

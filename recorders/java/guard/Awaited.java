@@ -1,0 +1,40 @@
+package armus;
+
+/** What threads wait for: a phaser of the monitor. What the monitor knows of it is brought up to date before each question, by what the object itself says at that moment. */
+abstract class Awaited {
+    /** As the monitor knows it, behind the process. */
+    final String name;
+    private int waiting;
+
+    Awaited(String name) {
+        this.name = name;
+    }
+
+    /** The turn that goes on: who waits, waits for the next one. */
+    abstract long turn();
+
+    /** Whether somebody who is known has still to act, so that a wait might not end. */
+    abstract boolean isKept();
+
+    /** Says who has done his part. */
+    abstract void settle(Recorder recorder);
+
+    /** Says who has still to do it. */
+    abstract void keep(Recorder recorder);
+
+    /** Nobody waits for it any more. */
+    abstract void release(Recorder recorder);
+
+    boolean isAwaited() {
+        return waiting > 0;
+    }
+
+    void comes() {
+        waiting++;
+    }
+
+    /** True where it was the last one. */
+    boolean goes() {
+        return --waiting == 0;
+    }
+}

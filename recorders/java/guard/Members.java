@@ -1,0 +1,24 @@
+package armus;
+
+/** Says who has to come to a barrier, a phaser, a latch or a future in every turn, for armus-run --guard; without it, this does nothing. */
+public final class Members {
+    private Members() {
+    }
+
+    /** The current thread is a party of each of these. */
+    public static void member(Object... objects) {
+        member(Thread.currentThread(), objects);
+    }
+
+    /** A thread is a party of each of these; said before it starts, so that nobody waits for it unseen. */
+    public static void member(Thread thread, Object... objects) {
+        Recorder recorder = Recorder.on;
+        for (Object object : recorder == null ? new Object[0] : objects) {
+            if (Meetings.kind(object) == null) {
+                Recorder.tell("member: of " + (object == null ? "null" : object.getClass().getName()) + " nobody is a member");
+            } else {
+                recorder.member(thread, object);
+            }
+        }
+    }
+}

@@ -1,0 +1,286 @@
+package armus;
+
+import java.io.IOException;
+import java.util.ArrayList;
+import java.util.HashMap;
+import java.util.Iterator;
+import java.util.LinkedHashSet;
+import java.util.List;
+import java.util.Map;
+import java.util.Set;
+import java.util.concurrent.FutureTask;
+
+/** What the monitor has to know. Before a wait without a time limit its thread tells what has changed, and asks. Each object that is waited for is looked at then: a lock
+ * for its holder, a future for its runner, a thread for its end, a barrier by what its members did. A thread that waits holds what it held when it asked, so what is told of
+ * those that wait is so. The lock of this object is held while lines are written, and never while code of the program runs. */
+final class Recorder {
+    /** Nothing where there is no recorder, or it is off: then everybody may wait. */
+    static volatile Recorder on;
+    private static final long LONGEST = 2000;    // so many milliseconds may pass until an answer comes
+    private static final int MOST_OPEN = 500;    // so many answers may be on their way before one who need not wait for his does
+
+    private final Lines lines;
+    private final Inside inside;
+    private final Tasks tasks;
+    private final Identities<Awaited> objects = new Identities<>();
+    private final List<Wait> waits = new ArrayList<>();
+    private final Set<Awaited> awaited = new LinkedHashSet<>();
+    private final Map<String, Integer> counts = new HashMap<>();
+    private volatile boolean hasMeetings;
+
+    Recorder(Lines lines, Inside inside) {
+        this.lines = lines;
+        this.inside = inside;
+        tasks = new Tasks(lines, inside);
+    }
+
+    Lines lines() {
+        return lines;
+    }
+
+    Tasks tasks() {
+        return tasks;
+    }
+
+    Task task(Thread thread) {
+        return tasks.of(thread);
+    }
+
+    Part part(Task by) {
+        return new Part(lines.process + "/?part-" + counts.merge("part", 1, Integer::sum), by);
+    }
+
+    private String named(String kind) {
+        String base = Tasks.named(kind);
+        int number = counts.merge(base, 1, Integer::sum);
+        return lines.process + "/" + base + (base.startsWith("end-of-") && number == 1 ? "" : "-" + number);
+    }
+
+    /** A word of the recorder itself. */
+    static void tell(String text) {
+        System.err.println("armus: " + text);
+    }
+
+    /** Nobody is asked any more. */
+    void off(String why) {
+        if (on == this) {
+            on = null;
+            if (why != null) {
+                tell(why + ": nothing more is refused; the program goes on");
+            }
+            tasks.wakeAll();
+            lines.close();
+        }
+    }
+
+    // ---- what the program does
+
+    synchronized void member(Thread thread, Object object) {
+        Awaited known = objects.get(object);
+        if (known == null) {
+            known = Meetings.of(object, named(Meetings.kind(object)), inside);
+            objects.put(object, known);
+        }
+        if (known instanceof Meeting) {
+            ((Meeting) known).member(task(thread), this);
+        }
+        hasMeetings = true;
+        handOver();
+    }
+
+    private Meeting meeting(Object object) {
+        Awaited known = hasMeetings ? objects.get(object) : null;
+        return known instanceof Meeting ? (Meeting) known : null;
+    }
+
+    boolean hasMeetings() {
+        return hasMeetings;
+    }
+
+    /** The current thread comes to a meeting and does not wait for it, or not without a limit. */
+    synchronized void arrive(Object object) {
+        Meeting meeting = meeting(object);
+        if (meeting != null) {
+            meeting.arrive(running());
+            handOver();
+        }
+    }
+
+    synchronized void leave(Object object) {
+        Meeting meeting = meeting(object);
+        if (meeting != null) {
+            meeting.leave(running(), this);
+            handOver();
+        }
+    }
+
+    /** The current thread comes to a meeting if it arrives there, and then waits for the others. Nothing where it need not be told. */
+    Wait meet(Object object, boolean arrives) {
+        Wait wait;
+        synchronized (this) {
+            Meeting meeting = meeting(object);
+            if (meeting == null || arrives && meeting.arrive(running()) || !meeting.mayWait()) {
+                return null;
+            }
+            wait = announce(meeting, object);
+        }
+        return answered(wait);
+    }
+
+    /** The current thread waits for the end of a turn of a phaser. */
+    Wait awaitTurn(Object phaser, int turn) {
+        Wait wait;
+        synchronized (this) {
+            Meeting meeting = meeting(phaser);
+            if (meeting == null || !meeting.mayWait() || meeting.turn() != turn) {
+                return null;
+            }
+            wait = announce(meeting, phaser);
+        }
+        return answered(wait);
+    }
+
+    /** Whether a future has come, whatever the program's class says of it. */
+    synchronized boolean isDone(FutureTask<?> future) {
+        return inside.isDone(future);
+    }
+
+    /** The current thread waits for what one other has to end. */
+    Wait await(Object object) {
+        Wait wait;
+        synchronized (this) {
+            Awaited known = objects.get(object);
+            if (known == null) {
+                known = Owners.of(object, named(Owners.kind(object)), inside);
+                objects.put(object, known);
+            }
+            wait = announce(known, object);
+        }
+        return answered(wait);
+    }
+
+    // ---- questions
+
+    /** The task of the current thread, which runs. */
+    private Task running() {
+        Task task = task(Thread.currentThread());
+        if (task.wait != null) {
+            task.wait.over();
+        }
+        return task;
+    }
+
+    private Wait announce(Awaited of, Object object) {
+        Task task = running();
+        of.comes();
+        awaited.add(of);
+        catchUp();
+        lines.say(task.name + " wait " + of.name + " " + (of.turn() + 1) + " @" + Places.here());
+        Wait wait = new Wait(task, of, object);
+        tasks.asks();
+        task.wait = wait;
+        waits.add(wait);
+        handOver();
+        return wait;
+    }
+
+    private Wait answered(Wait wait) {
+        Task task = wait.task;
+        if (!wait.isKept() && tasks.open() < MOST_OPEN) {
+            return wait;                                          // nobody has to act: the answer is known
+        }
+        if (!task.awaits(wait.question(), LONGEST)) {
+            giveUp();
+            return wait;
+        }
+        String sentence = task.refusal();
+        if (sentence != null) {
+            wait.refuse(sentence);
+            synchronized (this) {
+                forget(wait);
+                handOver();
+            }
+        }
+        return wait;
+    }
+
+    private synchronized void giveUp() {
+        if (on == this) {
+            lines.say("# off");
+            handOver();
+            off("no answer came in time");
+        }
+    }
+
+    // ---- what the monitor knows
+
+    /** First who went on, then who did his part, then who has still to act, and then who has ended. */
+    private void catchUp() {
+        for (Iterator<Wait> all = waits.iterator(); all.hasNext();) {
+            Wait wait = all.next();
+            if (wait.isOver()) {
+                all.remove();
+                goes(wait);
+            }
+        }
+        for (Awaited one : awaited) {
+            one.settle(this);
+        }
+        for (Awaited one : new ArrayList<>(awaited)) {
+            one.keep(this);
+        }
+        tasks.endAll();
+    }
+
+    private void goes(Wait wait) {
+        lines.say(wait.task.name + " go");
+        unlist(wait);
+    }
+
+    private void unlist(Wait wait) {
+        if (wait.task.wait == wait) {
+            wait.task.wait = null;
+        }
+        if (wait.awaited.goes()) {
+            awaited.remove(wait.awaited);
+            wait.awaited.release(this);
+        }
+    }
+
+    private void forget(Wait refused) {
+        waits.remove(refused);
+        unlist(refused);
+    }
+
+    /** Who holds a lock has it, though it has not gone on yet. */
+    void hasGot(Task task, Awaited what) {
+        Wait wait = task.wait;
+        if (wait != null && wait.awaited == what && waits.remove(wait)) {
+            goes(wait);
+        }
+    }
+
+    private void handOver() {
+        boolean interrupted = Thread.interrupted();               // some machines close what an interrupted thread writes to
+        try {
+            lines.handOver();
+        } catch (IOException e) {
+            off("what is written is not read");
+        } finally {
+            if (interrupted) {
+                Thread.currentThread().interrupt();
+            }
+        }
+    }
+
+    /** From time to time: what changed since anybody asked, and what is not needed any more. */
+    synchronized void look() {
+        catchUp();
+        for (Awaited gone : objects.collected()) {
+            if (gone instanceof Meeting) {
+                ((Meeting) gone).end(this);
+            }
+        }
+        handOver();
+    }
+}

@@ -1,0 +1,87 @@
+package armus;
+
+import java.lang.ref.WeakReference;
+
+/** A thread that has to do with a wait: it waits itself, or others wait for it. Its questions are counted, and so are their answers, which come in the same order. */
+final class Task {
+    /** As the monitor knows it, behind the process. */
+    final String name;
+    private final WeakReference<Thread> thread;
+    /** The wait in which it is, or was last. */
+    Wait wait;
+    private boolean hasBegun;
+    private int memberships;
+    private int asked;
+    private int answered;
+    private String refusal;
+
+    Task(String name, Thread thread) {
+        this.name = name;
+        this.thread = new WeakReference<>(thread);
+    }
+
+    boolean is(Thread other) {
+        return thread.get() == other;
+    }
+
+    boolean hasEnded(Inside inside) {
+        Thread own = thread.get();
+        if (own == null) {
+            return true;
+        }
+        boolean lives = own.isAlive();
+        hasBegun |= lives || !lives && inside.hasBegun(own);
+        return hasBegun && !own.isAlive();
+    }
+
+    /** Counts a question; the number of it. */
+    synchronized int asks() {
+        return ++asked;
+    }
+
+    /** It becomes a member of something, or is so no more. */
+    void belongs(int more) {
+        memberships += more;
+    }
+
+    /** Whether nobody will name it any more, once it has ended. */
+    synchronized boolean isForgotten() {
+        return memberships == 0 && asked == answered;
+    }
+
+    /** The next answer: nothing where the wait stands, else the sentence of the monitor. */
+    synchronized void answer(String sentence) {
+        answered++;
+        refusal = sentence;
+        notifyAll();
+    }
+
+    /** Waits for the answer to this question, which is its last one; false where it did not come in time. An interrupt is kept. */
+    synchronized boolean awaits(int question, long longest) {
+        boolean interrupted = false;
+        long end = System.nanoTime() + longest * 1_000_000;
+        long left = longest;
+        while (answered < question && left > 0 && Recorder.on != null) {
+            try {
+                wait(left);
+            } catch (InterruptedException e) {
+                interrupted = true;
+            }
+            left = (end - System.nanoTime()) / 1_000_000;
+        }
+        if (interrupted) {
+            Thread.currentThread().interrupt();
+        }
+        return answered >= question;
+    }
+
+    /** The sentence of the last answer, or nothing. */
+    synchronized String refusal() {
+        return refusal;
+    }
+
+    /** Nobody answers any more. */
+    synchronized void wake() {
+        notifyAll();
+    }
+}
