@@ -274,7 +274,8 @@ static const char *base_name(const char *path) {
 static bool is_library_of_threads(const char *path) {
     const char *base = base_name(path);
     return strncmp(base, "libstdc++", 9) == 0 || strncmp(base, "libgomp", 7) == 0 || strncmp(base, "libc.so", 7) == 0 || strncmp(base, "libc++", 6) == 0
-        || strncmp(base, "libpthread", 10) == 0 || strncmp(base, "libarmus", 8) == 0 || strncmp(base, "libgcc", 6) == 0 || strncmp(base, "ld-linux", 8) == 0;
+        || strncmp(base, "libpthread", 10) == 0 || strncmp(base, "libarmus", 8) == 0 || strncmp(base, "libgcc", 6) == 0 || strncmp(base, "ld-linux", 8) == 0
+        || strncmp(base, "libomp", 6) == 0 || strncmp(base, "libiomp", 7) == 0;
 }
 
 /* The addresses of the program's own calls: the one from which it waits, or, where that is a library of threads, the words of the stack that stand behind a call in
