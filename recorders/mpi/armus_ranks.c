@@ -29,18 +29,18 @@
 #include <unistd.h>
 
 enum kind { BARRIER, ALLREDUCE, ALLGATHER, ALLGATHERV, ALLTOALL, ALLTOALLV, ALLTOALLW, REDUCE_SCATTER, REDUCE_SCATTER_BLOCK, IBARRIER, IALLREDUCE, IALLGATHER,
-            IALLTOALL, DUP, SPLIT, FINALIZE,        /* all wait for all */
+            IALLTOALL, DUP, SPLIT, WIN_CREATE, WIN_FENCE, WIN_FREE, FINALIZE,   /* all wait for all */
             SCAN, EXSCAN,                           /* the last rank waits for all */
             REDUCE, GATHER, GATHERV,                /* the root waits for all */
             BCAST, SCATTER, SCATTERV, IBCAST, KINDS, /* all wait for the root */
-            SEND, RECEIVE, ANY, ONE_OF, ALL_OF, NONE };
+            SEND, RECEIVE, POST, COMPLETE, ANY, ONE_OF, ALL_OF, NONE };
 static const char *const kind_names[KINDS] = {"Barrier", "Allreduce", "Allgather", "Allgatherv", "Alltoall", "Alltoallv", "Alltoallw", "Reduce_scatter",
-    "Reduce_scatter_block", "Ibarrier", "Iallreduce", "Iallgather", "Ialltoall", "Comm_dup", "Comm_split", "Finalize", "Scan", "Exscan", "Reduce", "Gather", "Gatherv", "Bcast",
+    "Reduce_scatter_block", "Ibarrier", "Iallreduce", "Iallgather", "Ialltoall", "Comm_dup", "Comm_split", "Win_create", "Win_fence", "Win_free", "Finalize", "Scan", "Exscan", "Reduce", "Gather", "Gatherv", "Bcast",
     "Scatter", "Scatterv", "Ibcast"};
 #define FIRST_OF_LAST SCAN
 #define FIRST_ROOTED REDUCE
 #define FIRST_FROM_ROOT BCAST
-enum { FROM_ROOT = KINDS - BCAST, RANKS = 128, THREADS = 64, REQUESTS = 1024, PARTS = 32, LINE = 512, NAME = 40, PERIOD = 50, REACHED_IN = 2000 };
+enum { FROM_ROOT = KINDS - BCAST, RANKS = 128, WINDOW_RANKS = 32, THREADS = 64, REQUESTS = 1024, PARTS = 32, LINE = 512, NAME = 40, PERIOD = 50, REACHED_IN = 2000 };
 
 struct communicator {
     bool named, gone, between;                      /* between: an inter-communicator, whose collectives wait for the other side alone */
@@ -53,8 +53,17 @@ struct communicator {
     unsigned said[KINDS];                           /* the watcher's: what is announced; of those from a root only where this rank is the root */
     bool joined;
     _Atomic(unsigned) *from[FROM_ROOT];             /* how often each root was one */
-    unsigned made;                                  /* communicators made from it */
+    unsigned made, windows;                         /* communicators and windows made from it */
+    struct epochs *epochs;                          /* of a window; else nothing */
     struct communicator *next;
+};
+
+/* The epochs of a window between this rank and each other one, of windows with few ranks. */
+struct epochs {
+    _Atomic(unsigned) posted[WINDOW_RANKS], completed[WINDOW_RANKS];  /* how often this rank opened its memory to that one; how often it was done with that one's */
+    unsigned started[WINDOW_RANKS];                 /* how often it began to use that one's */
+    unsigned said_posted[WINDOW_RANKS], said_completed[WINDOW_RANKS];
+    int target[WINDOW_RANKS], targets, origin[WINDOW_RANKS], origins;  /* of the epochs that go on */
 };
 
 /* One of several requests that a call waits for. */
@@ -84,7 +93,7 @@ static _Atomic(unsigned) slot_count;
 static __thread struct slot *mine;
 static _Atomic(struct communicator *) all;
 static struct communicator world;
-static int key = MPI_KEYVAL_INVALID, rank = -1, size;
+static int key = MPI_KEYVAL_INVALID, window_key = MPI_KEYVAL_INVALID, rank = -1, size;
 static _Atomic(unsigned) sent[RANKS], begun[RANKS], taken[RANKS], begun_any;
 static unsigned said_sent[RANKS], said_begun[RANKS];
 static _Atomic(bool) sends_uncounted, receives_uncounted, on;
@@ -219,6 +228,8 @@ static void ends(struct slot *s) {
 
 static bool is_inside(void) { return mine != NULL && mine->depth > 0; }
 
+static bool counts(void) { return atomic_load_explicit(&on, memory_order_relaxed) && !is_inside(); }
+
 /* ---- the watcher */
 static const char *holder(void) {
     static char name[NAME + 24];
@@ -238,6 +249,11 @@ static void moves(const char *phaser, unsigned *said, unsigned now, bool joined)
     *said = now;
 }
 
+/* The phaser of what one rank of a window does for another one. */
+static void epoch_phaser(char *to, const struct communicator *c, int kind, int from, int for_whom) {
+    snprintf(to, 2 * NAME, "%s.%s-%d-for-%d", c->name, kind == POST ? "Win_post" : "Win_complete", c->world[from], c->world[for_whom]);
+}
+
 /* The phaser of a kind; of an inter-communicator each side has its own, at which the other one waits. */
 static void phaser_of(char *to, const struct communicator *c, int kind, int root, bool waits) {
     if (kind >= FIRST_FROM_ROOT) {
@@ -249,11 +265,29 @@ static void phaser_of(char *to, const struct communicator *c, int kind, int root
     }
 }
 
+/* What the counts of a window's epochs say. */
+static void say_epochs(struct communicator *c, bool leaves) {
+    char phaser[2 * NAME];
+    for (int r = 0; r < c->size && c->size <= WINDOW_RANKS; r++) {
+        for (int posts = 0; posts < 2 && r != c->me; posts++) {
+            epoch_phaser(phaser, c, posts ? POST : COMPLETE, c->me, r);
+            if (leaves) {
+                say("%s leave %s/%s", holder(), job, phaser);
+            } else if (posts) {
+                moves(phaser, &c->epochs->said_posted[r], atomic_load(&c->epochs->posted[r]), c->joined);
+            } else {
+                moves(phaser, &c->epochs->said_completed[r], atomic_load(&c->epochs->completed[r]), c->joined);
+            }
+        }
+    }
+}
+
 /* What a communicator's counts say. leaves: the rank is no member of any of its phasers any more. */
 static void say_communicator(struct communicator *c, bool leaves) {
     char phaser[2 * NAME];
     for (int kind = 0; kind < KINDS; kind++) {
-        if ((kind == FINALIZE && c != &world) || (c->between && kind >= FIRST_OF_LAST)) {
+        bool of_window = kind == WIN_FENCE || kind == WIN_FREE;
+        if (of_window != (c->epochs != NULL) || (kind == FINALIZE && c != &world) || (c->between && kind >= FIRST_OF_LAST)) {
             continue;
         }
         phaser_of(phaser, c, kind, c->me, false);
@@ -262,6 +296,9 @@ static void say_communicator(struct communicator *c, bool leaves) {
         } else {
             moves(phaser, &c->said[kind], atomic_load(kind >= FIRST_FROM_ROOT ? &c->from[kind - FIRST_FROM_ROOT][c->me] : &c->came[kind]), c->joined);
         }
+    }
+    if (c->epochs != NULL) {
+        say_epochs(c, leaves);
     }
     c->joined = !leaves;
 }
@@ -347,6 +384,10 @@ static bool event_of(char *phaser, const struct part *p) {
             phaser_of(phaser, c, p->kind, p->peer, true);
         }
         return waits;
+    }
+    if (p->kind == POST || p->kind == COMPLETE) {
+        epoch_phaser(phaser, c, p->kind, p->peer, c->me);
+        return true;
     }
     if ((p->kind != SEND && p->kind != RECEIVE) || size > RANKS || p->peer < 0) {
         return false;
@@ -449,7 +490,7 @@ static bool wait_line(struct slot *s) {
 /* So many looks a call has to stand in. A collective waits for the others in any case; a message that is on its way, or that is sent without a word, goes on by itself. */
 static unsigned patience(const struct slot *s) {
     int kind = atomic_load(&s->kind);
-    return kind < KINDS ? 2 : kind == ANY || kind == ONE_OF || kind == ALL_OF ? 10 : 3;
+    return kind < KINDS ? 2 : kind == SEND || kind == RECEIVE ? 3 : 10;
 }
 
 /* A wait is announced where the thread still stands in it behind the last word: else all of it is taken back before it is written. */
@@ -533,6 +574,13 @@ static int least_of(const int *ranks, int n) {
     return least;
 }
 
+static void enlist(struct communicator *c) {
+    c->next = atomic_load(&all);
+    while (!atomic_compare_exchange_weak(&all, &c->next, c)) {
+        continue;
+    }
+}
+
 static void known_ranks(struct communicator *c, MPI_Comm handle) {
     MPI_Group own, others;
     int between = 0;
@@ -554,10 +602,7 @@ static void known_ranks(struct communicator *c, MPI_Comm handle) {
     for (int k = 0; k < FROM_ROOT; k++) {
         c->from[k] = calloc((size_t)c->size, sizeof *c->from[k]);
     }
-    c->next = atomic_load(&all);
-    while (!atomic_compare_exchange_weak(&all, &c->next, c)) {
-        continue;
-    }
+    enlist(c);
 }
 
 /* What is known of a communicator; of one that came in a way that is not wrapped, who belongs to it. */
@@ -624,9 +669,8 @@ static void made_between(MPI_Comm handle) {
     pthread_mutex_unlock(&made_lock);
 }
 
-static int is_freed(MPI_Comm handle, int number, void *value, void *extra) {
-    struct communicator *c = value;
-    (void)handle, (void)number, (void)extra;
+/* The rank has to do with a communicator or a window no more. */
+static void leaves_all(struct communicator *c) {
     pthread_mutex_lock(&line_lock);
     if (c->joined && out >= 0 && (shared || slots[0].told == 0)) {
         say_communicator(c, true);
@@ -634,7 +678,66 @@ static int is_freed(MPI_Comm handle, int number, void *value, void *extra) {
     }
     c->gone = true;
     pthread_mutex_unlock(&line_lock);
+}
+
+static int is_freed(MPI_Comm handle, int number, void *value, void *extra) {
+    (void)handle, (void)number, (void)extra;
+    leaves_all(value);
     return MPI_SUCCESS;
+}
+
+/* ---- windows */
+static int window_is_freed(MPI_Win handle, int number, void *value, void *extra) {
+    (void)handle, (void)number, (void)extra;
+    leaves_all(value);
+    return MPI_SUCCESS;
+}
+
+static struct communicator *known_window(MPI_Win handle) {
+    void *found = NULL;
+    int is_there = 0;
+    if (handle != MPI_WIN_NULL && window_key != MPI_KEYVAL_INVALID) {
+        PMPI_Win_get_attr(handle, window_key, &found, &is_there);
+    }
+    return is_there ? found : NULL;
+}
+
+/* A window has the ranks of the communicator that it was made of, and is named as which one of it. */
+static void window_made(MPI_Comm parent, MPI_Win handle) {
+    struct communicator *p = known(parent), *c;
+    if (p == NULL || !p->named || !atomic_load(&on) || handle == MPI_WIN_NULL) {
+        return;
+    }
+    p->windows++;
+    c = calloc(1, sizeof *c);
+    struct epochs *epochs = calloc(1, sizeof *epochs);
+    if (c == NULL || epochs == NULL) {
+        free(c);
+        free(epochs);
+        return;
+    }
+    *c = (struct communicator){.size = p->size, .me = p->me, .world = p->world, .peers = p->size, .peer = p->world, .epochs = epochs};
+    int n = snprintf(c->name, sizeof c->name, p == &world ? "%.0swin-%u" : "%s.win-%u", p->name, p->windows);
+    c->named = n > 0 && n < NAME;
+    enlist(c);
+    PMPI_Win_set_attr(handle, window_key, c);
+}
+
+/* The ranks of a group, by their numbers in the window; -1 where it is not one of few. */
+static int ranks_of(MPI_Group group, MPI_Win handle, const struct communicator *c, int *to) {
+    MPI_Group of_window;
+    int numbers[WINDOW_RANKS], n = 0;
+    PMPI_Group_size(group, &n);
+    if (c->size > WINDOW_RANKS || n > WINDOW_RANKS || n > c->size) {
+        return -1;
+    }
+    for (int i = 0; i < n; i++) {
+        numbers[i] = i;
+    }
+    PMPI_Win_get_group(handle, &of_window);
+    PMPI_Group_translate_ranks(group, n, numbers, of_window, to);
+    PMPI_Group_free(&of_window);
+    return n;
 }
 
 /* ---- begin and end */
@@ -744,6 +847,7 @@ static void begin(const void *from) {
     }
     say("# process %s", process);
     PMPI_Comm_create_keyval(MPI_COMM_NULL_COPY_FN, is_freed, &key, NULL);
+    PMPI_Win_create_keyval(MPI_WIN_NULL_COPY_FN, window_is_freed, &window_key, NULL);
     snprintf(world.name, sizeof world.name, "world");
     world.named = true;
     known_ranks(&world, MPI_COMM_WORLD);
@@ -909,6 +1013,125 @@ int MPI_Intercomm_create(MPI_Comm own, int leader, MPI_Comm through, int other, 
 
 MAKES(Intercomm_merge, "merge", h, to, (MPI_Comm h, int high, MPI_Comm *to), (h, high, to))
 
+/* ---- windows. Each rank's part of one is made and freed with all others; a fence that ends an epoch waits for all. An epoch between post and wait ends when each rank
+ * that it is for has completed; one between start and complete goes on when each rank that it uses has posted. Locks are not seen: the holder is not known, and the rank
+ * whose memory it is may act in any call. */
+#define MAKES_WINDOW(name, parameters, words) \
+    int MPI_##name parameters { \
+        struct slot *s = collective(WIN_CREATE, h, 0, true, HERE); \
+        int result = PMPI_##name words; \
+        if (s != NULL && result == MPI_SUCCESS) { \
+            window_made(h, *to); \
+        } \
+        ends(s); \
+        return result; \
+    }
+MAKES_WINDOW(Win_create, (void *a, MPI_Aint n, int unit, MPI_Info i, MPI_Comm h, MPI_Win *to), (a, n, unit, i, h, to))
+MAKES_WINDOW(Win_allocate, (MPI_Aint n, int unit, MPI_Info i, MPI_Comm h, void *a, MPI_Win *to), (n, unit, i, h, a, to))
+MAKES_WINDOW(Win_allocate_shared, (MPI_Aint n, int unit, MPI_Info i, MPI_Comm h, void *a, MPI_Win *to), (n, unit, i, h, a, to))
+MAKES_WINDOW(Win_create_dynamic, (MPI_Info i, MPI_Comm h, MPI_Win *to), (i, h, to))
+
+static struct slot *of_window(enum kind kind, MPI_Win handle, bool waits, const void *from) {
+    struct communicator *c = counts() ? known_window(handle) : NULL;
+    unsigned needs = comes(kind, c, 0);
+    return begins(waits && needs > 0 ? kind : NONE, c, 0, needs, from);
+}
+
+int MPI_Win_fence(int how, MPI_Win w) {
+    struct slot *s = of_window(WIN_FENCE, w, (how & MPI_MODE_NOPRECEDE) == 0, HERE);
+    int result = PMPI_Win_fence(how, w);
+    ends(s);
+    return result;
+}
+
+/* One that has no locks need not wait. */
+static bool has_locks(MPI_Win w) {
+    MPI_Info info;
+    char value[8] = "";
+    int is_there = 0;
+    if (PMPI_Win_get_info(w, &info) == MPI_SUCCESS) {
+        PMPI_Info_get(info, "no_locks", sizeof value - 1, value, &is_there);
+        PMPI_Info_free(&info);
+    }
+    return !is_there || strcmp(value, "true") != 0;
+}
+
+int MPI_Win_free(MPI_Win *w) {
+    struct slot *s = of_window(WIN_FREE, *w, counts() && has_locks(*w), HERE);
+    int result = PMPI_Win_free(w);
+    ends(s);
+    return result;
+}
+
+/* A call that waits until each of these ranks has posted, or completed, so often. */
+static struct slot *waits_for_ranks(enum kind kind, struct communicator *c, int n, const int *ranks, const unsigned *needed, const void *from) {
+    struct slot *s = counts() && c != NULL && n > 0 ? own_slot() : NULL;
+    if (s == NULL) {
+        return begins(NONE, NULL, 0, 0, from);
+    }
+    s->parts = 0;
+    for (int i = 0; i < n && s->parts < PARTS; i++) {
+        if (ranks[i] >= 0 && ranks[i] != c->me) {
+            s->part[s->parts++] = (struct part){kind, ranks[i], c->world[ranks[i]], needed[ranks[i]], c};
+        }
+    }
+    if (s->parts == 1) {
+        return begins(kind, c, s->part[0].peer, s->part[0].needs, from);
+    }
+    return begins(s->parts == 0 ? NONE : ALL_OF, NULL, -1, 0, from);
+}
+
+int MPI_Win_post(MPI_Group g, int how, MPI_Win w) {
+    struct communicator *c = counts() ? known_window(w) : NULL;
+    if (c != NULL) {
+        c->epochs->origins = ranks_of(g, w, c, c->epochs->origin);
+        for (int i = 0; i < c->epochs->origins; i++) {
+            atomic_fetch_add(&c->epochs->posted[c->epochs->origin[i]], 1);
+        }
+    }
+    struct slot *s = begins(NONE, NULL, 0, 0, HERE);
+    int result = PMPI_Win_post(g, how, w);
+    ends(s);
+    return result;
+}
+
+int MPI_Win_start(MPI_Group g, int how, MPI_Win w) {
+    struct communicator *c = counts() ? known_window(w) : NULL;
+    if (c != NULL) {
+        c->epochs->targets = ranks_of(g, w, c, c->epochs->target);
+        for (int i = 0; i < c->epochs->targets; i++) {
+            c->epochs->started[c->epochs->target[i]]++;
+        }
+    }
+    struct slot *s = waits_for_ranks(POST, c, c != NULL ? c->epochs->targets : 0, c != NULL ? c->epochs->target : NULL, c != NULL ? c->epochs->started : NULL, HERE);
+    int result = PMPI_Win_start(g, how, w);
+    ends(s);
+    return result;
+}
+
+int MPI_Win_complete(MPI_Win w) {
+    struct communicator *c = counts() ? known_window(w) : NULL;
+    for (int i = 0; c != NULL && i < c->epochs->targets; i++) {
+        atomic_fetch_add(&c->epochs->completed[c->epochs->target[i]], 1);
+    }
+    struct slot *s = waits_for_ranks(POST, c, c != NULL ? c->epochs->targets : 0, c != NULL ? c->epochs->target : NULL, c != NULL ? c->epochs->started : NULL, HERE);
+    int result = PMPI_Win_complete(w);
+    ends(s);
+    return result;
+}
+
+int MPI_Win_wait(MPI_Win w) {
+    struct communicator *c = counts() ? known_window(w) : NULL;
+    unsigned needed[WINDOW_RANKS] = {0};
+    for (int r = 0; c != NULL && r < WINDOW_RANKS; r++) {
+        needed[r] = atomic_load(&c->epochs->posted[r]);
+    }
+    struct slot *s = waits_for_ranks(COMPLETE, c, c != NULL ? c->epochs->origins : 0, c != NULL ? c->epochs->origin : NULL, needed, HERE);
+    int result = PMPI_Win_wait(w);
+    ends(s);
+    return result;
+}
+
 /* ---- messages: counted for each pair of ranks of world, all tags and communicators together. So a receive waits for less than it needs, and never for more. */
 static int world_rank(const struct communicator *c, int r) { return c != NULL && r >= 0 && r < c->peers && c->peer[r] < RANKS && c->peer[r] != rank ? c->peer[r] : -1; }
 
@@ -928,8 +1151,6 @@ static void was_taken(const struct communicator *c, const MPI_Status *status) {
         atomic_fetch_add(&taken[from], 1);
     }
 }
-
-static bool counts(void) { return atomic_load_explicit(&on, memory_order_relaxed) && !is_inside(); }
 
 #define SENDS(name) \
     int MPI_##name(const void *a, int n, MPI_Datatype t, int to, int tag, MPI_Comm h) { \
@@ -1341,8 +1562,13 @@ UNCOUNTED_BOTH(Isendrecv, (const void *a, int n, MPI_Datatype t, int to, int tag
 UNCOUNTED_BOTH(Isendrecv_replace, (void *a, int n, MPI_Datatype t, int to, int tag, int from, int tag2, MPI_Comm h, MPI_Request *q), (a, n, t, to, tag, from, tag2, h, q))
 #endif
 
-/* ---- Fortran: its calls go to MPI's own Fortran functions, which may call MPI in C again; that is inside of the call. */
+/* ---- Fortran: its calls go to MPI's own Fortran functions, which may call MPI in C again; that is inside of the call. The module mpi_f08 has names of its own, of two
+ * forms, for the same words; there the last one, the error, may be left out. */
 #define FORTRAN(name, parameters, words, before, after) \
+    FORTRAN_AS(name##_, parameters, words, before, after) \
+    FORTRAN_AS(name##_f08_, parameters, words, before, after) \
+    FORTRAN_AS(name##_f08ts_, parameters, words, before, after)
+#define FORTRAN_AS(name, parameters, words, before, after) \
     void name parameters { \
         static void (*real) parameters; \
         if (real == NULL) { \
@@ -1353,40 +1579,51 @@ UNCOUNTED_BOTH(Isendrecv_replace, (void *a, int n, MPI_Datatype t, int to, int t
         after; \
     }
 #define F MPI_Fint *
+
+static bool succeeded(F error) { return error == NULL || *error == MPI_SUCCESS; }
+
 #define FORTRAN_COLLECTIVE(KIND, name, handle, root, needs_data, parameters, words) \
     FORTRAN(name, parameters, words, struct slot *s = collective(KIND, counts() ? PMPI_Comm_f2c(*handle) : MPI_COMM_NULL, root, needs_data, HERE), ends(s))
 
-FORTRAN(mpi_init_, (F e), (e), , begin(HERE))
-FORTRAN(mpi_init_thread_, (F w, F g, F e), (w, g, e), , begin(HERE))
-FORTRAN(mpi_finalize_, (F e), (e), struct slot *s = collective(FINALIZE, MPI_COMM_WORLD, 0, true, HERE), ends(s); end())
-FORTRAN_COLLECTIVE(BARRIER, mpi_barrier_, h, 0, true, (F h, F e), (h, e))
-FORTRAN_COLLECTIVE(ALLREDUCE, mpi_allreduce_, h, 0, *n > 0, (void *a, void *b, F n, F t, F o, F h, F e), (a, b, n, t, o, h, e))
-FORTRAN_COLLECTIVE(ALLGATHER, mpi_allgather_, h, 0, *m > 0, (void *a, F n, F t, void *b, F m, F u, F h, F e), (a, n, t, b, m, u, h, e))
-FORTRAN_COLLECTIVE(ALLTOALL, mpi_alltoall_, h, 0, *m > 0, (void *a, F n, F t, void *b, F m, F u, F h, F e), (a, n, t, b, m, u, h, e))
-FORTRAN_COLLECTIVE(REDUCE, mpi_reduce_, h, (int)*r, *n > 0, (void *a, void *b, F n, F t, F o, F r, F h, F e), (a, b, n, t, o, r, h, e))
-FORTRAN_COLLECTIVE(GATHER, mpi_gather_, h, (int)*r, *m > 0, (void *a, F n, F t, void *b, F m, F u, F r, F h, F e), (a, n, t, b, m, u, r, h, e))
-FORTRAN_COLLECTIVE(SCATTER, mpi_scatter_, h, (int)*r, *m > 0, (void *a, F n, F t, void *b, F m, F u, F r, F h, F e), (a, n, t, b, m, u, r, h, e))
-FORTRAN_COLLECTIVE(BCAST, mpi_bcast_, h, (int)*r, *n > 0, (void *a, F n, F t, F r, F h, F e), (a, n, t, r, h, e))
-FORTRAN(mpi_comm_dup_, (F h, F to, F e), (h, to, e), struct slot *s = collective(DUP, counts() ? PMPI_Comm_f2c(*h) : MPI_COMM_NULL, 0, true, HERE), if (s != NULL && *e == 0) { made(PMPI_Comm_f2c(*h), PMPI_Comm_f2c(*to), "dup"); } ends(s))
-FORTRAN(mpi_comm_split_, (F h, F c, F k, F to, F e), (h, c, k, to, e), struct slot *s = collective(SPLIT, counts() ? PMPI_Comm_f2c(*h) : MPI_COMM_NULL, 0, true, HERE), if (s != NULL && *e == 0) { made(PMPI_Comm_f2c(*h), PMPI_Comm_f2c(*to), "split"); } ends(s))
+FORTRAN(mpi_init, (F e), (e), , begin(HERE))
+FORTRAN(mpi_init_thread, (F w, F g, F e), (w, g, e), , begin(HERE))
+FORTRAN(mpi_finalize, (F e), (e), struct slot *s = collective(FINALIZE, MPI_COMM_WORLD, 0, true, HERE), ends(s); end())
+FORTRAN_COLLECTIVE(BARRIER, mpi_barrier, h, 0, true, (F h, F e), (h, e))
+FORTRAN_COLLECTIVE(ALLREDUCE, mpi_allreduce, h, 0, *n > 0, (void *a, void *b, F n, F t, F o, F h, F e), (a, b, n, t, o, h, e))
+FORTRAN_COLLECTIVE(ALLGATHER, mpi_allgather, h, 0, *m > 0, (void *a, F n, F t, void *b, F m, F u, F h, F e), (a, n, t, b, m, u, h, e))
+FORTRAN_COLLECTIVE(ALLTOALL, mpi_alltoall, h, 0, *m > 0, (void *a, F n, F t, void *b, F m, F u, F h, F e), (a, n, t, b, m, u, h, e))
+FORTRAN_COLLECTIVE(REDUCE, mpi_reduce, h, (int)*r, *n > 0, (void *a, void *b, F n, F t, F o, F r, F h, F e), (a, b, n, t, o, r, h, e))
+FORTRAN_COLLECTIVE(GATHER, mpi_gather, h, (int)*r, *m > 0, (void *a, F n, F t, void *b, F m, F u, F r, F h, F e), (a, n, t, b, m, u, r, h, e))
+FORTRAN_COLLECTIVE(SCATTER, mpi_scatter, h, (int)*r, *m > 0, (void *a, F n, F t, void *b, F m, F u, F r, F h, F e), (a, n, t, b, m, u, r, h, e))
+FORTRAN_COLLECTIVE(BCAST, mpi_bcast, h, (int)*r, *n > 0, (void *a, F n, F t, F r, F h, F e), (a, n, t, r, h, e))
+FORTRAN(mpi_comm_dup, (F h, F to, F e), (h, to, e), struct slot *s = collective(DUP, counts() ? PMPI_Comm_f2c(*h) : MPI_COMM_NULL, 0, true, HERE), if (s != NULL && succeeded(e)) { made(PMPI_Comm_f2c(*h), PMPI_Comm_f2c(*to), "dup"); } ends(s))
+FORTRAN(mpi_comm_split, (F h, F c, F k, F to, F e), (h, c, k, to, e), struct slot *s = collective(SPLIT, counts() ? PMPI_Comm_f2c(*h) : MPI_COMM_NULL, 0, true, HERE), if (s != NULL && succeeded(e)) { made(PMPI_Comm_f2c(*h), PMPI_Comm_f2c(*to), "split"); } ends(s))
 #define FORTRAN_SEND(name) \
     FORTRAN(name, (void *a, F n, F t, F to, F g, F h, F e), (a, n, t, to, g, h, e), \
         int peer = counts() ? world_rank(known(PMPI_Comm_f2c(*h)), (int)*to) : -1; struct slot *s = begins(peer >= 0 ? SEND : NONE, NULL, peer, sends_to(peer), HERE), ends(s))
-FORTRAN_SEND(mpi_send_)
-FORTRAN_SEND(mpi_ssend_)
-FORTRAN_SEND(mpi_bsend_)
-FORTRAN_SEND(mpi_rsend_)
-FORTRAN(mpi_recv_, (void *a, F n, F t, F from, F g, F h, F st, F e), (a, n, t, from, g, h, st, e),
+FORTRAN_SEND(mpi_send)
+FORTRAN_SEND(mpi_ssend)
+FORTRAN_SEND(mpi_bsend)
+FORTRAN_SEND(mpi_rsend)
+FORTRAN(mpi_recv, (void *a, F n, F t, F from, F g, F h, F st, F e), (a, n, t, from, g, h, st, e),
     struct communicator *c = counts() ? known(PMPI_Comm_f2c(*h)) : NULL; struct slot *s = receives((int)*from, c, HERE),
-    if (s != NULL && *e == 0 && world_rank(c, (int)*from) >= 0) { atomic_fetch_add(&taken[world_rank(c, (int)*from)], 1); } ends(s))
+    if (s != NULL && succeeded(e) && world_rank(c, (int)*from) >= 0) { atomic_fetch_add(&taken[world_rank(c, (int)*from)], 1); } ends(s))
 #define FORTRAN_UNCOUNTED(name, flag, parameters, words) FORTRAN(name, parameters, words, atomic_store(&flag, true), )
-FORTRAN_UNCOUNTED(mpi_isend_, sends_uncounted, (void *a, F n, F t, F to, F g, F h, F q, F e), (a, n, t, to, g, h, q, e))
-FORTRAN_UNCOUNTED(mpi_issend_, sends_uncounted, (void *a, F n, F t, F to, F g, F h, F q, F e), (a, n, t, to, g, h, q, e))
-FORTRAN_UNCOUNTED(mpi_ibsend_, sends_uncounted, (void *a, F n, F t, F to, F g, F h, F q, F e), (a, n, t, to, g, h, q, e))
-FORTRAN_UNCOUNTED(mpi_irsend_, sends_uncounted, (void *a, F n, F t, F to, F g, F h, F q, F e), (a, n, t, to, g, h, q, e))
-FORTRAN_UNCOUNTED(mpi_irecv_, receives_uncounted, (void *a, F n, F t, F from, F g, F h, F q, F e), (a, n, t, from, g, h, q, e))
-FORTRAN_UNCOUNTED(mpi_send_init_, sends_uncounted, (void *a, F n, F t, F to, F g, F h, F q, F e), (a, n, t, to, g, h, q, e))
-FORTRAN_UNCOUNTED(mpi_recv_init_, receives_uncounted, (void *a, F n, F t, F from, F g, F h, F q, F e), (a, n, t, from, g, h, q, e))
-FORTRAN(mpi_sendrecv_, (void *a, F n, F t, F to, F g, void *b, F m, F u, F from, F g2, F h, F st, F e), (a, n, t, to, g, b, m, u, from, g2, h, st, e),
-    struct communicator *c = counts() ? known(PMPI_Comm_f2c(*h)) : NULL; sends_to(world_rank(c, (int)*to)); struct slot *s = receives((int)*from, c, HERE),
-    if (s != NULL && *e == 0 && world_rank(c, (int)*from) >= 0) { atomic_fetch_add(&taken[world_rank(c, (int)*from)], 1); } ends(s))
+FORTRAN_UNCOUNTED(mpi_isend, sends_uncounted, (void *a, F n, F t, F to, F g, F h, F q, F e), (a, n, t, to, g, h, q, e))
+FORTRAN_UNCOUNTED(mpi_issend, sends_uncounted, (void *a, F n, F t, F to, F g, F h, F q, F e), (a, n, t, to, g, h, q, e))
+FORTRAN_UNCOUNTED(mpi_ibsend, sends_uncounted, (void *a, F n, F t, F to, F g, F h, F q, F e), (a, n, t, to, g, h, q, e))
+FORTRAN_UNCOUNTED(mpi_irsend, sends_uncounted, (void *a, F n, F t, F to, F g, F h, F q, F e), (a, n, t, to, g, h, q, e))
+FORTRAN_UNCOUNTED(mpi_irecv, receives_uncounted, (void *a, F n, F t, F from, F g, F h, F q, F e), (a, n, t, from, g, h, q, e))
+FORTRAN_UNCOUNTED(mpi_send_init, sends_uncounted, (void *a, F n, F t, F to, F g, F h, F q, F e), (a, n, t, to, g, h, q, e))
+FORTRAN_UNCOUNTED(mpi_ssend_init, sends_uncounted, (void *a, F n, F t, F to, F g, F h, F q, F e), (a, n, t, to, g, h, q, e))
+FORTRAN_UNCOUNTED(mpi_bsend_init, sends_uncounted, (void *a, F n, F t, F to, F g, F h, F q, F e), (a, n, t, to, g, h, q, e))
+FORTRAN_UNCOUNTED(mpi_rsend_init, sends_uncounted, (void *a, F n, F t, F to, F g, F h, F q, F e), (a, n, t, to, g, h, q, e))
+FORTRAN_UNCOUNTED(mpi_mrecv, receives_uncounted, (void *a, F n, F t, F m, F st, F e), (a, n, t, m, st, e))
+FORTRAN_UNCOUNTED(mpi_imrecv, receives_uncounted, (void *a, F n, F t, F m, F q, F e), (a, n, t, m, q, e))
+FORTRAN_UNCOUNTED(mpi_recv_init, receives_uncounted, (void *a, F n, F t, F from, F g, F h, F q, F e), (a, n, t, from, g, h, q, e))
+#define FORTRAN_BOTH_WAYS(name, parameters, words) \
+    FORTRAN(name, parameters, words, \
+        struct communicator *c = counts() ? known(PMPI_Comm_f2c(*h)) : NULL; sends_to(world_rank(c, (int)*to)); struct slot *s = receives((int)*from, c, HERE), \
+        if (s != NULL && succeeded(e) && world_rank(c, (int)*from) >= 0) { atomic_fetch_add(&taken[world_rank(c, (int)*from)], 1); } ends(s))
+FORTRAN_BOTH_WAYS(mpi_sendrecv, (void *a, F n, F t, F to, F g, void *b, F m, F u, F from, F g2, F h, F st, F e), (a, n, t, to, g, b, m, u, from, g2, h, st, e))
+FORTRAN_BOTH_WAYS(mpi_sendrecv_replace, (void *a, F n, F t, F to, F g, F from, F g2, F h, F st, F e), (a, n, t, to, g, from, g2, h, st, e))
