@@ -42,13 +42,14 @@ struct task {
     pthread_t handle;
     _Atomic(unsigned) asked, answered, wanted;   /* wait lines that were written, answers that came, the one for which the thread waits */
     unsigned refused;                   /* the newest question that was refused */
-    bool waits, inside, ended, has_handle;
+    bool waits, inside, ended, has_handle, has_untold;
     struct keeper *keeper;              /* where it waits for a mutex */
     unsigned turn;                      /* of the keeper, at its question */
     struct task *next;                  /* of those that wait there; of those that are free */
     struct barrier *barriers[OF_TASK];  /* to which it belongs */
     const void *refused_mutex[OF_TASK]; /* those that it was refused and has not taken since */
     unsigned refused_mutexes;
+    const pthread_mutex_t *untold[OF_TASK];      /* those that it has taken while others wait for them: told as soon as it waits itself */
     int iteration;                      /* of the destructors of its own values */
     char place[PLACE];
 };
@@ -356,6 +357,94 @@ static bool may_wait(struct task *t) {
     return true;
 }
 
+/* ---- keepers, under the order */
+static struct keeper *keeper_of(const pthread_mutex_t *m, bool makes) {
+    unsigned h = (unsigned)(((uintptr_t)m >> 4) * 2654435761u) % KEEPERS;
+    struct keeper *unused = NULL;
+    for (unsigned i = 0; i < KEEPERS; i++, h = (h + 1) % KEEPERS) {
+        struct keeper *k = &keepers[h];
+        if (k->mutex == m) {
+            return k;
+        }
+        unused = unused == NULL && k->count == 0 ? k : unused;
+        if (k->number == 0) {
+            break;
+        }
+    }
+    if (!makes || unused == NULL) {
+        return NULL;
+    }
+    *unused = (struct keeper){.mutex = m, .number = ++keeper_numbers};
+    return unused;
+}
+
+static void is_free(struct keeper *k) {
+    if (k->holder != NULL) {
+        say("%d/?mutex-%u.%u end", (int)process, k->number, k->turn);
+        k->holder = NULL;
+    }
+}
+
+/* From now on this one has to give it back. */
+static void is_held_by(struct keeper *k, struct task *holder) {
+    is_free(k);
+    k->turn++;
+    k->holder = holder;
+    say("%d/?mutex-%u.%u of %d/%s%s", (int)process, k->number, k->turn, NAMED(holder));
+    say("%d/?mutex-%u.%u join %d/mutex-%u.%u 0", (int)process, k->number, k->turn, (int)process, k->number, k->turn);
+}
+
+static void asks_for(struct task *t, struct keeper *k) {
+    question(t, 1, "mutex-%u.%u", k->number, k->turn);
+    t->turn = k->turn;
+}
+
+/* The current thread has it, and the others wait for this one, which runs: none of these questions is refused. Whoever has no answer to its own question yet looks again
+ * itself. */
+static void is_told(struct keeper *k, struct task *holder) {
+    if (k->holder != holder) {
+        is_held_by(k, holder);
+    }
+    for (struct task *t = k->first; t != NULL; t = t->next) {
+        if (!awaits_answer(t) && !(t->waits && t->turn == k->turn)) {
+            goes_on(t);
+            asks_for(t, k);
+        }
+    }
+}
+
+/* The current thread has taken it while others wait for it. As long as this thread runs nobody has to know that they wait for this one. */
+static void is_taken_from(struct keeper *k, struct task *t) {
+    for (unsigned i = 0; i < OF_TASK; i++) {
+        if (t->untold[i] == NULL || t->untold[i] == k->mutex) {
+            t->untold[i] = k->mutex;
+            t->has_untold = true;
+            return;
+        }
+    }
+    is_told(k, t);
+}
+
+static void is_not_taken(const pthread_mutex_t *m, struct task *t) {
+    t->has_untold = false;
+    for (unsigned i = 0; i < OF_TASK; i++) {
+        t->untold[i] = t->untold[i] == m ? NULL : t->untold[i];
+        t->has_untold |= t->untold[i] != NULL;
+    }
+}
+
+/* Before a thread asks it is told who waits for it. */
+static void tells_untold(struct task *t) {
+    for (unsigned i = 0; i < OF_TASK; i++) {
+        struct keeper *k = t->untold[i] != NULL ? keeper_of(t->untold[i], false) : NULL;
+        t->untold[i] = NULL;
+        if (k != NULL && k->count > 0) {
+            is_told(k, t);
+        }
+    }
+    t->has_untold = false;
+}
+
 /* ---- answers */
 static void hand_out(const char *line) {
     bool refuses = strncmp(line, "refuse ", 7) == 0, faults = strncmp(line, "fault ", 6) == 0;
@@ -651,6 +740,7 @@ static bool comes(struct barrier *b, struct task *t) {
         return false;
     }
     if (i >= 0 && are_known(b) && b->came_by_others == 0) {
+        tells_untold(t);
         question(t, b->turn + 1, BARRIER(b));
         atomic_store(&t->wanted, atomic_load(&t->asked));
         return true;
@@ -927,6 +1017,7 @@ static bool may_join(struct task *t, pthread_t thread, const void *from, const v
     struct task *other = task_of_handle(thread);
     bool asks = other != NULL && other != t && !other->ended;
     if (asks) {
+        tells_untold(t);
         question(t, 1, "end-of-%s%s", other->number == 0 ? "main" : "thread-", other->number == 0 ? "" : digits(other->number));
         atomic_store(&t->wanted, atomic_load(&t->asked));
     }
@@ -954,59 +1045,7 @@ static bool may_join(struct task *t, pthread_t thread, const void *from, const v
 int pthread_join(pthread_t thread, void **to) { JOINS(pthread_join, EDEADLK, thread, to); }
 int thrd_join(thrd_t thread, int *to) { JOINS(thrd_join, thrd_error, thread, to); }
 
-/* ---- mutexes, under the order */
-static struct keeper *keeper_of(const pthread_mutex_t *m, bool makes) {
-    unsigned h = (unsigned)(((uintptr_t)m >> 4) * 2654435761u) % KEEPERS;
-    struct keeper *unused = NULL;
-    for (unsigned i = 0; i < KEEPERS; i++, h = (h + 1) % KEEPERS) {
-        struct keeper *k = &keepers[h];
-        if (k->mutex == m) {
-            return k;
-        }
-        unused = unused == NULL && k->count == 0 ? k : unused;
-        if (k->number == 0) {
-            break;
-        }
-    }
-    if (!makes || unused == NULL) {
-        return NULL;
-    }
-    *unused = (struct keeper){.mutex = m, .number = ++keeper_numbers};
-    return unused;
-}
-
-static void is_free(struct keeper *k) {
-    if (k->holder != NULL) {
-        say("%d/?mutex-%u.%u end", (int)process, k->number, k->turn);
-        k->holder = NULL;
-    }
-}
-
-/* From now on this one has to give it back. */
-static void is_held_by(struct keeper *k, struct task *holder) {
-    is_free(k);
-    k->turn++;
-    k->holder = holder;
-    say("%d/?mutex-%u.%u of %d/%s%s", (int)process, k->number, k->turn, NAMED(holder));
-    say("%d/?mutex-%u.%u join %d/mutex-%u.%u 0", (int)process, k->number, k->turn, (int)process, k->number, k->turn);
-}
-
-static void asks_for(struct task *t, struct keeper *k) {
-    question(t, 1, "mutex-%u.%u", k->number, k->turn);
-    t->turn = k->turn;
-}
-
-/* The current thread has it: the others wait for this one, which runs. Whoever has no answer to its own question yet looks again itself. */
-static void passes_to(struct keeper *k, struct task *holder) {
-    is_held_by(k, holder);
-    for (struct task *t = k->first; t != NULL; t = t->next) {
-        if (!awaits_answer(t)) {
-            goes_on(t);
-            asks_for(t, k);
-        }
-    }
-}
-
+/* ---- mutexes */
 static void leaves_keeper(struct task *t, struct keeper *k) {
     struct task **at = &k->first;
     while (*at != NULL && *at != t) {
@@ -1029,8 +1068,8 @@ static __attribute__((noinline)) void look_at_taken(const pthread_mutex_t *m) {
     if (t != NULL && atomic_load(&state) == 1 && !t->ended) {
         signals own = order_begins();
         struct keeper *k = keeper_of(m, false);
-        if (k != NULL && k->count > 0 && k->holder != t) {
-            passes_to(k, t);
+        if (k != NULL && k->count > 0) {
+            is_taken_from(k, t);
         }
         ends_order(own);
     }
@@ -1041,6 +1080,7 @@ static __attribute__((noinline)) void look_at_given_back(const pthread_mutex_t *
     if (t != NULL && atomic_load(&state) == 1) {
         signals own = order_begins();
         struct keeper *k = keeper_of(m, false);
+        is_not_taken(m, t);
         if (k != NULL && k->holder == t) {
             is_free(k);
         }
@@ -1057,7 +1097,7 @@ static inline void is_taken(const pthread_mutex_t *m) {
 
 static inline void is_given_back(const pthread_mutex_t *m) {
     atomic_thread_fence(memory_order_seq_cst);
-    if (__builtin_expect(atomic_load_explicit(&contended, memory_order_relaxed) != 0, 0)) {
+    if (__builtin_expect(atomic_load_explicit(&contended, memory_order_relaxed) != 0 || (mine != NULL && mine->has_untold), 0)) {
         look_at_given_back(m);
     }
 }
@@ -1100,13 +1140,14 @@ static int registers(struct task *t, pthread_mutex_t *m, bool *asks) {
     struct task *holder = result == EBUSY ? task_of_tid(owner) : NULL;
     if (result != EBUSY) {
         leaves_keeper(t, k);
-        if (k->count > 0 && k->holder != t) {
-            passes_to(k, t);
+        if (k->count > 0) {
+            is_taken_from(k, t);
         }
     } else if (holder != NULL) {
         if (k->holder != holder) {
             is_held_by(k, holder);
         }
+        tells_untold(t);
         asks_for(t, k);
         atomic_store(&t->wanted, atomic_load(&t->asked));
         *asks = true;
@@ -1152,8 +1193,8 @@ static __attribute__((noinline)) int waits_for_mutex(pthread_mutex_t *m, const v
         struct keeper *k = t->keeper;
         if (k != NULL) {
             leaves_keeper(t, k);
-            if (result != EDEADLK && k->count > 0 && k->holder != t) {
-                passes_to(k, t);
+            if (result != EDEADLK && k->count > 0) {
+                is_taken_from(k, t);
             }
         }
         ends_order(own);

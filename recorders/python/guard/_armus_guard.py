@@ -66,6 +66,7 @@ class Task:
         self.answer = real_lock()
         self.answer.acquire()
         self.barriers = []                                 # those to which it belongs
+        self.untold = []                                   # what it has taken while others wait for it: told as soon as it waits itself
 
     def wake(self):
         try:
@@ -290,7 +291,10 @@ def question(task, phaser, phase, lines):
 
 
 def own_question(task, phaser, phase, lines):
-    """The question of the current thread, which takes the answer."""
+    """The question of the current thread, which takes the answer. First it is told who waits for this thread."""
+    for keeper in task.untold:
+        keeper.is_told(task, lines)
+    task.untold = []
     question(task, phaser, phase, lines)
     task.wanted = task.asked
 
@@ -367,12 +371,13 @@ class Keeper:
             lines.append(f'{self.wildcard()} end')
             self.holder = None
 
-    def is_taken(self, holder, lines):
-        """The current thread has to act from now on, and the others wait for it. None of these questions is refused, since this thread runs. Whoever has no answer to its own
-        question yet looks again itself."""
-        self.is_held_by(holder, lines)
+    def is_told(self, holder, lines):
+        """The current thread has to act, and the others wait for it. None of these questions is refused, since this thread runs. Whoever has no answer to its own question yet
+        looks again itself."""
+        if self.holder is not holder:
+            self.is_held_by(holder, lines)
         for task in self.tasks:
-            if task.may_ask and not task.awaits_answer():
+            if task.may_ask and not task.awaits_answer() and not (task.waits and task.turn == self.turn):
                 goes_on(task, lines)
                 question(task, self.phaser(), 1, lines)
                 task.turn = self.turn
@@ -475,6 +480,19 @@ def current_task():
     return task if task is not None and not task.ended else None
 
 
+def gives_back(keeper, holder):
+    """The holder need not act any more."""
+    if keeper in holder.untold:
+        holder.untold.remove(keeper)
+    if keeper.holder is holder and holder.is_there():
+        try:
+            with Ordered(keeper.life) as lines:
+                if keeper.holder is holder:
+                    keeper.is_free(lines)
+        except Off:
+            pass
+
+
 class Taken:
     """What both sorts of lock have: a real lock, who took it where it is known that this one gives it back, and who waits for it."""
     __slots__ = ('_real', '_holder', '_keeper', '__weakref__')
@@ -498,28 +516,18 @@ class Taken:
         return self._keeper
 
     def _is_taken(self, is_known):
-        """The current thread has it. Others that wait for it are told to wait for this one."""
+        """The current thread has it. Others may wait for it already: as long as this thread runs nobody has to know that they wait for this one."""
         self._holder = holder = current_task() if is_known else None
         keeper = self._keeper
         if keeper is not None and keeper.tasks and holder is not None and keeper.life is holder.life:
-            try:
-                with Ordered(keeper.life) as lines:
-                    if keeper.tasks and keeper.holder is not holder:
-                        keeper.is_taken(holder, lines)
-            except Off:
-                pass
+            holder.untold.append(keeper)
 
     def _gives_back(self):
         holder, keeper = self._holder, self._keeper
         self._holder = None
         self._real.release()
-        if keeper is not None and holder is not None and keeper.holder is holder and holder.is_there():
-            try:
-                with Ordered(keeper.life) as lines:
-                    if keeper.holder is holder:
-                        keeper.is_free(lines)
-            except Off:
-                pass
+        if keeper is not None and holder is not None:
+            gives_back(keeper, holder)
 
     def locked(self):
         return self._real.locked()
@@ -887,30 +895,21 @@ def waits_for(real):
 
 def ended_by(real):
     def ends_future(self, *words):
-        keeper = self.__dict__.get('_armus_keeper')
-        self.__dict__.pop('_armus_runner', None)
-        if keeper is not None and keeper.life is Life.current and not keeper.life.off:
-            try:
-                with Ordered(keeper.life) as lines:
-                    keeper.is_free(lines)
-            except Off:
-                pass
+        keeper, runner = self.__dict__.get('_armus_keeper'), self.__dict__.pop('_armus_runner', None)
+        if keeper is not None and runner is not None:
+            gives_back(keeper, runner)
         return real(self, *words)
     return ends_future
 
 
 def run_by(real):
     def run(self):
-        life, future, runner = Life.current, self.future, current_task()
+        future, runner = self.future, current_task()
         if runner is not None:
-            try:
-                with Ordered(life) as lines:
-                    future.__dict__['_armus_runner'] = runner
-                    keeper = future.__dict__.get('_armus_keeper')
-                    if keeper is not None and keeper.life is life and keeper.tasks and not future.done():
-                        keeper.is_taken(runner, lines)
-            except Off:
-                pass
+            future.__dict__['_armus_runner'] = runner
+            keeper = future.__dict__.get('_armus_keeper')
+            if keeper is not None and keeper.tasks and keeper.life is runner.life:
+                runner.untold.append(keeper)
         return real(self)
     return run
 

@@ -1,6 +1,6 @@
 """Brings the guard of armus-run --guard into a Python program. armus-run puts this folder in front of PYTHONPATH, so each Python imports this module when it begins.
 The folder leaves the module path at once, and another sitecustomize is loaded as it would be without this one. A program that imports armus and has none of its own gets
-the one of this folder."""
+the one of ../members."""
 import os
 import sys
 
@@ -14,7 +14,7 @@ class _Finder:
         if name != 'armus':
             return None
         from importlib.util import spec_from_file_location
-        return spec_from_file_location(name, os.path.join(_FOLDER, 'armus.py'))
+        return spec_from_file_location(name, os.path.join(os.path.dirname(_FOLDER), 'members', 'armus.py'))
 
 
 def _begin():
