@@ -2,6 +2,9 @@
  * build for each MPI. A call counts what it begins and says in the slot of its thread for what it waits; a watcher in each rank announces every 50 ms what was counted
  * and who stood in the same call at several looks. No rank asks another one for anything, and the watcher calls no MPI.
  *
+ * With ARMUS_GUARD there is no watcher. A rank that has to wait first writes what it counted, asks, and reads its answer; where that refuses, the call gives an error. As long
+ * as it runs nobody is stuck because of it, so its counts need not be known before.
+ *
  * All lines of a rank are about itself: its phase on world.Barrier is the number of barriers of world that it came to, on 0>1 the number of messages that rank 0 sent
  * to rank 1, on 0<1 the number of receives that rank 1 began from rank 0. Different collectives are different phasers, so that two that do not fit are told. */
 #define _GNU_SOURCE
@@ -78,6 +81,7 @@ struct slot {
     struct part part[PARTS];                        /* of ONE_OF and ALL_OF; written before the counter */
     int parts;
     int depth;
+    char refusal[LINE];                             /* the sentence by which the call was refused */
     char task[NAME + 24];
     /* the watcher's */
     bool announced;
@@ -105,6 +109,27 @@ static pthread_mutex_t line_lock = PTHREAD_MUTEX_INITIALIZER;   /* of two thread
 static pthread_mutex_t made_lock = PTHREAD_MUTEX_INITIALIZER;   /* of the table of inter-communicators */
 static pthread_t watcher;
 static _Atomic(bool) stopping;
+
+/* ---- the guard */
+enum { ANSWER_IN = 5000, COUNTED = 2 };             /* milliseconds */
+static bool guard, has_threads;                     /* it asks; several threads call MPI, and it asks no more */
+static __thread bool may_fail;                      /* the call that begins is one of C, which gives an error */
+static __thread _Atomic(unsigned) *counted[COUNTED];  /* what it counted already, and takes back where it is refused */
+static void ask(struct slot *s);
+static void asks_no_more(void);
+
+/* A call begins that may be refused. */
+static void asks_now(void) {
+    may_fail = guard;
+    counted[0] = counted[1] = NULL;
+}
+
+static unsigned counts_at(_Atomic(unsigned) *counter) {
+    counted[counted[0] != NULL] = counter;
+    return atomic_fetch_add(counter, 1);
+}
+
+static bool is_refused(const struct slot *s) { return s != NULL && s->refusal[0] != 0; }
 
 /* ---- lines */
 static char text[1 << 17];
@@ -171,6 +196,8 @@ static struct slot *own_slot(void) {
 
 static struct slot *begins(enum kind kind, struct communicator *of, int peer, unsigned needs, const void *from) {
     struct slot *s = atomic_load_explicit(&on, memory_order_relaxed) ? own_slot() : NULL;
+    bool fails_here = may_fail;
+    may_fail = false;                               /* a call inside of another one is MPI's own */
     if (s == NULL || s->depth++ > 0) {
         return NULL;
     }
@@ -181,6 +208,14 @@ static struct slot *begins(enum kind kind, struct communicator *of, int peer, un
     atomic_store_explicit(&s->needs, needs, memory_order_relaxed);
     atomic_store_explicit(&s->from, from, memory_order_relaxed);
     atomic_store_explicit(&s->count, count + 1, memory_order_release);
+    if (guard) {
+        s->refusal[0] = 0;
+        if (s != slots) {
+            asks_no_more();
+        } else if (fails_here && (kind < KINDS || kind == RECEIVE)) {
+            ask(s);
+        }
+    }
     return s;
 }
 
@@ -541,6 +576,140 @@ static void look(void) {
     pthread_mutex_unlock(&line_lock);
 }
 
+/* ---- questions */
+/* Several threads of a rank call MPI: nobody is refused because of this rank any more, and nothing of it is. */
+static void asks_no_more(void) {
+    pthread_mutex_lock(&line_lock);
+    if (!has_threads) {
+        has_threads = true;
+        if (slots[0].told != 0) {
+            goes_on(&slots[0]);
+        }
+        for (struct communicator *c = atomic_load(&all); c != NULL; c = c->next) {
+            if (c->joined) {
+                say_communicator(c, true);
+            }
+        }
+        if (!left_sends) {
+            say_pairs(true, true);
+        }
+        if (!left_receives) {
+            say_pairs(false, true);
+        }
+        left_sends = left_receives = true;
+        hand_over();
+    }
+    pthread_mutex_unlock(&line_lock);
+}
+
+static void turns_off(const char *why) {
+    if (atomic_exchange(&on, false) && why != NULL) {
+        char line[LINE];
+        int n = snprintf(line, sizeof line, "armus: %s: from now on every wait of rank %d is let through\n", why, rank);
+        say("# off");
+        hand_over();
+        if (n > 0 && write(2, line, (size_t)n) < 0) {
+            return;                                            /* there is nobody to be told */
+        }
+    }
+}
+
+/* Whether this is the answer. */
+static bool is_answer(struct slot *s, char *line) {
+    if (strcmp(line, "off") == 0) {
+        turns_off(NULL);
+        return true;
+    }
+    char *name = strchr(line, ' ');
+    size_t n = strlen(s->task);
+    if (name == NULL || strncmp(name + 1, s->task, n) != 0 || (name[1 + n] != 0 && name[1 + n] != ':')) {
+        return false;
+    }
+    if (line[0] == 'r') {
+        snprintf(s->refusal, sizeof s->refusal, "%s", name[1 + n] == ':' ? name + n + 3 : "a deadlock");
+    }
+    if (line[0] != 'w') {
+        __atomic_store_n(&s->told, 0, __ATOMIC_SEQ_CST);       /* it was refused, or it waits unseen */
+    }
+    return true;
+}
+
+/* Reads up to the answer. No other thread reads. */
+static void take_answer(struct slot *s) {
+    static char kept[8192];
+    static size_t have;
+    struct timespec now, begun;
+    clock_gettime(CLOCK_MONOTONIC, &begun);
+    for (bool is_there = false; !is_there && atomic_load(&on);) {
+        char *end = memchr(kept, '\n', have);
+        if (end != NULL) {
+            *end = 0;
+            is_there = is_answer(s, kept);
+            have -= (size_t)(end + 1 - kept);
+            memmove(kept, end + 1, have);
+            continue;
+        }
+        clock_gettime(CLOCK_MONOTONIC, &now);
+        long left = ANSWER_IN - (now.tv_sec - begun.tv_sec) * 1000 - (now.tv_nsec - begun.tv_nsec) / 1000000;
+        struct pollfd reached = {.fd = out, .events = POLLIN};
+        if (left <= 0 || have == sizeof kept) {
+            turns_off("no answer came in 5 seconds");
+        } else if (poll(&reached, 1, (int)left) > 0) {
+            ssize_t got = recv(out, kept + have, sizeof kept - have, MSG_DONTWAIT);
+            have += got > 0 ? (size_t)got : 0;
+            if (got == 0 || (got < 0 && errno != EAGAIN && errno != EINTR)) {
+                turns_off("no answer comes any more");
+            }
+        }
+    }
+}
+
+/* What was counted, and the question; then the answer. */
+static void ask(struct slot *s) {
+    int saved = errno;
+    bool asks = false;
+    pthread_mutex_lock(&line_lock);
+    if (!has_threads && out >= 0) {
+        say_counts();
+        asks = wait_line(s);
+        if (asks) {
+            __atomic_store_n(&s->told, atomic_load(&s->count), __ATOMIC_SEQ_CST);
+        }
+        hand_over();
+    }
+    pthread_mutex_unlock(&line_lock);
+    if (asks && atomic_load(&on)) {
+        take_answer(s);
+    }
+    errno = saved;
+}
+
+/* What a refused call gives, by the error handler of its communicator. It has not begun: what it counted is taken back. */
+static int fails(struct slot *s, MPI_Comm handle) {
+    static int class = -1;
+    char line[MPI_MAX_ERROR_STRING];
+    int code = MPI_ERR_OTHER;
+    for (int i = 0; i < COUNTED; i++) {
+        if (counted[i] != NULL) {
+            atomic_fetch_sub(counted[i], 1);
+        }
+    }
+    pthread_mutex_lock(&line_lock);
+    say_counts();
+    hand_over();
+    pthread_mutex_unlock(&line_lock);
+    snprintf(line, sizeof line, "deadlock: %.*s", (int)sizeof line - 20, s->refusal);
+    s->refusal[0] = 0;
+    if (class >= 0 || PMPI_Add_error_class(&class) == MPI_SUCCESS) {
+        PMPI_Add_error_string(class, "a wait that would never end");
+        if (PMPI_Add_error_code(class, &code) == MPI_SUCCESS) {
+            PMPI_Add_error_string(code, line);
+        }
+    }
+    PMPI_Comm_call_errhandler(handle, code);
+    return code;
+}
+
 static void *watch(void *nothing) {
     struct timespec pause = {0, PERIOD * 1000000L};
     while (!atomic_load(&stopping) && out >= 0) {
@@ -846,6 +1015,10 @@ static void begin(const void *from) {
         return;
     }
     say("# process %s", process);
+    guard = getenv("ARMUS_GUARD") != NULL;
+    if (guard) {
+        say("# places");
+    }
     PMPI_Comm_create_keyval(MPI_COMM_NULL_COPY_FN, is_freed, &key, NULL);
     PMPI_Win_create_keyval(MPI_WIN_NULL_COPY_FN, window_is_freed, &window_key, NULL);
     snprintf(world.name, sizeof world.name, "world");
@@ -855,6 +1028,10 @@ static void begin(const void *from) {
     struct slot *s = own_slot();
     atomic_store(&s->from, from);
     look();
+    if (guard) {
+        errno = saved;
+        return;
+    }
     sigfillset(&every);
     pthread_sigmask(SIG_SETMASK, &every, &own);
     if (pthread_create(&watcher, NULL, watch, NULL) != 0) {
@@ -869,7 +1046,9 @@ static void begin(const void *from) {
 static void end(void) {
     if (atomic_load(&on)) {
         atomic_store(&stopping, true);
-        pthread_join(watcher, NULL);
+        if (!guard) {
+            pthread_join(watcher, NULL);
+        }
         pthread_mutex_lock(&line_lock);
         for (struct communicator *c = atomic_load(&all); c != NULL; c = c->next) {
             if (c->joined && !c->gone) {
@@ -918,7 +1097,7 @@ static unsigned comes(enum kind kind, struct communicator *c, int root) {
     if (c == NULL || (c->between ? kind >= FIRST_OF_LAST : kind >= FIRST_ROOTED && (root < 0 || root >= c->size))) {
         return 0;
     }
-    return kind >= FIRST_FROM_ROOT ? atomic_fetch_add(&c->from[kind - FIRST_FROM_ROOT][root], 1) + 1 : atomic_fetch_add(&c->came[kind], 1) + 1;
+    return counts_at(kind >= FIRST_FROM_ROOT ? &c->from[kind - FIRST_FROM_ROOT][root] : &c->came[kind]) + 1;
 }
 
 static struct slot *collective(enum kind kind, MPI_Comm handle, int root, bool needs_data, const void *from) {
@@ -948,8 +1127,9 @@ static bool all_send(const int *counts, MPI_Comm handle, bool is_of_own) {
 
 #define COLLECTIVE(KIND, name, handle, root, needs_data, parameters, words) \
     int MPI_##name parameters { \
+        asks_now(); \
         struct slot *s = collective(KIND, handle, root, needs_data, HERE); \
-        int result = PMPI_##name words; \
+        int result = is_refused(s) ? fails(s, handle) : PMPI_##name words; \
         ends(s); \
         return result; \
     }
@@ -973,18 +1153,23 @@ COLLECTIVE(SCATTER, Scatter, h, r, m > 0, (const void *a, int n, MPI_Datatype t,
 COLLECTIVE(SCATTERV, Scatterv, h, r, m > 0, (const void *a, const int *n, const int *d, MPI_Datatype t, void *b, int m, MPI_Datatype u, int r, MPI_Comm h), (a, n, d, t, b, m, u, r, h))
 
 int MPI_Finalize(void) {
+    asks_now();
     struct slot *s = collective(FINALIZE, MPI_COMM_WORLD, 0, true, HERE);
-    int result = PMPI_Finalize();
+    bool refused = is_refused(s);
+    int result = refused ? fails(s, MPI_COMM_WORLD) : PMPI_Finalize();
     ends(s);
-    end();
+    if (!refused) {
+        end();
+    }
     return result;
 }
 
 #define MAKES(name, how, parent, to, parameters, words) MAKES_AS(NONE, name, how, parent, to, parameters, words)
 #define MAKES_AS(KIND, name, how, parent, to, parameters, words) \
     int MPI_##name parameters { \
+        asks_now(); \
         struct slot *s = KIND < KINDS ? collective(KIND, parent, 0, true, HERE) : begins(NONE, NULL, 0, 0, HERE); \
-        int result = PMPI_##name words; \
+        int result = is_refused(s) ? fails(s, parent) : PMPI_##name words; \
         if (s != NULL && result == MPI_SUCCESS) { \
             made(parent, *to, how); \
         } \
@@ -1135,13 +1320,13 @@ int MPI_Win_wait(MPI_Win w) {
 /* ---- messages: counted for each pair of ranks of world, all tags and communicators together. So a receive waits for less than it needs, and never for more. */
 static int world_rank(const struct communicator *c, int r) { return c != NULL && r >= 0 && r < c->peers && c->peer[r] < RANKS && c->peer[r] != rank ? c->peer[r] : -1; }
 
-static unsigned sends_to(int peer) { return peer >= 0 ? atomic_fetch_add(&sent[peer], 1) + 1 : 0; }
+static unsigned sends_to(int peer) { return peer >= 0 ? counts_at(&sent[peer]) + 1 : 0; }
 
 static unsigned receives_from(int peer) {
     if (peer < 0) {
         return 0;
     }
-    atomic_fetch_add(&begun[peer], 1);
+    counts_at(&begun[peer]);
     return atomic_load(&taken[peer]) + 1;
 }
 
@@ -1177,9 +1362,10 @@ static struct slot *receives(int from, const struct communicator *c, const void 
 int MPI_Recv(void *a, int n, MPI_Datatype t, int from, int tag, MPI_Comm h, MPI_Status *status) {
     MPI_Status own;
     struct communicator *c = counts() ? known(h) : NULL;
+    asks_now();
     struct slot *s = receives(from, c, HERE);
     MPI_Status *to = status == MPI_STATUS_IGNORE ? &own : status;
-    int result = PMPI_Recv(a, n, t, from, tag, h, to);
+    int result = is_refused(s) ? fails(s, h) : PMPI_Recv(a, n, t, from, tag, h, to);
     if (s != NULL && result == MPI_SUCCESS) {
         was_taken(c, to);
     }
@@ -1190,8 +1376,9 @@ int MPI_Recv(void *a, int n, MPI_Datatype t, int from, int tag, MPI_Comm h, MPI_
 int MPI_Probe(int from, int tag, MPI_Comm h, MPI_Status *status) {
     struct communicator *c = counts() ? known(h) : NULL;
     int peer = world_rank(c, from);
+    asks_now();
     struct slot *s = begins(from == MPI_ANY_SOURCE && c != NULL ? ANY : peer >= 0 ? RECEIVE : NONE, c, peer, peer >= 0 ? atomic_load(&taken[peer]) + 1 : 1, HERE);
-    int result = PMPI_Probe(from, tag, h, status);
+    int result = is_refused(s) ? fails(s, h) : PMPI_Probe(from, tag, h, status);
     ends(s);
     return result;
 }
@@ -1199,9 +1386,10 @@ int MPI_Probe(int from, int tag, MPI_Comm h, MPI_Status *status) {
 int MPI_Sendrecv(const void *a, int n, MPI_Datatype t, int to, int tag, void *b, int m, MPI_Datatype u, int from, int tag2, MPI_Comm h, MPI_Status *status) {
     MPI_Status own, *into = status == MPI_STATUS_IGNORE ? &own : status;
     struct communicator *c = counts() ? known(h) : NULL;
+    asks_now();
     sends_to(world_rank(c, to));
     struct slot *s = receives(from, c, HERE);
-    int result = PMPI_Sendrecv(a, n, t, to, tag, b, m, u, from, tag2, h, into);
+    int result = is_refused(s) ? fails(s, h) : PMPI_Sendrecv(a, n, t, to, tag, b, m, u, from, tag2, h, into);
     if (s != NULL && result == MPI_SUCCESS) {
         was_taken(c, into);
     }
@@ -1212,9 +1400,10 @@ int MPI_Sendrecv(const void *a, int n, MPI_Datatype t, int to, int tag, void *b,
 int MPI_Sendrecv_replace(void *a, int n, MPI_Datatype t, int to, int tag, int from, int tag2, MPI_Comm h, MPI_Status *status) {
     MPI_Status own, *into = status == MPI_STATUS_IGNORE ? &own : status;
     struct communicator *c = counts() ? known(h) : NULL;
+    asks_now();
     sends_to(world_rank(c, to));
     struct slot *s = receives(from, c, HERE);
-    int result = PMPI_Sendrecv_replace(a, n, t, to, tag, from, tag2, h, into);
+    int result = is_refused(s) ? fails(s, h) : PMPI_Sendrecv_replace(a, n, t, to, tag, from, tag2, h, into);
     if (s != NULL && result == MPI_SUCCESS) {
         was_taken(c, into);
     }
@@ -1392,8 +1581,9 @@ int MPI_Wait(MPI_Request *q, MPI_Status *status) {
     MPI_Status own, *into = status == MPI_STATUS_IGNORE ? &own : status;
     MPI_Request handle = *q;
     struct request r = counts() ? recall(handle) : (struct request){.kind = NONE};
+    asks_now();
     struct slot *s = waits(1, q, &r, true, HERE);
-    int result = PMPI_Wait(q, into);
+    int result = is_refused(s) ? fails(s, MPI_COMM_WORLD) : PMPI_Wait(q, into);
     if (s != NULL && result == MPI_SUCCESS) {
         is_done(handle, &r, into);
     }
