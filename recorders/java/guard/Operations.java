@@ -113,7 +113,7 @@ public final class Operations {
         } catch (InterruptedException e) {
             Thread.currentThread().interrupt();
         } catch (BrokenBarrierException | TimeoutException e) {
-            debug(e);
+            throw refused.refusal();
         }
         throw refused.refusal();
     }
