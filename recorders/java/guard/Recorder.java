@@ -214,8 +214,9 @@ final class Recorder {
 
     // ---- what the monitor knows
 
-    /** First who went on, then who did his part, then who has still to act, and then who has ended. */
+    /** First who went on, then who did his part, then who has still to act, and then who had ended at the beginning of all this. */
     private void catchUp() {
+        List<Task> dead = tasks.dead();
         for (Iterator<Wait> all = waits.iterator(); all.hasNext();) {
             Wait wait = all.next();
             if (wait.isOver()) {
@@ -229,7 +230,7 @@ final class Recorder {
         for (Awaited one : new ArrayList<>(awaited)) {
             one.keep(this);
         }
-        tasks.endAll();
+        tasks.end(dead);
     }
 
     private void goes(Wait wait) {

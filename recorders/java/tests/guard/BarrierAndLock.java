@@ -32,17 +32,15 @@ public class BarrierAndLock {
             } catch (BrokenBarrierException e) {
                 System.out.println("needer leaves");
             } catch (armus.DeadlockException e) {
-                System.out.println("needer leaves");
-                meet.reset();
-                throw e;
+                System.out.println("needer comes without the lock");
+                Both.refused();
+                meet.await();
             }
         });
         Members.member(holder, meet);
         Members.member(needer, meet);
         holder.start();
         needer.start();
-        holder.join();
-        needer.join();
         Both.end(holder, needer);
     }
 }
