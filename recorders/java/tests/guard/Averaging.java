@@ -8,26 +8,30 @@ public class Averaging {
         Phaser pc = new Phaser(1);
         Phaser pb = new Phaser(1);
         Members.member(pc, pb);
-        for (int i = 0; i < 3; i++) {
+        Thread[] workers = new Thread[3];
+        for (int i = 0; i < workers.length; i++) {
             pc.register();
             pb.register();
-            Thread worker = new Thread(() -> {
+            workers[i] = new Thread(() -> {
                 for (int round = 0; round < 4; round++) {
                     pc.arriveAndAwaitAdvance();
                 }
                 pc.arriveAndDeregister();
                 pb.arriveAndDeregister();
-                System.out.println("a worker is done");
             }, "worker-" + i);
-            Members.member(worker, pc, pb);
-            worker.start();
+            Members.member(workers[i], pc, pb);
+            workers[i].start();
         }
-        Thread.sleep(300);
+        Thread.sleep(1000);
         try {
             pb.arriveAndAwaitAdvance();
         } catch (DeadlockException e) {
+            System.out.println("line " + e.getStackTrace()[0].getLineNumber() + ": " + e.getMessage());
             pc.arriveAndDeregister();
-            System.out.println(e.getMessage() + " in line " + e.getStackTrace()[0].getLineNumber());
         }
+        for (Thread worker : workers) {
+            worker.join();
+        }
+        System.out.println("end");
     }
 }

@@ -41,6 +41,6 @@ public class BarrierAndLock {
         Members.member(needer, meet);
         holder.start();
         needer.start();
-        Both.end(holder, needer);
+        Both.end(1, holder, needer);
     }
 }

@@ -1,6 +1,6 @@
 import armus.DeadlockException;
 
-/** Runs the two sides of a deadlock, each in a thread of its own, and says how many of them were refused once both are done. */
+/** The sides of a deadlock, each in a thread of its own, and how many of them were refused. */
 final class Both {
     interface Side {
         void run() throws Exception;
@@ -29,10 +29,11 @@ final class Both {
         }, name);
     }
 
-    static void end(Thread... threads) throws InterruptedException {
+    /** Says that all is done, if so many were refused. */
+    static void end(int wanted, Thread... threads) throws InterruptedException {
         for (Thread thread : threads) {
             thread.join();
         }
-        System.out.println(refused + " refused, all done");
+        System.out.println(refused == wanted ? "end" : refused + " refused");
     }
 }

@@ -13,8 +13,8 @@ public class Completes {
         Members.member(two, right);
         one.start();
         two.start();
-        Both.end(one, two);
         System.out.println(left.join() + " " + right.get());
+        Both.end(1, one, two);
     }
 
     static void complete(CompletableFuture<String> own, CompletableFuture<String> other) {

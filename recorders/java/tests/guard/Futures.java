@@ -27,8 +27,9 @@ public class Futures {
                 refused += innermost(e) instanceof armus.DeadlockException ? 1 : 0;
             }
         }
-        System.out.println(refused + " of 2 end by the same exception");
         pool.shutdown();
+        System.out.println(refused + " of 2 end by the same exception");
+        System.out.println(refused == 2 ? "end" : "otherwise");
     }
 
     static Throwable innermost(Throwable e) {

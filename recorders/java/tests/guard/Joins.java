@@ -36,7 +36,7 @@ public class Joins {
         begun.countDown();
         self.start();
         worker.join();
-        Both.end(worker.other, self, ended);
+        Both.end(2, worker.other, self, ended);
     }
 
     static void join(Both.Side side) throws Exception {

@@ -13,7 +13,7 @@ public class Latches {
         Members.member(two, right);
         one.start();
         two.start();
-        Both.end(one, two);
+        Both.end(1, one, two);
     }
 
     static void open(CountDownLatch own, CountDownLatch other) throws InterruptedException {

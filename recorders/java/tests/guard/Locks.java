@@ -55,7 +55,7 @@ public class Locks {
         for (Thread thread : threads) {
             thread.start();
         }
-        Both.end(threads);
+        Both.end(2, threads);
     }
 
     static void meet(CountDownLatch taken) throws InterruptedException {

@@ -14,7 +14,7 @@ public class Opposite {
         Members.member(two, left, right);
         one.start();
         two.start();
-        Both.end(one, two);
+        Both.end(1, one, two);
     }
 
     static void meet(CyclicBarrier first, CyclicBarrier second) throws Exception {

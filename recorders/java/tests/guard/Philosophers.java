@@ -27,7 +27,7 @@ public class Philosophers {
         for (Thread thread : threads) {
             thread.join();
         }
-        System.out.println(eaten + " meals");
+        System.out.println(eaten.get() == MEALS * forks.length ? "end" : eaten + " meals");
     }
 
     static boolean eat(ReentrantLock first, ReentrantLock second) {

@@ -22,8 +22,9 @@ public class Turns {
         Members.member(two, left, right);
         one.start();
         two.start();
-        Both.end(one, two);
+        one.join();
         System.out.println(left.getRegisteredParties() + right.getRegisteredParties() + " parties");
+        Both.end(1, one, two);
     }
 
     static void meet(Phaser first, Phaser second) {
