@@ -15,10 +15,7 @@ public final class Agent {
             return;
         }
         try {
-            Recorder recorder = new Recorder(new Lines(address, process()), new Inside(instrumentation));
-            Recorder.on = recorder;
-            new Answers(recorder).start();
-            recorder.look();
+            new Recorder(new Lines(address, process()), new Inside(instrumentation)).begin();
             instrumentation.addTransformer(new Transformer());
         } catch (IOException | RuntimeException e) {
             Recorder.on = null;

@@ -4,13 +4,19 @@ import java.io.IOException;
 import java.nio.ByteBuffer;
 import java.nio.channels.SelectionKey;
 import java.nio.channels.Selector;
+import java.util.Set;
+import java.util.concurrent.ConcurrentHashMap;
+import java.util.concurrent.locks.ReentrantLock;
 
-/** The thread that reads the answers and hands them out. When there is none for a while, it tells what has changed. */
+/** Reads the answers and hands them out. One thread at a time reads: one of those that wait for an answer, and for those who do not wait, from time to time, a thread of the
+ * recorder. So an answer wakes the thread that asked, and no other one. */
 final class Answers implements Runnable {
     private static final int PERIOD = 50;    // milliseconds
 
     private final Recorder recorder;
     private final Selector selector;
+    private final ReentrantLock reading = new ReentrantLock();
+    private final Set<Task> waiting = ConcurrentHashMap.newKeySet();
     private final ByteBuffer bytes = ByteBuffer.allocate(65536);
     private final StringBuilder kept = new StringBuilder();
 
@@ -32,29 +38,79 @@ final class Answers implements Runnable {
 
     @Override
     public void run() {
-        String why = "the recorder failed";
         try {
-            long looked = System.nanoTime();
             while (Recorder.on == recorder) {
-                selector.select(PERIOD);
-                if (!read()) {
-                    why = "no answer comes any more";
-                    break;
+                Thread.sleep(PERIOD);
+                if (reading.tryLock()) {
+                    try {
+                        read(0);
+                    } finally {
+                        reading.unlock();
+                    }
+                    hasRead();
                 }
-                if (System.nanoTime() - looked >= PERIOD * 1_000_000L) {
-                    recorder.look();
-                    looked = System.nanoTime();
-                }
+                recorder.look();
             }
-        } catch (IOException | RuntimeException | Error e) {
+        } catch (IOException | InterruptedException | RuntimeException | Error e) {
             Operations.debug(e);
+            recorder.off("no answer comes any more");
         }
-        recorder.off(why);
     }
 
-    /** False where the other side is closed. */
-    private boolean read() throws IOException {
+    /** Waits for the answer to this question of the current thread, which is its last one; false where it does not come in time. An interrupt is kept. */
+    boolean await(Task task, int question, long longest) {
+        boolean interrupted = Thread.interrupted();
+        long end = System.nanoTime() + longest * 1_000_000;
+        waiting.add(task);
+        try {
+            for (long left = longest; left > 0 && !task.isAnswered(question) && Recorder.on == recorder; left = (end - System.nanoTime()) / 1_000_000) {
+                task.calm();
+                if (reading.tryLock()) {
+                    readFor(task, question, left);
+                } else {
+                    interrupted |= task.pause(question, left);
+                }
+                interrupted |= Thread.interrupted();
+            }
+        } catch (IOException e) {
+            recorder.off("no answer comes any more");
+        } finally {
+            waiting.remove(task);
+        }
+        if (interrupted) {
+            Thread.currentThread().interrupt();
+        }
+        return task.isAnswered(question);
+    }
+
+    private void readFor(Task task, int question, long longest) throws IOException {
+        try {
+            if (!task.isAnswered(question)) {
+                read(longest);
+            }
+        } finally {
+            reading.unlock();
+            waiting.remove(task);
+            hasRead();
+            waiting.add(task);
+        }
+    }
+
+    /** Another one who waits may read now. */
+    private void hasRead() {
+        for (Task task : waiting) {
+            task.wake();
+            return;
+        }
+    }
+
+    /** Reads what is there, once something is, or this many milliseconds have passed. */
+    private void read(long longest) throws IOException {
+        if (longest > 0) {
+            selector.select(longest);
+        }
         int got = recorder.lines().channel.read(bytes);
+        selector.selectedKeys().clear();
         bytes.flip();
         while (bytes.hasRemaining()) {
             char c = (char) (bytes.get() & 255);
@@ -66,8 +122,9 @@ final class Answers implements Runnable {
             }
         }
         bytes.clear();
-        selector.selectedKeys().clear();
-        return got >= 0;
+        if (got < 0) {
+            throw new IOException("the other side is closed");
+        }
     }
 
     private void take(String line) {

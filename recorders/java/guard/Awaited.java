@@ -1,6 +1,6 @@
 package armus;
 
-/** What threads wait for: a phaser of the monitor. What the monitor knows of it is brought up to date before each question, by what the object itself says at that moment. */
+/** What threads wait for: a phaser of the monitor. What the monitor knows of it is brought up to date before each question, by what the object itself says then. */
 abstract class Awaited {
     /** As the monitor knows it, behind the process. */
     final String name;
@@ -16,7 +16,16 @@ abstract class Awaited {
     /** Whether somebody who is known has still to act, so that a wait might not end. */
     abstract boolean isKept();
 
-    /** Says who has done his part. */
+    /** Looks who has still to act. Nothing is told. */
+    abstract void look();
+
+    /** Nobody is known to have to act. */
+    abstract void lookAway();
+
+    /** Whether what was waited for is now this task's, so that its wait is over. */
+    abstract boolean isTakenBy(Task task);
+
+    /** Says who has done his part, as it was when it was looked at. */
     abstract void settle(Recorder recorder);
 
     /** Says who has still to do it. */

@@ -87,7 +87,11 @@ final class ConstantPool {
     /** The number of a constant that names a method; it is added where it was not added before. */
     int method(String owner, String name, String descriptor) throws IOException {
         int of = pair(CLASS, text(owner), 0);
-        return pair(METHOD, of, pair(NAME_AND_TYPE, text(name), text(descriptor)));
+        return pair(METHOD, of, nameAndType(name, descriptor));
+    }
+
+    int nameAndType(String name, String descriptor) throws IOException {
+        return pair(NAME_AND_TYPE, text(name), text(descriptor));
     }
 
     private int text(String text) throws IOException {

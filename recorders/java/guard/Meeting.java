@@ -34,7 +34,8 @@ abstract class Meeting extends Awaited {
     /** How many have to come, or 0 where that does not count. */
     abstract int parties();
 
-    private void look() {
+    @Override
+    void look() {
         Object now = mark();
         if (mark == null || !now.equals(mark)) {
             if (mark != null && !isOpen(mark) && !isOpen(now) && !arrived.containsAll(members.keySet())) {
@@ -45,6 +46,16 @@ abstract class Meeting extends Awaited {
             arrived.clear();
             arrivals = 0;
         }
+    }
+
+    @Override
+    void lookAway() {
+        look();                                                   // its members come under the lock of the recorder
+    }
+
+    @Override
+    boolean isTakenBy(Task task) {
+        return false;
     }
 
     private void forget() {
@@ -112,7 +123,6 @@ abstract class Meeting extends Awaited {
 
     @Override
     void settle(Recorder recorder) {
-        look();
         for (Part part : ended) {
             part.end(recorder.lines());
         }

@@ -12,12 +12,11 @@ public final class Members {
 
     /** A thread is a party of each of these; said before it starts, so that nobody waits for it unseen. */
     public static void member(Thread thread, Object... objects) {
-        Recorder recorder = Recorder.on;
-        for (Object object : recorder == null ? new Object[0] : objects) {
+        for (Object object : Recorder.on == null ? new Object[0] : objects) {
             if (Meetings.kind(object) == null) {
                 Recorder.tell("member: of " + (object == null ? "null" : object.getClass().getName()) + " nobody is a member");
             } else {
-                recorder.member(thread, object);
+                Operations.member(thread, object);
             }
         }
     }

@@ -45,6 +45,17 @@ public final class Operations {
         }
     }
 
+    static void member(Thread thread, Object meeting) {
+        Recorder recorder = Recorder.on;
+        try {
+            if (recorder != null) {
+                recorder.member(thread, meeting);
+            }
+        } catch (RuntimeException | Error e) {
+            failed(recorder, e);
+        }
+    }
+
     private static Wait awaitTurn(Phaser phaser, int turn) {
         Recorder recorder = Recorder.on;
         try {
@@ -113,7 +124,7 @@ public final class Operations {
         } catch (InterruptedException e) {
             Thread.currentThread().interrupt();
         } catch (BrokenBarrierException | TimeoutException e) {
-            debug(e);
+            throw refused.refusal();
         }
         throw refused.refusal();
     }

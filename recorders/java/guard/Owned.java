@@ -3,6 +3,7 @@ package armus;
 /** What one thread alone has to end, where it is known: the holder of a lock, the runner of a future, a thread that is joined. */
 abstract class Owned extends Awaited {
     private Part part;
+    private Thread now;
 
     Owned(String name) {
         super(name);
@@ -10,6 +11,9 @@ abstract class Owned extends Awaited {
 
     /** Who has to act, or nothing where it is over or nobody knows. */
     abstract Thread keeper();
+
+    /** Whether who waits for it becomes the keeper himself. */
+    abstract boolean isTaken();
 
     @Override
     long turn() {
@@ -22,22 +26,32 @@ abstract class Owned extends Awaited {
     }
 
     @Override
+    void look() {
+        now = keeper();
+    }
+
+    @Override
+    void lookAway() {
+        now = null;
+    }
+
+    @Override
+    boolean isTakenBy(Task task) {
+        return isTaken() && now != null && task.is(now);
+    }
+
+    @Override
     void settle(Recorder recorder) {
-        if (part != null && !part.by.is(keeper())) {
+        if (part != null && (now == null || !part.by.is(now))) {
             release(recorder);
         }
     }
 
     @Override
     void keep(Recorder recorder) {
-        Thread keeper = part == null ? keeper() : null;
-        if (keeper != null) {
-            Task task = recorder.task(keeper);
-            recorder.hasGot(task, this);
-            if (isAwaited()) {
-                part = recorder.part(task);
-                part.lags(name, 0, recorder.lines());
-            }
+        if (now != null && part == null) {
+            part = recorder.part(recorder.task(now));
+            part.lags(name, 0, recorder.lines());
         }
     }
 

@@ -33,6 +33,11 @@ final class Owners {
             Object own = lock.get();
             return own == null ? null : inside.holder(own);
         }
+
+        @Override
+        boolean isTaken() {
+            return true;
+        }
     }
 
     private static final class RunBy extends Owned {
@@ -51,6 +56,11 @@ final class Owners {
             Object runner = own == null || inside.isDone(own) ? null : inside.runner(own);
             return runner instanceof Thread ? (Thread) runner : null;
         }
+
+        @Override
+        boolean isTaken() {
+            return false;
+        }
     }
 
     private static final class EndOf extends Owned {
@@ -65,6 +75,11 @@ final class Owners {
         Thread keeper() {
             Thread own = thread.get();
             return own == null || !own.isAlive() ? null : own;
+        }
+
+        @Override
+        boolean isTaken() {
+            return false;
         }
     }
 }

@@ -2,9 +2,9 @@ package armus;
 
 import java.lang.reflect.Method;
 import java.util.ArrayList;
-import java.util.Iterator;
 import java.util.List;
 import java.util.function.Function;
+import java.util.function.Predicate;
 import java.util.stream.Stream;
 
 /** Where in the program a call was made. */
@@ -24,15 +24,15 @@ final class Places {
 
     private static String of(StackTraceElement[] frames) {
         for (StackTraceElement frame : frames) {
-            if (isOfProgram(frame.getClassName(), frame.getLineNumber())) {
+            if (frame.getLineNumber() > 0 && isOfProgram(frame.getClassName())) {
                 return frame.getFileName() + ":" + frame.getLineNumber();
             }
         }
         return UNKNOWN;
     }
 
-    private static boolean isOfProgram(String name, int line) {
-        return line > 0 && !name.startsWith("armus.") && !name.startsWith("java.") && !name.startsWith("javax.") && !name.startsWith("jdk.") && !name.startsWith("sun.")
+    private static boolean isOfProgram(String name) {
+        return !name.startsWith("armus.") && !name.startsWith("java.") && !name.startsWith("javax.") && !name.startsWith("jdk.") && !name.startsWith("sun.")
             && !name.startsWith("com.sun.");
     }
 
@@ -53,12 +53,11 @@ final class Places {
     }
 
     /** The walker of stacks, which a Java 8 does not have. */
-    private static final class Walker implements Function<Stream<?>, String> {
+    private static final class Walker implements Function<Stream<?>, String>, Predicate<Object> {
         private final Object walker;
         private final Method walk;
         private final Method className;
-        private final Method fileName;
-        private final Method line;
+        private final Method element;
 
         private Walker() throws ReflectiveOperationException {
             Class<?> type = Class.forName("java.lang.StackWalker");
@@ -66,8 +65,7 @@ final class Places {
             walker = type.getMethod("getInstance").invoke(null);
             walk = type.getMethod("walk", Function.class);
             className = frame.getMethod("getClassName");
-            fileName = frame.getMethod("getFileName");
-            line = frame.getMethod("getLineNumber");
+            element = frame.getMethod("toStackTraceElement");
         }
 
         static Walker make() {
@@ -88,18 +86,27 @@ final class Places {
 
         @Override
         public String apply(Stream<?> frames) {
+            Object found = frames.filter(this).findFirst().orElse(null);
+            return found == null ? UNKNOWN : String.valueOf(line(found));
+        }
+
+        /** Whether a frame is one of the program that has a line. */
+        @Override
+        public boolean test(Object frame) {
             try {
-                for (Iterator<?> all = frames.iterator(); all.hasNext();) {
-                    Object frame = all.next();
-                    String name = (String) className.invoke(frame);
-                    if (!name.startsWith("armus.") && isOfProgram(name, (Integer) line.invoke(frame))) {
-                        return fileName.invoke(frame) + ":" + line.invoke(frame);
-                    }
-                }
+                return isOfProgram((String) className.invoke(frame)) && line(frame) != null;
+            } catch (ReflectiveOperationException e) {
+                return false;
+            }
+        }
+
+        private String line(Object frame) {
+            try {
+                StackTraceElement found = (StackTraceElement) element.invoke(frame);
+                return found.getLineNumber() > 0 ? found.getFileName() + ":" + found.getLineNumber() : null;
             } catch (ReflectiveOperationException e) {
                 return null;
             }
-            return UNKNOWN;
         }
     }
 }

@@ -1,6 +1,9 @@
 package armus;
 
+import java.io.FileDescriptor;
+import java.io.FileOutputStream;
 import java.io.IOException;
+import java.nio.charset.StandardCharsets;
 import java.util.ArrayList;
 import java.util.HashMap;
 import java.util.Iterator;
@@ -17,21 +20,31 @@ final class Recorder {
     /** Nothing where there is no recorder, or it is off: then everybody may wait. */
     static volatile Recorder on;
     private static final long LONGEST = 2000;    // so many milliseconds may pass until an answer comes
+    private static final int MOST_LOOKS = 50;    // so often is looked anew where somebody went on meanwhile
     private static final int MOST_OPEN = 500;    // so many answers may be on their way before one who need not wait for his does
 
     private final Lines lines;
     private final Inside inside;
     private final Tasks tasks;
+    private final Answers answers;
     private final Identities<Awaited> objects = new Identities<>();
     private final List<Wait> waits = new ArrayList<>();
     private final Set<Awaited> awaited = new LinkedHashSet<>();
     private final Map<String, Integer> counts = new HashMap<>();
     private volatile boolean hasMeetings;
+    private volatile int fence;
 
-    Recorder(Lines lines, Inside inside) {
+    Recorder(Lines lines, Inside inside) throws IOException {
         this.lines = lines;
         this.inside = inside;
         tasks = new Tasks(lines, inside);
+        answers = new Answers(this);
+    }
+
+    void begin() {
+        on = this;
+        look();
+        answers.start();
     }
 
     Lines lines() {
@@ -56,9 +69,13 @@ final class Recorder {
         return lines.process + "/" + base + (base.startsWith("end-of-") && number == 1 ? "" : "-" + number);
     }
 
-    /** A word of the recorder itself. */
+    /** A word of the recorder itself, which passes by what the program made of its own standard error. */
     static void tell(String text) {
-        System.err.println("armus: " + text);
+        try {
+            new FileOutputStream(FileDescriptor.err).write(("armus: " + text + "\n").getBytes(StandardCharsets.UTF_8));
+        } catch (IOException e) {
+            Operations.debug(e);
+        }
     }
 
     /** Nobody is asked any more. */
@@ -189,7 +206,7 @@ final class Recorder {
         if (!wait.isKept() && tasks.open() < MOST_OPEN) {
             return wait;                                          // nobody has to act: the answer is known
         }
-        if (!task.awaits(wait.question(), LONGEST)) {
+        if (!answers.await(task, wait.question(), LONGEST)) {
             giveUp();
             return wait;
         }
@@ -214,27 +231,51 @@ final class Recorder {
 
     // ---- what the monitor knows
 
-    /** First who went on, then who did his part, then who has still to act, and then who has ended. */
+    /** First who went on, then who did his part, then who has still to act, and then who had ended at the beginning of all this. */
     private void catchUp() {
+        List<Task> dead = tasks.dead();
+        int looks = 0;
+        while (!isStill() && looks < MOST_LOOKS) {
+            looks++;
+        }
+        for (Awaited one : awaited) {
+            if (looks == MOST_LOOKS) {
+                one.lookAway();
+            }
+            one.settle(this);
+        }
+        for (Awaited one : awaited) {
+            one.keep(this);
+        }
+        tasks.end(dead);
+    }
+
+    /** Looks at all that is waited for. True where all who are said to wait have stood in their waits while it looked: so whatever one of them had then, it had all the time. */
+    private boolean isStill() {
+        goOn();
+        for (Awaited one : awaited) {
+            one.look();
+        }
+        fence++;                                                  // what is read behind this is not older than what was read before
+        boolean isStill = true;
+        for (Wait wait : waits) {
+            if (wait.awaited.isTakenBy(wait.task)) {
+                wait.over();
+            }
+            isStill &= !wait.isOver();
+        }
+        return isStill;
+    }
+
+    private void goOn() {
         for (Iterator<Wait> all = waits.iterator(); all.hasNext();) {
             Wait wait = all.next();
             if (wait.isOver()) {
                 all.remove();
-                goes(wait);
+                lines.say(wait.task.name + " go");
+                unlist(wait);
             }
         }
-        for (Awaited one : awaited) {
-            one.settle(this);
-        }
-        for (Awaited one : new ArrayList<>(awaited)) {
-            one.keep(this);
-        }
-        tasks.endAll();
-    }
-
-    private void goes(Wait wait) {
-        lines.say(wait.task.name + " go");
-        unlist(wait);
     }
 
     private void unlist(Wait wait) {
@@ -250,14 +291,6 @@ final class Recorder {
     private void forget(Wait refused) {
         waits.remove(refused);
         unlist(refused);
-    }
-
-    /** Who holds a lock has it, though it has not gone on yet. */
-    void hasGot(Task task, Awaited what) {
-        Wait wait = task.wait;
-        if (wait != null && wait.awaited == what && waits.remove(wait)) {
-            goes(wait);
-        }
     }
 
     private void handOver() {

@@ -37,9 +37,9 @@ final class Rewriter {
     byte[] rewritten() throws IOException {
         int at = constants.end() + 6;
         at = members(at + 2 + 2 * bytes.two(at), false);
-        members(at, true);
+        at = members(at, true);
         if (!comesBack) {
-            handles();
+            handles(new References(bytes, constants, table(at)));
         }
         return changed ? constants.whole() : null;
     }
@@ -64,6 +64,18 @@ final class Rewriter {
         return at;
     }
 
+    /** Where the attribute of a class has its table of methods that make lambdas; 0 where it has none. */
+    private int table(int start) {
+        int at = start + 2;
+        for (int i = bytes.two(start); i > 0; i--) {
+            if (constants.text(bytes.two(at)).equals("BootstrapMethods")) {
+                return at + 6;
+            }
+            at += 6 + bytes.four(at + 2);
+        }
+        return 0;
+    }
+
     private void instructions(int start, int length) throws IOException {
         for (int i = 0; i < length;) {
             int at = start + i;
@@ -76,10 +88,10 @@ final class Rewriter {
     }
 
     private void call(int at, int code) throws IOException {
-        int method = stead(bytes.two(at + 1));
-        if (method != 0) {
+        String owner = listed(bytes.two(at + 1));
+        if (owner != null) {
+            bytes.putTwo(at + 1, stead(bytes.two(at + 1), owner));
             bytes.putOne(at, STATIC);
-            bytes.putTwo(at + 1, method);
             if (code == INTERFACE) {
                 bytes.putTwo(at + 3, 0);                          // two that do nothing
             }
@@ -103,28 +115,27 @@ final class Rewriter {
         return length;
     }
 
-    /** The number of the method of Operations that stands for the one of this number, or 0. */
-    private int stead(int method) throws IOException {
-        if (!constants.isMethod(method)) {
-            return 0;
-        }
-        String name = constants.nameOf(method);
-        String descriptor = constants.descriptorOf(method);
-        String owner = calls.owner(constants.ownerOf(method), name + descriptor);
-        return owner == null ? 0 : constants.method(OPERATIONS, name, "(L" + owner + ";" + descriptor.substring(1));
+    /** The listed class whose method this constant names, or nothing. */
+    private String listed(int method) throws IOException {
+        return constants.isMethod(method) ? calls.owner(constants.ownerOf(method), constants.nameOf(method) + constants.descriptorOf(method)) : null;
+    }
+
+    /** The number of the method of Operations that stands for this one. */
+    private int stead(int method, String owner) throws IOException {
+        return constants.method(OPERATIONS, constants.nameOf(method), "(L" + owner + ";" + constants.descriptorOf(method).substring(1));
     }
 
     /** References to listed methods. Where the class may read such a one from a file, by its kind and its name, they stay. */
-    private void handles() throws IOException {
+    private void handles(References references) throws IOException {
         for (int i = constants.count() - 1; i > 0; i--) {
             int at = constants.start(i);
-            if (at > 0 && bytes.one(at) == ConstantPool.HANDLE && (bytes.one(at + 1) == HANDLE_OF_VIRTUAL || bytes.one(at + 1) == HANDLE_OF_INTERFACE)) {
-                int method = stead(bytes.two(at + 2));
-                if (method != 0) {
-                    bytes.putOne(at + 1, HANDLE_OF_STATIC);
-                    bytes.putTwo(at + 2, method);
-                    changed = true;
-                }
+            boolean isHandle = at > 0 && bytes.one(at) == ConstantPool.HANDLE && (bytes.one(at + 1) == HANDLE_OF_VIRTUAL || bytes.one(at + 1) == HANDLE_OF_INTERFACE);
+            String owner = isHandle ? listed(bytes.two(at + 2)) : null;
+            if (owner != null && references.isOfLambdas(i)) {
+                references.capture(i, owner);
+                bytes.putTwo(at + 2, stead(bytes.two(at + 2), owner));
+                bytes.putOne(at + 1, HANDLE_OF_STATIC);
+                changed = true;
             }
         }
     }

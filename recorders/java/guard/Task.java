@@ -13,6 +13,7 @@ final class Task {
     private int memberships;
     private int asked;
     private int answered;
+    private boolean isWoken;
     private String refusal;
 
     Task(String name, Thread thread) {
@@ -56,23 +57,25 @@ final class Task {
         notifyAll();
     }
 
-    /** Waits for the answer to this question, which is its last one; false where it did not come in time. An interrupt is kept. */
-    synchronized boolean awaits(int question, long longest) {
-        boolean interrupted = false;
-        long end = System.nanoTime() + longest * 1_000_000;
-        long left = longest;
-        while (answered < question && left > 0 && Recorder.on != null) {
-            try {
-                wait(left);
-            } catch (InterruptedException e) {
-                interrupted = true;
-            }
-            left = (end - System.nanoTime()) / 1_000_000;
-        }
-        if (interrupted) {
-            Thread.currentThread().interrupt();
-        }
+    synchronized boolean isAnswered(int question) {
         return answered >= question;
+    }
+
+    /** From now on it is told whether it was woken. */
+    synchronized void calm() {
+        isWoken = false;
+    }
+
+    /** Waits until it is woken, or its question is answered, or this many milliseconds have passed; true where it was interrupted. */
+    synchronized boolean pause(int question, long longest) {
+        try {
+            if (!isWoken && answered < question) {
+                wait(longest);
+            }
+            return false;
+        } catch (InterruptedException e) {
+            return true;
+        }
     }
 
     /** The sentence of the last answer, or nothing. */
@@ -80,8 +83,9 @@ final class Task {
         return refusal;
     }
 
-    /** Nobody answers any more. */
+    /** Another one has read, or nobody answers any more. */
     synchronized void wake() {
+        isWoken = true;
         notifyAll();
     }
 }

@@ -52,16 +52,24 @@ final class Tasks {
         return task;
     }
 
-    /** Those whose threads have ended say so. */
-    void endAll() {
-        for (Iterator<Task> all = living.iterator(); all.hasNext();) {
-            Task task = all.next();
+    /** Those whose threads have ended by now. */
+    List<Task> dead() {
+        List<Task> dead = new ArrayList<>();
+        for (Task task : living) {
             if (task.wait == null && task.hasEnded(inside)) {
-                lines.say(task.name + " end");
-                all.remove();
-                ended.add(task);
+                dead.add(task);
             }
         }
+        return dead;
+    }
+
+    /** These have ended. Names that are not needed any more become free. */
+    void end(List<Task> dead) {
+        for (Task task : dead) {
+            lines.say(task.name + " end");
+        }
+        living.removeAll(dead);
+        ended.addAll(dead);
         for (Iterator<Task> all = ended.iterator(); all.hasNext();) {
             Task task = all.next();
             if (task.isForgotten()) {
