@@ -1,7 +1,7 @@
 /* The recorder of C and C++ programs on Linux: a library that is loaded before the program's own (LD_PRELOAD), so that nothing in the program changes. A thread that
  * may wait writes into its own slot for what and from where; a watcher looks at all slots every 50 ms, asks the kernel whether those threads sleep at what they say,
- * and announces who stood in the same wait at two looks. Seen are pthread barriers, joins, mutexes, read-write locks, conditions, semaphores, the teams of GCC's
- * OpenMP, and what waits at an address by syscall(SYS_futex), as std::barrier and std::latch do.
+ * and announces who stood in the same wait at two looks. Seen are pthread barriers, joins, mutexes, read-write locks, conditions, semaphores, the teams, tasks and locks
+ * of GCC's OpenMP, and what waits at an address by syscall(SYS_futex), as std::barrier and std::latch do.
  *
  * The recorder takes no signal, holds no lock, has no cancellation point of its own, and begins with the program's first thread or first wait. */
 #define _GNU_SOURCE
@@ -33,8 +33,8 @@
 #include <time.h>
 #include <unistd.h>
 
-enum kind { BARRIER, JOIN, MUTEX, RWLOCK, CONDITION, SEMAPHORE, CRITICAL, OMP_LOCK, TEAM, TEAM_END, IDLE, ADDRESS, KINDS };
-static const char *const kind_names[KINDS] = {"barrier", "end-of", "mutex", "rwlock", "condition", "semaphore", "critical", "lock", "team", "team-end", "idle", "address"};
+enum kind { BARRIER, JOIN, MUTEX, RWLOCK, CONDITION, SEMAPHORE, CRITICAL, OMP_LOCK, TEAM, TEAM_END, TASKS, IDLE, ADDRESS, KINDS };
+static const char *const kind_names[KINDS] = {"barrier", "end-of", "mutex", "rwlock", "condition", "semaphore", "critical", "lock", "team", "team-end", "tasks", "idle", "address"};
 enum state { FREE, LIVE, ENDING };
 enum { CHUNK = 256, CHUNKS = 256, OBJECTS = 4096, LINE = 512, NAME = 40, MILLISECOND = 1000000, PERIOD = 50, LONGEST = 1000 };
 
@@ -1114,6 +1114,19 @@ TEAM_WAIT(bool, GOMP_barrier_cancel)
 TEAM_WAIT(bool, GOMP_loop_end_cancel)
 TEAM_WAIT(bool, GOMP_sections_end_cancel)
 
+/* The tasks that a task waits for: whoever of the team finds them runs them, so any thread may act. The thread itself runs tasks meanwhile, in which it may wait for
+ * something else; then it counts as one that runs, until the outer wait is over. */
+#define TASKS_WAIT(name) \
+    REAL(void, name, void) \
+    void name(void) { \
+        struct slot *s = own_slot(); \
+        wait_begins(s, TASKS, s, HERE); \
+        real_##name()(); \
+        wait_ends(s); \
+    }
+TASKS_WAIT(GOMP_taskwait)
+TASKS_WAIT(GOMP_taskgroup_end)
+
 /* What a thread that takes a lock of OpenMP does, and one that gives it back. */
 #define TAKES(kind, name, object, parameters, words) TAKES_BEHIND(false, kind, name, object, parameters, words)
 #define TAKES_BEHIND(tried, kind, name, object, parameters, words) \
@@ -1155,6 +1168,25 @@ GIVES_BACK(GOMP_critical_end, &unnamed_critical, (void), ())
 GIVES_BACK(GOMP_critical_name_end, name, (void **name), (name))
 GIVES_BACK(omp_unset_lock, lock, (void *lock), (lock))
 GIVES_BACK(omp_unset_lock_, lock, (void *lock), (lock))
+
+/* A lock that its holder may take again is given back when it is the last time. How often it is taken says a further taking, which whoever has it is never denied, and
+ * which is given back at once. */
+#define NESTED(set, test, unset) \
+    TRIES(test, (void *lock), (lock)) \
+    TAKES_BEHIND(real_##test()(lock) != 0, OMP_LOCK, set, lock, (void *lock), (lock)) \
+    REAL(void, unset, void *) \
+    void unset(void *lock) { \
+        int taken = mine != NULL ? real_##test()(lock) : 0; \
+        if (taken == 2) { \
+            gives_back(lock); \
+        } \
+        if (taken > 0) { \
+            real_##unset()(lock); \
+        } \
+        real_##unset()(lock); \
+    }
+NESTED(omp_set_nest_lock, omp_test_nest_lock, omp_unset_nest_lock)
+NESTED(omp_set_nest_lock_, omp_test_nest_lock_, omp_unset_nest_lock_)
 
 /* ---- for the watcher of Python 3.8 to 3.12: the values of a frame's locals, each with a reference of its own. It is called with Python's lock held, and so at one moment;
  * nothing of it is of use where the frame is not laid out as those versions have it, and then its code is another than the one that is given. */

@@ -2,6 +2,9 @@
  * build for each MPI. A call counts what it begins and says in the slot of its thread for what it waits; a watcher in each rank announces every 50 ms what was counted
  * and who stood in the same call at several looks. No rank asks another one for anything, and the watcher calls no MPI.
  *
+ * With ARMUS_GUARD there is no watcher. A rank that has to wait first writes what it counted, asks, and reads its answer; where that refuses, the call gives an error. As long
+ * as it runs nobody is stuck because of it, so its counts need not be known before.
+ *
  * All lines of a rank are about itself: its phase on world.Barrier is the number of barriers of world that it came to, on 0>1 the number of messages that rank 0 sent
  * to rank 1, on 0<1 the number of receives that rank 1 began from rank 0. Different collectives are different phasers, so that two that do not fit are told. */
 #define _GNU_SOURCE
@@ -29,18 +32,18 @@
 #include <unistd.h>
 
 enum kind { BARRIER, ALLREDUCE, ALLGATHER, ALLGATHERV, ALLTOALL, ALLTOALLV, ALLTOALLW, REDUCE_SCATTER, REDUCE_SCATTER_BLOCK, IBARRIER, IALLREDUCE, IALLGATHER,
-            IALLTOALL, DUP, SPLIT, FINALIZE,        /* all wait for all */
+            IALLTOALL, DUP, SPLIT, WIN_CREATE, WIN_FENCE, WIN_FREE, FINALIZE,   /* all wait for all */
             SCAN, EXSCAN,                           /* the last rank waits for all */
             REDUCE, GATHER, GATHERV,                /* the root waits for all */
             BCAST, SCATTER, SCATTERV, IBCAST, KINDS, /* all wait for the root */
-            SEND, RECEIVE, ANY, ONE_OF, ALL_OF, NONE };
+            SEND, RECEIVE, POST, COMPLETE, ANY, ONE_OF, ALL_OF, NONE };
 static const char *const kind_names[KINDS] = {"Barrier", "Allreduce", "Allgather", "Allgatherv", "Alltoall", "Alltoallv", "Alltoallw", "Reduce_scatter",
-    "Reduce_scatter_block", "Ibarrier", "Iallreduce", "Iallgather", "Ialltoall", "Comm_dup", "Comm_split", "Finalize", "Scan", "Exscan", "Reduce", "Gather", "Gatherv", "Bcast",
+    "Reduce_scatter_block", "Ibarrier", "Iallreduce", "Iallgather", "Ialltoall", "Comm_dup", "Comm_split", "Win_create", "Win_fence", "Win_free", "Finalize", "Scan", "Exscan", "Reduce", "Gather", "Gatherv", "Bcast",
     "Scatter", "Scatterv", "Ibcast"};
 #define FIRST_OF_LAST SCAN
 #define FIRST_ROOTED REDUCE
 #define FIRST_FROM_ROOT BCAST
-enum { FROM_ROOT = KINDS - BCAST, RANKS = 128, THREADS = 64, REQUESTS = 1024, PARTS = 32, LINE = 512, NAME = 40, PERIOD = 50, REACHED_IN = 2000 };
+enum { FROM_ROOT = KINDS - BCAST, RANKS = 128, WINDOW_RANKS = 32, THREADS = 64, REQUESTS = 1024, PARTS = 32, LINE = 512, NAME = 40, PERIOD = 50, REACHED_IN = 2000 };
 
 struct communicator {
     bool named, gone, between;                      /* between: an inter-communicator, whose collectives wait for the other side alone */
@@ -53,8 +56,17 @@ struct communicator {
     unsigned said[KINDS];                           /* the watcher's: what is announced; of those from a root only where this rank is the root */
     bool joined;
     _Atomic(unsigned) *from[FROM_ROOT];             /* how often each root was one */
-    unsigned made;                                  /* communicators made from it */
+    unsigned made, windows;                         /* communicators and windows made from it */
+    struct epochs *epochs;                          /* of a window; else nothing */
     struct communicator *next;
+};
+
+/* The epochs of a window between this rank and each other one, of windows with few ranks. */
+struct epochs {
+    _Atomic(unsigned) posted[WINDOW_RANKS], completed[WINDOW_RANKS];  /* how often this rank opened its memory to that one; how often it was done with that one's */
+    unsigned started[WINDOW_RANKS];                 /* how often it began to use that one's */
+    unsigned said_posted[WINDOW_RANKS], said_completed[WINDOW_RANKS];
+    int target[WINDOW_RANKS], targets, origin[WINDOW_RANKS], origins;  /* of the epochs that go on */
 };
 
 /* One of several requests that a call waits for. */
@@ -69,6 +81,7 @@ struct slot {
     struct part part[PARTS];                        /* of ONE_OF and ALL_OF; written before the counter */
     int parts;
     int depth;
+    char refusal[LINE];                             /* the sentence by which the call was refused */
     char task[NAME + 24];
     /* the watcher's */
     bool announced;
@@ -84,7 +97,7 @@ static _Atomic(unsigned) slot_count;
 static __thread struct slot *mine;
 static _Atomic(struct communicator *) all;
 static struct communicator world;
-static int key = MPI_KEYVAL_INVALID, rank = -1, size;
+static int key = MPI_KEYVAL_INVALID, window_key = MPI_KEYVAL_INVALID, rank = -1, size;
 static _Atomic(unsigned) sent[RANKS], begun[RANKS], taken[RANKS], begun_any;
 static unsigned said_sent[RANKS], said_begun[RANKS];
 static _Atomic(bool) sends_uncounted, receives_uncounted, on;
@@ -96,6 +109,27 @@ static pthread_mutex_t line_lock = PTHREAD_MUTEX_INITIALIZER;   /* of two thread
 static pthread_mutex_t made_lock = PTHREAD_MUTEX_INITIALIZER;   /* of the table of inter-communicators */
 static pthread_t watcher;
 static _Atomic(bool) stopping;
+
+/* ---- the guard */
+enum { ANSWER_IN = 5000, COUNTED = 2 };             /* milliseconds */
+static bool guard, has_threads;                     /* it asks; several threads call MPI, and it asks no more */
+static __thread bool may_fail;                      /* the call that begins is one of C, which gives an error */
+static __thread _Atomic(unsigned) *counted[COUNTED];  /* what it counted already, and takes back where it is refused */
+static void ask(struct slot *s);
+static void asks_no_more(void);
+
+/* A call begins that may be refused. */
+static void asks_now(void) {
+    may_fail = guard;
+    counted[0] = counted[1] = NULL;
+}
+
+static unsigned counts_at(_Atomic(unsigned) *counter) {
+    counted[counted[0] != NULL] = counter;
+    return atomic_fetch_add(counter, 1);
+}
+
+static bool is_refused(const struct slot *s) { return s != NULL && s->refusal[0] != 0; }
 
 /* ---- lines */
 static char text[1 << 17];
@@ -162,6 +196,8 @@ static struct slot *own_slot(void) {
 
 static struct slot *begins(enum kind kind, struct communicator *of, int peer, unsigned needs, const void *from) {
     struct slot *s = atomic_load_explicit(&on, memory_order_relaxed) ? own_slot() : NULL;
+    bool fails_here = may_fail;
+    may_fail = false;                               /* a call inside of another one is MPI's own */
     if (s == NULL || s->depth++ > 0) {
         return NULL;
     }
@@ -172,6 +208,14 @@ static struct slot *begins(enum kind kind, struct communicator *of, int peer, un
     atomic_store_explicit(&s->needs, needs, memory_order_relaxed);
     atomic_store_explicit(&s->from, from, memory_order_relaxed);
     atomic_store_explicit(&s->count, count + 1, memory_order_release);
+    if (guard) {
+        s->refusal[0] = 0;
+        if (s != slots) {
+            asks_no_more();
+        } else if (fails_here && (kind < KINDS || kind == RECEIVE)) {
+            ask(s);
+        }
+    }
     return s;
 }
 
@@ -219,6 +263,8 @@ static void ends(struct slot *s) {
 
 static bool is_inside(void) { return mine != NULL && mine->depth > 0; }
 
+static bool counts(void) { return atomic_load_explicit(&on, memory_order_relaxed) && !is_inside(); }
+
 /* ---- the watcher */
 static const char *holder(void) {
     static char name[NAME + 24];
@@ -238,6 +284,11 @@ static void moves(const char *phaser, unsigned *said, unsigned now, bool joined)
     *said = now;
 }
 
+/* The phaser of what one rank of a window does for another one. */
+static void epoch_phaser(char *to, const struct communicator *c, int kind, int from, int for_whom) {
+    snprintf(to, 2 * NAME, "%s.%s-%d-for-%d", c->name, kind == POST ? "Win_post" : "Win_complete", c->world[from], c->world[for_whom]);
+}
+
 /* The phaser of a kind; of an inter-communicator each side has its own, at which the other one waits. */
 static void phaser_of(char *to, const struct communicator *c, int kind, int root, bool waits) {
     if (kind >= FIRST_FROM_ROOT) {
@@ -249,11 +300,29 @@ static void phaser_of(char *to, const struct communicator *c, int kind, int root
     }
 }
 
+/* What the counts of a window's epochs say. */
+static void say_epochs(struct communicator *c, bool leaves) {
+    char phaser[2 * NAME];
+    for (int r = 0; r < c->size && c->size <= WINDOW_RANKS; r++) {
+        for (int posts = 0; posts < 2 && r != c->me; posts++) {
+            epoch_phaser(phaser, c, posts ? POST : COMPLETE, c->me, r);
+            if (leaves) {
+                say("%s leave %s/%s", holder(), job, phaser);
+            } else if (posts) {
+                moves(phaser, &c->epochs->said_posted[r], atomic_load(&c->epochs->posted[r]), c->joined);
+            } else {
+                moves(phaser, &c->epochs->said_completed[r], atomic_load(&c->epochs->completed[r]), c->joined);
+            }
+        }
+    }
+}
+
 /* What a communicator's counts say. leaves: the rank is no member of any of its phasers any more. */
 static void say_communicator(struct communicator *c, bool leaves) {
     char phaser[2 * NAME];
     for (int kind = 0; kind < KINDS; kind++) {
-        if ((kind == FINALIZE && c != &world) || (c->between && kind >= FIRST_OF_LAST)) {
+        bool of_window = kind == WIN_FENCE || kind == WIN_FREE;
+        if (of_window != (c->epochs != NULL) || (kind == FINALIZE && c != &world) || (c->between && kind >= FIRST_OF_LAST)) {
             continue;
         }
         phaser_of(phaser, c, kind, c->me, false);
@@ -262,6 +331,9 @@ static void say_communicator(struct communicator *c, bool leaves) {
         } else {
             moves(phaser, &c->said[kind], atomic_load(kind >= FIRST_FROM_ROOT ? &c->from[kind - FIRST_FROM_ROOT][c->me] : &c->came[kind]), c->joined);
         }
+    }
+    if (c->epochs != NULL) {
+        say_epochs(c, leaves);
     }
     c->joined = !leaves;
 }
@@ -347,6 +419,10 @@ static bool event_of(char *phaser, const struct part *p) {
             phaser_of(phaser, c, p->kind, p->peer, true);
         }
         return waits;
+    }
+    if (p->kind == POST || p->kind == COMPLETE) {
+        epoch_phaser(phaser, c, p->kind, p->peer, c->me);
+        return true;
     }
     if ((p->kind != SEND && p->kind != RECEIVE) || size > RANKS || p->peer < 0) {
         return false;
@@ -449,7 +525,7 @@ static bool wait_line(struct slot *s) {
 /* So many looks a call has to stand in. A collective waits for the others in any case; a message that is on its way, or that is sent without a word, goes on by itself. */
 static unsigned patience(const struct slot *s) {
     int kind = atomic_load(&s->kind);
-    return kind < KINDS ? 2 : kind == ANY || kind == ONE_OF || kind == ALL_OF ? 10 : 3;
+    return kind < KINDS ? 2 : kind == SEND || kind == RECEIVE ? 3 : 10;
 }
 
 /* A wait is announced where the thread still stands in it behind the last word: else all of it is taken back before it is written. */
@@ -500,6 +576,140 @@ static void look(void) {
     pthread_mutex_unlock(&line_lock);
 }
 
+/* ---- questions */
+/* Several threads of a rank call MPI: nobody is refused because of this rank any more, and nothing of it is. */
+static void asks_no_more(void) {
+    pthread_mutex_lock(&line_lock);
+    if (!has_threads) {
+        has_threads = true;
+        if (slots[0].told != 0) {
+            goes_on(&slots[0]);
+        }
+        for (struct communicator *c = atomic_load(&all); c != NULL; c = c->next) {
+            if (c->joined) {
+                say_communicator(c, true);
+            }
+        }
+        if (!left_sends) {
+            say_pairs(true, true);
+        }
+        if (!left_receives) {
+            say_pairs(false, true);
+        }
+        left_sends = left_receives = true;
+        hand_over();
+    }
+    pthread_mutex_unlock(&line_lock);
+}
+
+static void turns_off(const char *why) {
+    if (atomic_exchange(&on, false) && why != NULL) {
+        char line[LINE];
+        int n = snprintf(line, sizeof line, "armus: %s: from now on every wait of rank %d is let through\n", why, rank);
+        say("# off");
+        hand_over();
+        if (n > 0 && write(2, line, (size_t)n) < 0) {
+            return;                                            /* there is nobody to be told */
+        }
+    }
+}
+
+/* Whether this is the answer. */
+static bool is_answer(struct slot *s, char *line) {
+    if (strcmp(line, "off") == 0) {
+        turns_off(NULL);
+        return true;
+    }
+    char *name = strchr(line, ' ');
+    size_t n = strlen(s->task);
+    if (name == NULL || strncmp(name + 1, s->task, n) != 0 || (name[1 + n] != 0 && name[1 + n] != ':')) {
+        return false;
+    }
+    if (line[0] == 'r') {
+        snprintf(s->refusal, sizeof s->refusal, "%s", name[1 + n] == ':' ? name + n + 3 : "a deadlock");
+    }
+    if (line[0] != 'w') {
+        __atomic_store_n(&s->told, 0, __ATOMIC_SEQ_CST);       /* it was refused, or it waits unseen */
+    }
+    return true;
+}
+
+/* Reads up to the answer. No other thread reads. */
+static void take_answer(struct slot *s) {
+    static char kept[8192];
+    static size_t have;
+    struct timespec now, begun;
+    clock_gettime(CLOCK_MONOTONIC, &begun);
+    for (bool is_there = false; !is_there && atomic_load(&on);) {
+        char *end = memchr(kept, '\n', have);
+        if (end != NULL) {
+            *end = 0;
+            is_there = is_answer(s, kept);
+            have -= (size_t)(end + 1 - kept);
+            memmove(kept, end + 1, have);
+            continue;
+        }
+        clock_gettime(CLOCK_MONOTONIC, &now);
+        long left = ANSWER_IN - (now.tv_sec - begun.tv_sec) * 1000 - (now.tv_nsec - begun.tv_nsec) / 1000000;
+        struct pollfd reached = {.fd = out, .events = POLLIN};
+        if (left <= 0 || have == sizeof kept) {
+            turns_off("no answer came in 5 seconds");
+        } else if (poll(&reached, 1, (int)left) > 0) {
+            ssize_t got = recv(out, kept + have, sizeof kept - have, MSG_DONTWAIT);
+            have += got > 0 ? (size_t)got : 0;
+            if (got == 0 || (got < 0 && errno != EAGAIN && errno != EINTR)) {
+                turns_off("no answer comes any more");
+            }
+        }
+    }
+}
+
+/* What was counted, and the question; then the answer. */
+static void ask(struct slot *s) {
+    int saved = errno;
+    bool asks = false;
+    pthread_mutex_lock(&line_lock);
+    if (!has_threads && out >= 0) {
+        say_counts();
+        asks = wait_line(s);
+        if (asks) {
+            __atomic_store_n(&s->told, atomic_load(&s->count), __ATOMIC_SEQ_CST);
+        }
+        hand_over();
+    }
+    pthread_mutex_unlock(&line_lock);
+    if (asks && atomic_load(&on)) {
+        take_answer(s);
+    }
+    errno = saved;
+}
+
+/* What a refused call gives, by the error handler of its communicator. It has not begun: what it counted is taken back. */
+static int fails(struct slot *s, MPI_Comm handle) {
+    static int class = -1;
+    char line[MPI_MAX_ERROR_STRING];
+    int code = MPI_ERR_OTHER;
+    for (int i = 0; i < COUNTED; i++) {
+        if (counted[i] != NULL) {
+            atomic_fetch_sub(counted[i], 1);
+        }
+    }
+    pthread_mutex_lock(&line_lock);
+    say_counts();
+    hand_over();
+    pthread_mutex_unlock(&line_lock);
+    snprintf(line, sizeof line, "deadlock: %.*s", (int)sizeof line - 20, s->refusal);
+    s->refusal[0] = 0;
+    if (class >= 0 || PMPI_Add_error_class(&class) == MPI_SUCCESS) {
+        PMPI_Add_error_string(class, "a wait that would never end");
+        if (PMPI_Add_error_code(class, &code) == MPI_SUCCESS) {
+            PMPI_Add_error_string(code, line);
+        }
+    }
+    PMPI_Comm_call_errhandler(handle, code);
+    return code;
+}
+
 static void *watch(void *nothing) {
     struct timespec pause = {0, PERIOD * 1000000L};
     while (!atomic_load(&stopping) && out >= 0) {
@@ -533,6 +743,13 @@ static int least_of(const int *ranks, int n) {
     return least;
 }
 
+static void enlist(struct communicator *c) {
+    c->next = atomic_load(&all);
+    while (!atomic_compare_exchange_weak(&all, &c->next, c)) {
+        continue;
+    }
+}
+
 static void known_ranks(struct communicator *c, MPI_Comm handle) {
     MPI_Group own, others;
     int between = 0;
@@ -554,10 +771,7 @@ static void known_ranks(struct communicator *c, MPI_Comm handle) {
     for (int k = 0; k < FROM_ROOT; k++) {
         c->from[k] = calloc((size_t)c->size, sizeof *c->from[k]);
     }
-    c->next = atomic_load(&all);
-    while (!atomic_compare_exchange_weak(&all, &c->next, c)) {
-        continue;
-    }
+    enlist(c);
 }
 
 /* What is known of a communicator; of one that came in a way that is not wrapped, who belongs to it. */
@@ -624,9 +838,8 @@ static void made_between(MPI_Comm handle) {
     pthread_mutex_unlock(&made_lock);
 }
 
-static int is_freed(MPI_Comm handle, int number, void *value, void *extra) {
-    struct communicator *c = value;
-    (void)handle, (void)number, (void)extra;
+/* The rank has to do with a communicator or a window no more. */
+static void leaves_all(struct communicator *c) {
     pthread_mutex_lock(&line_lock);
     if (c->joined && out >= 0 && (shared || slots[0].told == 0)) {
         say_communicator(c, true);
@@ -634,7 +847,66 @@ static int is_freed(MPI_Comm handle, int number, void *value, void *extra) {
     }
     c->gone = true;
     pthread_mutex_unlock(&line_lock);
+}
+
+static int is_freed(MPI_Comm handle, int number, void *value, void *extra) {
+    (void)handle, (void)number, (void)extra;
+    leaves_all(value);
     return MPI_SUCCESS;
+}
+
+/* ---- windows */
+static int window_is_freed(MPI_Win handle, int number, void *value, void *extra) {
+    (void)handle, (void)number, (void)extra;
+    leaves_all(value);
+    return MPI_SUCCESS;
+}
+
+static struct communicator *known_window(MPI_Win handle) {
+    void *found = NULL;
+    int is_there = 0;
+    if (handle != MPI_WIN_NULL && window_key != MPI_KEYVAL_INVALID) {
+        PMPI_Win_get_attr(handle, window_key, &found, &is_there);
+    }
+    return is_there ? found : NULL;
+}
+
+/* A window has the ranks of the communicator that it was made of, and is named as which one of it. */
+static void window_made(MPI_Comm parent, MPI_Win handle) {
+    struct communicator *p = known(parent), *c;
+    if (p == NULL || !p->named || !atomic_load(&on) || handle == MPI_WIN_NULL) {
+        return;
+    }
+    p->windows++;
+    c = calloc(1, sizeof *c);
+    struct epochs *epochs = calloc(1, sizeof *epochs);
+    if (c == NULL || epochs == NULL) {
+        free(c);
+        free(epochs);
+        return;
+    }
+    *c = (struct communicator){.size = p->size, .me = p->me, .world = p->world, .peers = p->size, .peer = p->world, .epochs = epochs};
+    int n = snprintf(c->name, sizeof c->name, p == &world ? "%.0swin-%u" : "%s.win-%u", p->name, p->windows);
+    c->named = n > 0 && n < NAME;
+    enlist(c);
+    PMPI_Win_set_attr(handle, window_key, c);
+}
+
+/* The ranks of a group, by their numbers in the window; -1 where it is not one of few. */
+static int ranks_of(MPI_Group group, MPI_Win handle, const struct communicator *c, int *to) {
+    MPI_Group of_window;
+    int numbers[WINDOW_RANKS], n = 0;
+    PMPI_Group_size(group, &n);
+    if (c->size > WINDOW_RANKS || n > WINDOW_RANKS || n > c->size) {
+        return -1;
+    }
+    for (int i = 0; i < n; i++) {
+        numbers[i] = i;
+    }
+    PMPI_Win_get_group(handle, &of_window);
+    PMPI_Group_translate_ranks(group, n, numbers, of_window, to);
+    PMPI_Group_free(&of_window);
+    return n;
 }
 
 /* ---- begin and end */
@@ -743,7 +1015,9 @@ static void begin(const void *from) {
         return;
     }
     say("# process %s", process);
+    guard = getenv("ARMUS_GUARD") != NULL;
     PMPI_Comm_create_keyval(MPI_COMM_NULL_COPY_FN, is_freed, &key, NULL);
+    PMPI_Win_create_keyval(MPI_WIN_NULL_COPY_FN, window_is_freed, &window_key, NULL);
     snprintf(world.name, sizeof world.name, "world");
     world.named = true;
     known_ranks(&world, MPI_COMM_WORLD);
@@ -751,6 +1025,10 @@ static void begin(const void *from) {
     struct slot *s = own_slot();
     atomic_store(&s->from, from);
     look();
+    if (guard) {
+        errno = saved;
+        return;
+    }
     sigfillset(&every);
     pthread_sigmask(SIG_SETMASK, &every, &own);
     if (pthread_create(&watcher, NULL, watch, NULL) != 0) {
@@ -765,7 +1043,9 @@ static void begin(const void *from) {
 static void end(void) {
     if (atomic_load(&on)) {
         atomic_store(&stopping, true);
-        pthread_join(watcher, NULL);
+        if (!guard) {
+            pthread_join(watcher, NULL);
+        }
         pthread_mutex_lock(&line_lock);
         for (struct communicator *c = atomic_load(&all); c != NULL; c = c->next) {
             if (c->joined && !c->gone) {
@@ -814,7 +1094,7 @@ static unsigned comes(enum kind kind, struct communicator *c, int root) {
     if (c == NULL || (c->between ? kind >= FIRST_OF_LAST : kind >= FIRST_ROOTED && (root < 0 || root >= c->size))) {
         return 0;
     }
-    return kind >= FIRST_FROM_ROOT ? atomic_fetch_add(&c->from[kind - FIRST_FROM_ROOT][root], 1) + 1 : atomic_fetch_add(&c->came[kind], 1) + 1;
+    return counts_at(kind >= FIRST_FROM_ROOT ? &c->from[kind - FIRST_FROM_ROOT][root] : &c->came[kind]) + 1;
 }
 
 static struct slot *collective(enum kind kind, MPI_Comm handle, int root, bool needs_data, const void *from) {
@@ -844,8 +1124,9 @@ static bool all_send(const int *counts, MPI_Comm handle, bool is_of_own) {
 
 #define COLLECTIVE(KIND, name, handle, root, needs_data, parameters, words) \
     int MPI_##name parameters { \
+        asks_now(); \
         struct slot *s = collective(KIND, handle, root, needs_data, HERE); \
-        int result = PMPI_##name words; \
+        int result = is_refused(s) ? fails(s, handle) : PMPI_##name words; \
         ends(s); \
         return result; \
     }
@@ -869,18 +1150,23 @@ COLLECTIVE(SCATTER, Scatter, h, r, m > 0, (const void *a, int n, MPI_Datatype t,
 COLLECTIVE(SCATTERV, Scatterv, h, r, m > 0, (const void *a, const int *n, const int *d, MPI_Datatype t, void *b, int m, MPI_Datatype u, int r, MPI_Comm h), (a, n, d, t, b, m, u, r, h))
 
 int MPI_Finalize(void) {
+    asks_now();
     struct slot *s = collective(FINALIZE, MPI_COMM_WORLD, 0, true, HERE);
-    int result = PMPI_Finalize();
+    bool refused = is_refused(s);
+    int result = refused ? fails(s, MPI_COMM_WORLD) : PMPI_Finalize();
     ends(s);
-    end();
+    if (!refused) {
+        end();
+    }
     return result;
 }
 
 #define MAKES(name, how, parent, to, parameters, words) MAKES_AS(NONE, name, how, parent, to, parameters, words)
 #define MAKES_AS(KIND, name, how, parent, to, parameters, words) \
     int MPI_##name parameters { \
+        asks_now(); \
         struct slot *s = KIND < KINDS ? collective(KIND, parent, 0, true, HERE) : begins(NONE, NULL, 0, 0, HERE); \
-        int result = PMPI_##name words; \
+        int result = is_refused(s) ? fails(s, parent) : PMPI_##name words; \
         if (s != NULL && result == MPI_SUCCESS) { \
             made(parent, *to, how); \
         } \
@@ -909,16 +1195,135 @@ int MPI_Intercomm_create(MPI_Comm own, int leader, MPI_Comm through, int other, 
 
 MAKES(Intercomm_merge, "merge", h, to, (MPI_Comm h, int high, MPI_Comm *to), (h, high, to))
 
+/* ---- windows. Each rank's part of one is made and freed with all others; a fence that ends an epoch waits for all. An epoch between post and wait ends when each rank
+ * that it is for has completed; one between start and complete goes on when each rank that it uses has posted. Locks are not seen: the holder is not known, and the rank
+ * whose memory it is may act in any call. */
+#define MAKES_WINDOW(name, parameters, words) \
+    int MPI_##name parameters { \
+        struct slot *s = collective(WIN_CREATE, h, 0, true, HERE); \
+        int result = PMPI_##name words; \
+        if (s != NULL && result == MPI_SUCCESS) { \
+            window_made(h, *to); \
+        } \
+        ends(s); \
+        return result; \
+    }
+MAKES_WINDOW(Win_create, (void *a, MPI_Aint n, int unit, MPI_Info i, MPI_Comm h, MPI_Win *to), (a, n, unit, i, h, to))
+MAKES_WINDOW(Win_allocate, (MPI_Aint n, int unit, MPI_Info i, MPI_Comm h, void *a, MPI_Win *to), (n, unit, i, h, a, to))
+MAKES_WINDOW(Win_allocate_shared, (MPI_Aint n, int unit, MPI_Info i, MPI_Comm h, void *a, MPI_Win *to), (n, unit, i, h, a, to))
+MAKES_WINDOW(Win_create_dynamic, (MPI_Info i, MPI_Comm h, MPI_Win *to), (i, h, to))
+
+static struct slot *of_window(enum kind kind, MPI_Win handle, bool waits, const void *from) {
+    struct communicator *c = counts() ? known_window(handle) : NULL;
+    unsigned needs = comes(kind, c, 0);
+    return begins(waits && needs > 0 ? kind : NONE, c, 0, needs, from);
+}
+
+int MPI_Win_fence(int how, MPI_Win w) {
+    struct slot *s = of_window(WIN_FENCE, w, (how & MPI_MODE_NOPRECEDE) == 0, HERE);
+    int result = PMPI_Win_fence(how, w);
+    ends(s);
+    return result;
+}
+
+/* One that has no locks need not wait. */
+static bool has_locks(MPI_Win w) {
+    MPI_Info info;
+    char value[8] = "";
+    int is_there = 0;
+    if (PMPI_Win_get_info(w, &info) == MPI_SUCCESS) {
+        PMPI_Info_get(info, "no_locks", sizeof value - 1, value, &is_there);
+        PMPI_Info_free(&info);
+    }
+    return !is_there || strcmp(value, "true") != 0;
+}
+
+int MPI_Win_free(MPI_Win *w) {
+    struct slot *s = of_window(WIN_FREE, *w, counts() && has_locks(*w), HERE);
+    int result = PMPI_Win_free(w);
+    ends(s);
+    return result;
+}
+
+/* A call that waits until each of these ranks has posted, or completed, so often. */
+static struct slot *waits_for_ranks(enum kind kind, struct communicator *c, int n, const int *ranks, const unsigned *needed, const void *from) {
+    struct slot *s = counts() && c != NULL && n > 0 ? own_slot() : NULL;
+    if (s == NULL) {
+        return begins(NONE, NULL, 0, 0, from);
+    }
+    s->parts = 0;
+    for (int i = 0; i < n && s->parts < PARTS; i++) {
+        if (ranks[i] >= 0 && ranks[i] != c->me) {
+            s->part[s->parts++] = (struct part){kind, ranks[i], c->world[ranks[i]], needed[ranks[i]], c};
+        }
+    }
+    if (s->parts == 1) {
+        return begins(kind, c, s->part[0].peer, s->part[0].needs, from);
+    }
+    return begins(s->parts == 0 ? NONE : ALL_OF, NULL, -1, 0, from);
+}
+
+int MPI_Win_post(MPI_Group g, int how, MPI_Win w) {
+    struct communicator *c = counts() ? known_window(w) : NULL;
+    if (c != NULL) {
+        c->epochs->origins = ranks_of(g, w, c, c->epochs->origin);
+        for (int i = 0; i < c->epochs->origins; i++) {
+            atomic_fetch_add(&c->epochs->posted[c->epochs->origin[i]], 1);
+        }
+    }
+    struct slot *s = begins(NONE, NULL, 0, 0, HERE);
+    int result = PMPI_Win_post(g, how, w);
+    ends(s);
+    return result;
+}
+
+int MPI_Win_start(MPI_Group g, int how, MPI_Win w) {
+    struct communicator *c = counts() ? known_window(w) : NULL;
+    if (c != NULL) {
+        c->epochs->targets = ranks_of(g, w, c, c->epochs->target);
+        for (int i = 0; i < c->epochs->targets; i++) {
+            c->epochs->started[c->epochs->target[i]]++;
+        }
+    }
+    struct slot *s = waits_for_ranks(POST, c, c != NULL ? c->epochs->targets : 0, c != NULL ? c->epochs->target : NULL, c != NULL ? c->epochs->started : NULL, HERE);
+    int result = PMPI_Win_start(g, how, w);
+    ends(s);
+    return result;
+}
+
+int MPI_Win_complete(MPI_Win w) {
+    struct communicator *c = counts() ? known_window(w) : NULL;
+    for (int i = 0; c != NULL && i < c->epochs->targets; i++) {
+        atomic_fetch_add(&c->epochs->completed[c->epochs->target[i]], 1);
+    }
+    struct slot *s = waits_for_ranks(POST, c, c != NULL ? c->epochs->targets : 0, c != NULL ? c->epochs->target : NULL, c != NULL ? c->epochs->started : NULL, HERE);
+    int result = PMPI_Win_complete(w);
+    ends(s);
+    return result;
+}
+
+int MPI_Win_wait(MPI_Win w) {
+    struct communicator *c = counts() ? known_window(w) : NULL;
+    unsigned needed[WINDOW_RANKS] = {0};
+    for (int r = 0; c != NULL && r < WINDOW_RANKS; r++) {
+        needed[r] = atomic_load(&c->epochs->posted[r]);
+    }
+    struct slot *s = waits_for_ranks(COMPLETE, c, c != NULL ? c->epochs->origins : 0, c != NULL ? c->epochs->origin : NULL, needed, HERE);
+    int result = PMPI_Win_wait(w);
+    ends(s);
+    return result;
+}
+
 /* ---- messages: counted for each pair of ranks of world, all tags and communicators together. So a receive waits for less than it needs, and never for more. */
 static int world_rank(const struct communicator *c, int r) { return c != NULL && r >= 0 && r < c->peers && c->peer[r] < RANKS && c->peer[r] != rank ? c->peer[r] : -1; }
 
-static unsigned sends_to(int peer) { return peer >= 0 ? atomic_fetch_add(&sent[peer], 1) + 1 : 0; }
+static unsigned sends_to(int peer) { return peer >= 0 ? counts_at(&sent[peer]) + 1 : 0; }
 
 static unsigned receives_from(int peer) {
     if (peer < 0) {
         return 0;
     }
-    atomic_fetch_add(&begun[peer], 1);
+    counts_at(&begun[peer]);
     return atomic_load(&taken[peer]) + 1;
 }
 
@@ -928,8 +1333,6 @@ static void was_taken(const struct communicator *c, const MPI_Status *status) {
         atomic_fetch_add(&taken[from], 1);
     }
 }
-
-static bool counts(void) { return atomic_load_explicit(&on, memory_order_relaxed) && !is_inside(); }
 
 #define SENDS(name) \
     int MPI_##name(const void *a, int n, MPI_Datatype t, int to, int tag, MPI_Comm h) { \
@@ -956,9 +1359,10 @@ static struct slot *receives(int from, const struct communicator *c, const void 
 int MPI_Recv(void *a, int n, MPI_Datatype t, int from, int tag, MPI_Comm h, MPI_Status *status) {
     MPI_Status own;
     struct communicator *c = counts() ? known(h) : NULL;
+    asks_now();
     struct slot *s = receives(from, c, HERE);
     MPI_Status *to = status == MPI_STATUS_IGNORE ? &own : status;
-    int result = PMPI_Recv(a, n, t, from, tag, h, to);
+    int result = is_refused(s) ? fails(s, h) : PMPI_Recv(a, n, t, from, tag, h, to);
     if (s != NULL && result == MPI_SUCCESS) {
         was_taken(c, to);
     }
@@ -969,8 +1373,9 @@ int MPI_Recv(void *a, int n, MPI_Datatype t, int from, int tag, MPI_Comm h, MPI_
 int MPI_Probe(int from, int tag, MPI_Comm h, MPI_Status *status) {
     struct communicator *c = counts() ? known(h) : NULL;
     int peer = world_rank(c, from);
+    asks_now();
     struct slot *s = begins(from == MPI_ANY_SOURCE && c != NULL ? ANY : peer >= 0 ? RECEIVE : NONE, c, peer, peer >= 0 ? atomic_load(&taken[peer]) + 1 : 1, HERE);
-    int result = PMPI_Probe(from, tag, h, status);
+    int result = is_refused(s) ? fails(s, h) : PMPI_Probe(from, tag, h, status);
     ends(s);
     return result;
 }
@@ -978,9 +1383,10 @@ int MPI_Probe(int from, int tag, MPI_Comm h, MPI_Status *status) {
 int MPI_Sendrecv(const void *a, int n, MPI_Datatype t, int to, int tag, void *b, int m, MPI_Datatype u, int from, int tag2, MPI_Comm h, MPI_Status *status) {
     MPI_Status own, *into = status == MPI_STATUS_IGNORE ? &own : status;
     struct communicator *c = counts() ? known(h) : NULL;
+    asks_now();
     sends_to(world_rank(c, to));
     struct slot *s = receives(from, c, HERE);
-    int result = PMPI_Sendrecv(a, n, t, to, tag, b, m, u, from, tag2, h, into);
+    int result = is_refused(s) ? fails(s, h) : PMPI_Sendrecv(a, n, t, to, tag, b, m, u, from, tag2, h, into);
     if (s != NULL && result == MPI_SUCCESS) {
         was_taken(c, into);
     }
@@ -991,9 +1397,10 @@ int MPI_Sendrecv(const void *a, int n, MPI_Datatype t, int to, int tag, void *b,
 int MPI_Sendrecv_replace(void *a, int n, MPI_Datatype t, int to, int tag, int from, int tag2, MPI_Comm h, MPI_Status *status) {
     MPI_Status own, *into = status == MPI_STATUS_IGNORE ? &own : status;
     struct communicator *c = counts() ? known(h) : NULL;
+    asks_now();
     sends_to(world_rank(c, to));
     struct slot *s = receives(from, c, HERE);
-    int result = PMPI_Sendrecv_replace(a, n, t, to, tag, from, tag2, h, into);
+    int result = is_refused(s) ? fails(s, h) : PMPI_Sendrecv_replace(a, n, t, to, tag, from, tag2, h, into);
     if (s != NULL && result == MPI_SUCCESS) {
         was_taken(c, into);
     }
@@ -1171,8 +1578,9 @@ int MPI_Wait(MPI_Request *q, MPI_Status *status) {
     MPI_Status own, *into = status == MPI_STATUS_IGNORE ? &own : status;
     MPI_Request handle = *q;
     struct request r = counts() ? recall(handle) : (struct request){.kind = NONE};
+    asks_now();
     struct slot *s = waits(1, q, &r, true, HERE);
-    int result = PMPI_Wait(q, into);
+    int result = is_refused(s) ? fails(s, MPI_COMM_WORLD) : PMPI_Wait(q, into);
     if (s != NULL && result == MPI_SUCCESS) {
         is_done(handle, &r, into);
     }
@@ -1341,8 +1749,13 @@ UNCOUNTED_BOTH(Isendrecv, (const void *a, int n, MPI_Datatype t, int to, int tag
 UNCOUNTED_BOTH(Isendrecv_replace, (void *a, int n, MPI_Datatype t, int to, int tag, int from, int tag2, MPI_Comm h, MPI_Request *q), (a, n, t, to, tag, from, tag2, h, q))
 #endif
 
-/* ---- Fortran: its calls go to MPI's own Fortran functions, which may call MPI in C again; that is inside of the call. */
+/* ---- Fortran: its calls go to MPI's own Fortran functions, which may call MPI in C again; that is inside of the call. The module mpi_f08 has names of its own, of two
+ * forms, for the same words; there the last one, the error, may be left out. */
 #define FORTRAN(name, parameters, words, before, after) \
+    FORTRAN_AS(name##_, parameters, words, before, after) \
+    FORTRAN_AS(name##_f08_, parameters, words, before, after) \
+    FORTRAN_AS(name##_f08ts_, parameters, words, before, after)
+#define FORTRAN_AS(name, parameters, words, before, after) \
     void name parameters { \
         static void (*real) parameters; \
         if (real == NULL) { \
@@ -1353,40 +1766,51 @@ UNCOUNTED_BOTH(Isendrecv_replace, (void *a, int n, MPI_Datatype t, int to, int t
         after; \
     }
 #define F MPI_Fint *
+
+static bool succeeded(F error) { return error == NULL || *error == MPI_SUCCESS; }
+
 #define FORTRAN_COLLECTIVE(KIND, name, handle, root, needs_data, parameters, words) \
     FORTRAN(name, parameters, words, struct slot *s = collective(KIND, counts() ? PMPI_Comm_f2c(*handle) : MPI_COMM_NULL, root, needs_data, HERE), ends(s))
 
-FORTRAN(mpi_init_, (F e), (e), , begin(HERE))
-FORTRAN(mpi_init_thread_, (F w, F g, F e), (w, g, e), , begin(HERE))
-FORTRAN(mpi_finalize_, (F e), (e), struct slot *s = collective(FINALIZE, MPI_COMM_WORLD, 0, true, HERE), ends(s); end())
-FORTRAN_COLLECTIVE(BARRIER, mpi_barrier_, h, 0, true, (F h, F e), (h, e))
-FORTRAN_COLLECTIVE(ALLREDUCE, mpi_allreduce_, h, 0, *n > 0, (void *a, void *b, F n, F t, F o, F h, F e), (a, b, n, t, o, h, e))
-FORTRAN_COLLECTIVE(ALLGATHER, mpi_allgather_, h, 0, *m > 0, (void *a, F n, F t, void *b, F m, F u, F h, F e), (a, n, t, b, m, u, h, e))
-FORTRAN_COLLECTIVE(ALLTOALL, mpi_alltoall_, h, 0, *m > 0, (void *a, F n, F t, void *b, F m, F u, F h, F e), (a, n, t, b, m, u, h, e))
-FORTRAN_COLLECTIVE(REDUCE, mpi_reduce_, h, (int)*r, *n > 0, (void *a, void *b, F n, F t, F o, F r, F h, F e), (a, b, n, t, o, r, h, e))
-FORTRAN_COLLECTIVE(GATHER, mpi_gather_, h, (int)*r, *m > 0, (void *a, F n, F t, void *b, F m, F u, F r, F h, F e), (a, n, t, b, m, u, r, h, e))
-FORTRAN_COLLECTIVE(SCATTER, mpi_scatter_, h, (int)*r, *m > 0, (void *a, F n, F t, void *b, F m, F u, F r, F h, F e), (a, n, t, b, m, u, r, h, e))
-FORTRAN_COLLECTIVE(BCAST, mpi_bcast_, h, (int)*r, *n > 0, (void *a, F n, F t, F r, F h, F e), (a, n, t, r, h, e))
-FORTRAN(mpi_comm_dup_, (F h, F to, F e), (h, to, e), struct slot *s = collective(DUP, counts() ? PMPI_Comm_f2c(*h) : MPI_COMM_NULL, 0, true, HERE), if (s != NULL && *e == 0) { made(PMPI_Comm_f2c(*h), PMPI_Comm_f2c(*to), "dup"); } ends(s))
-FORTRAN(mpi_comm_split_, (F h, F c, F k, F to, F e), (h, c, k, to, e), struct slot *s = collective(SPLIT, counts() ? PMPI_Comm_f2c(*h) : MPI_COMM_NULL, 0, true, HERE), if (s != NULL && *e == 0) { made(PMPI_Comm_f2c(*h), PMPI_Comm_f2c(*to), "split"); } ends(s))
+FORTRAN(mpi_init, (F e), (e), , begin(HERE))
+FORTRAN(mpi_init_thread, (F w, F g, F e), (w, g, e), , begin(HERE))
+FORTRAN(mpi_finalize, (F e), (e), struct slot *s = collective(FINALIZE, MPI_COMM_WORLD, 0, true, HERE), ends(s); end())
+FORTRAN_COLLECTIVE(BARRIER, mpi_barrier, h, 0, true, (F h, F e), (h, e))
+FORTRAN_COLLECTIVE(ALLREDUCE, mpi_allreduce, h, 0, *n > 0, (void *a, void *b, F n, F t, F o, F h, F e), (a, b, n, t, o, h, e))
+FORTRAN_COLLECTIVE(ALLGATHER, mpi_allgather, h, 0, *m > 0, (void *a, F n, F t, void *b, F m, F u, F h, F e), (a, n, t, b, m, u, h, e))
+FORTRAN_COLLECTIVE(ALLTOALL, mpi_alltoall, h, 0, *m > 0, (void *a, F n, F t, void *b, F m, F u, F h, F e), (a, n, t, b, m, u, h, e))
+FORTRAN_COLLECTIVE(REDUCE, mpi_reduce, h, (int)*r, *n > 0, (void *a, void *b, F n, F t, F o, F r, F h, F e), (a, b, n, t, o, r, h, e))
+FORTRAN_COLLECTIVE(GATHER, mpi_gather, h, (int)*r, *m > 0, (void *a, F n, F t, void *b, F m, F u, F r, F h, F e), (a, n, t, b, m, u, r, h, e))
+FORTRAN_COLLECTIVE(SCATTER, mpi_scatter, h, (int)*r, *m > 0, (void *a, F n, F t, void *b, F m, F u, F r, F h, F e), (a, n, t, b, m, u, r, h, e))
+FORTRAN_COLLECTIVE(BCAST, mpi_bcast, h, (int)*r, *n > 0, (void *a, F n, F t, F r, F h, F e), (a, n, t, r, h, e))
+FORTRAN(mpi_comm_dup, (F h, F to, F e), (h, to, e), struct slot *s = collective(DUP, counts() ? PMPI_Comm_f2c(*h) : MPI_COMM_NULL, 0, true, HERE), if (s != NULL && succeeded(e)) { made(PMPI_Comm_f2c(*h), PMPI_Comm_f2c(*to), "dup"); } ends(s))
+FORTRAN(mpi_comm_split, (F h, F c, F k, F to, F e), (h, c, k, to, e), struct slot *s = collective(SPLIT, counts() ? PMPI_Comm_f2c(*h) : MPI_COMM_NULL, 0, true, HERE), if (s != NULL && succeeded(e)) { made(PMPI_Comm_f2c(*h), PMPI_Comm_f2c(*to), "split"); } ends(s))
 #define FORTRAN_SEND(name) \
     FORTRAN(name, (void *a, F n, F t, F to, F g, F h, F e), (a, n, t, to, g, h, e), \
         int peer = counts() ? world_rank(known(PMPI_Comm_f2c(*h)), (int)*to) : -1; struct slot *s = begins(peer >= 0 ? SEND : NONE, NULL, peer, sends_to(peer), HERE), ends(s))
-FORTRAN_SEND(mpi_send_)
-FORTRAN_SEND(mpi_ssend_)
-FORTRAN_SEND(mpi_bsend_)
-FORTRAN_SEND(mpi_rsend_)
-FORTRAN(mpi_recv_, (void *a, F n, F t, F from, F g, F h, F st, F e), (a, n, t, from, g, h, st, e),
+FORTRAN_SEND(mpi_send)
+FORTRAN_SEND(mpi_ssend)
+FORTRAN_SEND(mpi_bsend)
+FORTRAN_SEND(mpi_rsend)
+FORTRAN(mpi_recv, (void *a, F n, F t, F from, F g, F h, F st, F e), (a, n, t, from, g, h, st, e),
     struct communicator *c = counts() ? known(PMPI_Comm_f2c(*h)) : NULL; struct slot *s = receives((int)*from, c, HERE),
-    if (s != NULL && *e == 0 && world_rank(c, (int)*from) >= 0) { atomic_fetch_add(&taken[world_rank(c, (int)*from)], 1); } ends(s))
+    if (s != NULL && succeeded(e) && world_rank(c, (int)*from) >= 0) { atomic_fetch_add(&taken[world_rank(c, (int)*from)], 1); } ends(s))
 #define FORTRAN_UNCOUNTED(name, flag, parameters, words) FORTRAN(name, parameters, words, atomic_store(&flag, true), )
-FORTRAN_UNCOUNTED(mpi_isend_, sends_uncounted, (void *a, F n, F t, F to, F g, F h, F q, F e), (a, n, t, to, g, h, q, e))
-FORTRAN_UNCOUNTED(mpi_issend_, sends_uncounted, (void *a, F n, F t, F to, F g, F h, F q, F e), (a, n, t, to, g, h, q, e))
-FORTRAN_UNCOUNTED(mpi_ibsend_, sends_uncounted, (void *a, F n, F t, F to, F g, F h, F q, F e), (a, n, t, to, g, h, q, e))
-FORTRAN_UNCOUNTED(mpi_irsend_, sends_uncounted, (void *a, F n, F t, F to, F g, F h, F q, F e), (a, n, t, to, g, h, q, e))
-FORTRAN_UNCOUNTED(mpi_irecv_, receives_uncounted, (void *a, F n, F t, F from, F g, F h, F q, F e), (a, n, t, from, g, h, q, e))
-FORTRAN_UNCOUNTED(mpi_send_init_, sends_uncounted, (void *a, F n, F t, F to, F g, F h, F q, F e), (a, n, t, to, g, h, q, e))
-FORTRAN_UNCOUNTED(mpi_recv_init_, receives_uncounted, (void *a, F n, F t, F from, F g, F h, F q, F e), (a, n, t, from, g, h, q, e))
-FORTRAN(mpi_sendrecv_, (void *a, F n, F t, F to, F g, void *b, F m, F u, F from, F g2, F h, F st, F e), (a, n, t, to, g, b, m, u, from, g2, h, st, e),
-    struct communicator *c = counts() ? known(PMPI_Comm_f2c(*h)) : NULL; sends_to(world_rank(c, (int)*to)); struct slot *s = receives((int)*from, c, HERE),
-    if (s != NULL && *e == 0 && world_rank(c, (int)*from) >= 0) { atomic_fetch_add(&taken[world_rank(c, (int)*from)], 1); } ends(s))
+FORTRAN_UNCOUNTED(mpi_isend, sends_uncounted, (void *a, F n, F t, F to, F g, F h, F q, F e), (a, n, t, to, g, h, q, e))
+FORTRAN_UNCOUNTED(mpi_issend, sends_uncounted, (void *a, F n, F t, F to, F g, F h, F q, F e), (a, n, t, to, g, h, q, e))
+FORTRAN_UNCOUNTED(mpi_ibsend, sends_uncounted, (void *a, F n, F t, F to, F g, F h, F q, F e), (a, n, t, to, g, h, q, e))
+FORTRAN_UNCOUNTED(mpi_irsend, sends_uncounted, (void *a, F n, F t, F to, F g, F h, F q, F e), (a, n, t, to, g, h, q, e))
+FORTRAN_UNCOUNTED(mpi_irecv, receives_uncounted, (void *a, F n, F t, F from, F g, F h, F q, F e), (a, n, t, from, g, h, q, e))
+FORTRAN_UNCOUNTED(mpi_send_init, sends_uncounted, (void *a, F n, F t, F to, F g, F h, F q, F e), (a, n, t, to, g, h, q, e))
+FORTRAN_UNCOUNTED(mpi_ssend_init, sends_uncounted, (void *a, F n, F t, F to, F g, F h, F q, F e), (a, n, t, to, g, h, q, e))
+FORTRAN_UNCOUNTED(mpi_bsend_init, sends_uncounted, (void *a, F n, F t, F to, F g, F h, F q, F e), (a, n, t, to, g, h, q, e))
+FORTRAN_UNCOUNTED(mpi_rsend_init, sends_uncounted, (void *a, F n, F t, F to, F g, F h, F q, F e), (a, n, t, to, g, h, q, e))
+FORTRAN_UNCOUNTED(mpi_mrecv, receives_uncounted, (void *a, F n, F t, F m, F st, F e), (a, n, t, m, st, e))
+FORTRAN_UNCOUNTED(mpi_imrecv, receives_uncounted, (void *a, F n, F t, F m, F q, F e), (a, n, t, m, q, e))
+FORTRAN_UNCOUNTED(mpi_recv_init, receives_uncounted, (void *a, F n, F t, F from, F g, F h, F q, F e), (a, n, t, from, g, h, q, e))
+#define FORTRAN_BOTH_WAYS(name, parameters, words) \
+    FORTRAN(name, parameters, words, \
+        struct communicator *c = counts() ? known(PMPI_Comm_f2c(*h)) : NULL; sends_to(world_rank(c, (int)*to)); struct slot *s = receives((int)*from, c, HERE), \
+        if (s != NULL && succeeded(e) && world_rank(c, (int)*from) >= 0) { atomic_fetch_add(&taken[world_rank(c, (int)*from)], 1); } ends(s))
+FORTRAN_BOTH_WAYS(mpi_sendrecv, (void *a, F n, F t, F to, F g, void *b, F m, F u, F from, F g2, F h, F st, F e), (a, n, t, to, g, b, m, u, from, g2, h, st, e))
+FORTRAN_BOTH_WAYS(mpi_sendrecv_replace, (void *a, F n, F t, F to, F g, F from, F g2, F h, F st, F e), (a, n, t, to, g, from, g2, h, st, e))
