@@ -1016,9 +1016,6 @@ static void begin(const void *from) {
     }
     say("# process %s", process);
     guard = getenv("ARMUS_GUARD") != NULL;
-    if (guard) {
-        say("# places");
-    }
     PMPI_Comm_create_keyval(MPI_COMM_NULL_COPY_FN, is_freed, &key, NULL);
     PMPI_Win_create_keyval(MPI_WIN_NULL_COPY_FN, window_is_freed, &window_key, NULL);
     snprintf(world.name, sizeof world.name, "world");

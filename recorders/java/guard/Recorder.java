@@ -21,7 +21,7 @@ final class Recorder {
     static volatile Recorder on;
     private static final long LONGEST = 2000;    // so many milliseconds may pass until an answer comes
     private static final int MOST_LOOKS = 50;    // so often is looked anew where somebody went on meanwhile
-    private static final int MOST_OPEN = 500;    // so many answers may be on their way before one who need not wait for his does
+    private static final int MOST_OPEN = 100;    // so many answers may be on their way before one who need not wait for his does
 
     private final Lines lines;
     private final Inside inside;
@@ -294,15 +294,10 @@ final class Recorder {
     }
 
     private void handOver() {
-        boolean interrupted = Thread.interrupted();               // some machines close what an interrupted thread writes to
         try {
-            lines.handOver();
+            lines.handOver(LONGEST);
         } catch (IOException e) {
             off("what is written is not read");
-        } finally {
-            if (interrupted) {
-                Thread.currentThread().interrupt();
-            }
         }
     }
 

@@ -50,12 +50,37 @@ final class Lines {
     }
 
     void handOver() throws IOException {
+        handOver(0);
+    }
+
+    /** Waits at most so many milliseconds for somebody who reads. An interrupt is kept. */
+    void handOver(long longest) throws IOException {
         ByteBuffer bytes = ByteBuffer.wrap(text.toString().getBytes(StandardCharsets.ISO_8859_1));
         text.setLength(0);
-        while (bytes.hasRemaining()) {
-            if (channel.write(bytes) == 0) {
-                throw new IOException("nobody reads");
+        long end = System.nanoTime() + longest * 1_000_000;
+        boolean interrupted = longest > 0 && Thread.interrupted();       // some machines close what an interrupted thread writes to
+        try {
+            while (bytes.hasRemaining()) {
+                if (channel.write(bytes) == 0) {
+                    if (System.nanoTime() >= end) {
+                        throw new IOException("nobody reads");
+                    }
+                    interrupted |= pause();
+                }
             }
+        } finally {
+            if (interrupted) {
+                Thread.currentThread().interrupt();
+            }
+        }
+    }
+
+    private static boolean pause() {
+        try {
+            Thread.sleep(1);
+            return false;
+        } catch (InterruptedException e) {
+            return true;
         }
     }
 

@@ -16,7 +16,7 @@ def work():
             pc.wait()
         pb.wait()
     except threading.BrokenBarrierError:
-        print('broken')
+        print('broken\n', end='')
 
 
 workers = [threading.Thread(target=work, name=f'worker-{i}') for i in range(3)]
@@ -24,7 +24,8 @@ for worker in workers:
     worker.start()
 armus.member(pc)
 armus.member(pb)
-time.sleep(0.1)
+while pc.n_waiting < 3:
+    time.sleep(0.01)
 try:
     pb.wait()
 except armus.DeadlockError as error:

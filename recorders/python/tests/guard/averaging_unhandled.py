@@ -16,12 +16,13 @@ def work():
             pc.wait()
         pb.wait()
     except threading.BrokenBarrierError:
-        print('broken')
+        print('broken\n', end='')
 
 
 for i in range(3):
     threading.Thread(target=work, name=f'worker-{i}').start()
 armus.member(pc)
 armus.member(pb)
-time.sleep(0.1)
+while pc.n_waiting < 3:
+    time.sleep(0.01)
 pb.wait()

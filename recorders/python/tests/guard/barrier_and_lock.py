@@ -15,9 +15,9 @@ def come():
         with account:
             meet.wait()
     except threading.BrokenBarrierError:
-        print('broken')
+        print('broken\n', end='')
     except armus.DeadlockError:
-        print('without')
+        print('without\n', end='')
         meet.wait()
 
 

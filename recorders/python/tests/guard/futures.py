@@ -22,5 +22,5 @@ with concurrent.futures.ThreadPoolExecutor(2, 'pool') as pool:
         try:
             answer.result()
         except armus.DeadlockError:
-            print('refused')
+            print('refused\n', end='')
 print('end')

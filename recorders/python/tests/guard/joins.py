@@ -11,9 +11,9 @@ def work():
     has.wait()
     try:
         with account:
-            print('taken')
+            print('taken\n', end='')
     except armus.DeadlockError:
-        print('refused')
+        print('refused\n', end='')
 
 
 worker = threading.Thread(target=work, name='worker')
@@ -23,6 +23,6 @@ with account:
     try:
         worker.join()
     except armus.DeadlockError:
-        print('refused')
+        print('refused\n', end='')
 worker.join()
 print('end')

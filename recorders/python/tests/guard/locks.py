@@ -15,11 +15,11 @@ def work(me):
             all_have_one.wait()
             second.acquire()
             try:
-                print('both')
+                print('both\n', end='')
             finally:
                 second.release()
     except armus.DeadlockError:
-        print('refused')
+        print('refused\n', end='')
 
 
 threads = [threading.Thread(target=work, args=(i,), name=f'lock-{i}') for i in range(COUNT)]

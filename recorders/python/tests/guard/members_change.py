@@ -30,7 +30,7 @@ def meets_with_limit():
     try:
         broken.wait(0.05)
     except threading.BrokenBarrierError:
-        print('broken')
+        print('broken\n', end='')
 
 
 for _ in range(5):

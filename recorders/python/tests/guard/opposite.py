@@ -16,9 +16,9 @@ def work(first, second):
         first.wait()
         second.wait()
     except armus.DeadlockError:
-        print('refused')
+        print('refused\n', end='')
     except threading.BrokenBarrierError:
-        print('broken')
+        print('broken\n', end='')
 
 
 threads = [threading.Thread(target=work, args=p, name=f'party-{i}') for i, p in enumerate(((left, right), (right, left)))]
