@@ -41,7 +41,7 @@ at_most_trans (Some i) n m l k = omega arith
 -- what the cells before a place say is all that counts
 pub least_same : (f g : ℕ → Option ℕ) (k : ℕ) (o : Option Least) → ((u : ℕ) → u < k → g u ≡ f u) → IsLeastBelow f k o → IsLeastBelow g k o
 least_same f g k None same h = λ u l. same u l ∙ h u l
-least_same f g k (Some l) same h = (h.0, same l.at h.0 ∙ h.1, λ u m i e. h.2 u m i (sym (same u i) ∙ e))
+least_same f g k (Some l) same h = (h.0, same l.at h.0 ∙ h.1, λ u m i e. h.2 u m i (sym (same u i) ∙ e), λ u m i n e. h.3 u m i n (sym (same u i) ∙ e))
 
 -- one more place without a phase
 pub least_more : (f : ℕ → Option ℕ) (k : ℕ) (o : Option Least) → f k ≡ None → IsLeastBelow f k o → IsLeastBelow f (suc k) o
@@ -54,6 +54,10 @@ least_more f k (Some l) none h = (
   h.1,
   λ u m i e. elim (cases_lt u k) [
     | inl before ↦ h.2 u m before e
+    | inr after ↦ absurd (let is : u ≡ k = omega arith in let no : None ≡ Some m = sym none ∙ subst (λ v. f v ≡ Some m) is e in cc)
+  ],
+  λ u m i n e. elim (cases_lt u k) [
+    | inl before ↦ h.3 u m before n e
     | inr after ↦ absurd (let is : u ≡ k = omega arith in let no : None ≡ Some m = sym none ∙ subst (λ v. f v ≡ Some m) is e in cc)
   ],
 )
@@ -75,18 +79,21 @@ least_appended cs d o none h =
 
 pub kept_below : (cs : List Cell) (o : Option Least) → IsLeastCell cs o → IsLeastBelow (phase_in_cell cs) (length cs) o
 kept_below cs None h = λ u l. h.none u refl l
-kept_below cs (Some l) h = (h.within l refl, h.there l refl, λ u m i e. h.bound l u m refl i e)
+kept_below cs (Some l) h = (h.within l refl, h.there l refl, λ u m i e. h.bound l u m refl i e, λ u m i n e. h.beside l u m refl i n e)
 
 pub below_kept : (cs : List Cell) (o : Option Least) → IsLeastBelow (phase_in_cell cs) (length cs) o → IsLeastCell cs o
 below_kept cs None h = record {
   within = λ l e. absurd (cc);
   there = λ l e. absurd (cc);
   bound = λ l u m e i f. absurd (cc);
+  beside = λ l u m e i n f. absurd (cc);
   none = λ u e l. h u l;
 }
 below_kept cs (Some x) h = record {
   within = λ l e. (let is : x ≡ l = (cc) in subst (λ (y : Least). y.at < length cs) is h.0);
   there = λ l e. (let is : x ≡ l = (cc) in subst (λ (y : Least). phase_in_cell cs y.at ≡ Some y.phase) is h.1);
   bound = λ l u m e i f. (let is : x ≡ l = (cc) in subst (λ (y : Least). y.phase ≤ m) is (h.2 u m i f));
+  beside = λ l u m e i n f.
+      (let is : x ≡ l = (cc) in subst (λ (y : Least). y.others ≤ m) is (h.3 u m i (λ same. n (subst (λ (y : Least). u ≡ y.at) is same)) f));
   none = λ u e l. absurd (cc);
 }

@@ -8,7 +8,7 @@ ghost use Rattle.armus_base.specs.CheckedPlans.{IsCheckedPlan};
 ghost use Rattle.armus_base.specs.Runs.{IsReachable};
 ghost use Rattle.armus_base.specs.States.{event_on, IsActive, IsMember, IsReached};
 ghost use Rattle.pl_core.specs.calls.Worlds.{state_of, places_of, action_by_code};
-ghost use Rattle.pl_core.specs.calls.Stands.{StandsSo, IsEnabled, MayGoOn};
+ghost use Rattle.pl_core.specs.calls.Stands.{GoesOnWith, IsBeforeOp, StandsSo, IsEnabled, MayGoOn};
 ghost use Rattle.pl_core.specs.inside.Ops.{action_of};
 ghost use Rattle.pl_core.specs.Tasks.{IsAtOp};
 
@@ -75,6 +75,18 @@ impl<'p> World<'p> {
         ensures reachable { IsReachable self.now.plan (places_of self.now) }
     {
         op_at_cursor(&self.cursors, t.0 as usize)
+    }
+
+    /// The op with which the code of task `t` goes on, which stands before one that is no await. It is one look.
+    pub fn op_before(&self, t: TaskId) -> Op
+        requires task { t.0 < length self.now.plan.parents }
+        requires ready { IsBeforeOp self.now t.0 }
+        ensures op { GoesOnWith self.now t.0 result }
+    {
+        match self.next_op(t) {
+            Some(op) => op,
+            None => unreachable!(),
+        }
     }
 
     // The event of a phaser at the target of its member's phase.

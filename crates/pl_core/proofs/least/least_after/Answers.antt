@@ -17,4 +17,7 @@ returns-then-is_at_most c =
     let least = subst (λ o. IsLeastBelow before.0 (length c.args.cells.now) o) c.in-Some.is before.1 in
     let most = c.if-is_at_most.ensures in
     c.alone-then-is_at_most.ensures (phase_in_cell c.args.cells.now) (length c.args.cells.now) (sym c.phase_at-phase.ensures) c.requires.inside
-    (λ u m l n e. at_most_trans c.phase_at-phase.result c.in-Some.member.phase m most (least.2 u m l (before.2 u n ∙ e)))
+    (λ u m l n e. (
+      at_most_trans c.phase_at-phase.result c.in-Some.member.phase m most (least.2 u m l (before.2 u n ∙ e)),
+      least.2 u m l (before.2 u n ∙ e),
+    ))
