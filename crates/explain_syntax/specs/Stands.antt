@@ -7,7 +7,7 @@ use Rattle.pl_syntax.specs.declared.token.Sign.TheVariants.{OpenBrace}
 use Rattle.pl_syntax.specs.Tokens.{Token, sign, name, place}
 use Rattle.pl_syntax.specs.Grammar.{HasFault, ReadsTokens, open_after, scan_of}
 use Rattle.explain_syntax.specs.declared.stand.Behind.{Behind}
-use Rattle.explain_syntax.specs.declared.stand.Behind.TheVariants.{ClockWord, Header, Other}
+use Rattle.explain_syntax.specs.declared.stand.Behind.TheVariants.{ClockWord, Condition, Header, Other, Repetition}
 use Rattle.explain_syntax.specs.declared.stand.GrammarStand.{GrammarStand}
 use Rattle.explain_syntax.specs.Wanted.{IsWanted}
 
@@ -15,9 +15,16 @@ use Rattle.explain_syntax.specs.Wanted.{IsWanted}
 abbrev pub clock_words : List (List ℕ)
 clock_words = codes "clock" ∷ codes "async" ∷ codes "finish" ∷ codes "advance" ∷ codes "resume" ∷ codes "drop" ∷ []
 
--- the name is one of those, or `pl`, or another one
+-- the words with which other languages begin a loop
+abbrev pub loop_words : List (List ℕ)
+loop_words = codes "while" ∷ codes "for" ∷ []
+
+-- the name is one of those, or `pl`, or a word of other languages, or another one
 abbrev pub kind_of_name : List ℕ → Behind
-kind_of_name x = if list_any (bytes_eq x) clock_words then ClockWord else (if bytes_eq x (codes "pl") then Header else Other)
+kind_of_name x =
+    if list_any (bytes_eq x) clock_words then ClockWord
+    else (if bytes_eq x (codes "pl") then Header
+    else (if bytes_eq x (codes "if") then Condition else (if list_any (bytes_eq x) loop_words then Repetition else Other)))
 
 -- what the first of these tokens is as a name
 abbrev pub first_as_name : List Token → Behind

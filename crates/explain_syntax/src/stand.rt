@@ -8,6 +8,10 @@ pub enum Behind {
     ClockWord,
     /// `pl`.
     Header,
+    /// `if`, with which other languages begin a condition.
+    Condition,
+    /// `while` or `for`, with which other languages begin a loop.
+    Repetition,
     /// Another name, no name, or nothing.
     Other,
 }

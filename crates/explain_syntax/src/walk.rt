@@ -43,6 +43,8 @@ fn behind_of(token: &Token) -> Behind
             Behind::ClockWord
         }
         Token::Name(b"pl") => Behind::Header,
+        Token::Name(b"if") => Behind::Condition,
+        Token::Name(b"while" | b"for") => Behind::Repetition,
         _ => Behind::Other,
     }
 }
