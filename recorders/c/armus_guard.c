@@ -316,6 +316,8 @@ static void goes_on(struct task *t) {
     }
 }
 
+static void tells_untold(struct task *t);
+
 /* The question of a task for a phase of a phaser, whose name begins with the process too. */
 __attribute__((format(printf, 3, 4))) static void question(struct task *t, unsigned phase, const char *form, ...) {
     char phaser[80];
@@ -323,6 +325,7 @@ __attribute__((format(printf, 3, 4))) static void question(struct task *t, unsig
     va_start(words, form);
     vsnprintf(phaser, sizeof phaser, form, words);
     va_end(words);
+    tells_untold(t);
     t->waits = true;
     atomic_fetch_add(&t->asked, 1);
     say("%d/%s%s wait %d/%s %u @%s", NAMED(t), (int)process, phaser, phase, t->place);
@@ -399,8 +402,8 @@ static void asks_for(struct task *t, struct keeper *k) {
     t->turn = k->turn;
 }
 
-/* The current thread has it, and the others wait for this one, which runs: none of these questions is refused. Whoever has no answer to its own question yet looks again
- * itself. */
+/* The holder has it, and the others wait for this one, which runs, for the monitor too: none of these questions is refused. Whoever has no answer to its own question yet
+ * looks again itself. */
 static void is_told(struct keeper *k, struct task *holder) {
     if (k->holder != holder) {
         is_held_by(k, holder);
@@ -433,7 +436,7 @@ static void is_not_taken(const pthread_mutex_t *m, struct task *t) {
     }
 }
 
-/* Before a thread asks it is told who waits for it. */
+/* Before the question of a thread it is told who waits for it. */
 static void tells_untold(struct task *t) {
     for (unsigned i = 0; i < OF_TASK; i++) {
         struct keeper *k = t->untold[i] != NULL ? keeper_of(t->untold[i], false) : NULL;
@@ -740,7 +743,6 @@ static bool comes(struct barrier *b, struct task *t) {
         return false;
     }
     if (i >= 0 && are_known(b) && b->came_by_others == 0) {
-        tells_untold(t);
         question(t, b->turn + 1, BARRIER(b));
         atomic_store(&t->wanted, atomic_load(&t->asked));
         return true;
@@ -838,11 +840,21 @@ static void refused_at(struct task *t, const char *call) {
     }
 }
 
+static bool is_member_somewhere(const struct task *t) {
+    bool found = false;
+    for (unsigned i = 0; i < OF_TASK; i++) {
+        found |= t->barriers[i] != NULL;
+    }
+    return found;
+}
+
 int pthread_barrier_wait(pthread_barrier_t *key) {
     struct task *t = enters();
     bool is_refused = false;
     if (t != NULL) {
-        place_of(t->place, HERE);
+        if (is_member_somewhere(t)) {
+            place_of(t->place, HERE);
+        }
         signals own = order_begins();
         struct barrier *b = *barrier_at(key);
         unsigned generation = b != NULL ? b->generation : 0, turn = b != NULL ? b->turn : 0;
@@ -1017,7 +1029,6 @@ static bool may_join(struct task *t, pthread_t thread, const void *from, const v
     struct task *other = task_of_handle(thread);
     bool asks = other != NULL && other != t && !other->ended;
     if (asks) {
-        tells_untold(t);
         question(t, 1, "end-of-%s%s", other->number == 0 ? "main" : "thread-", other->number == 0 ? "" : digits(other->number));
         atomic_store(&t->wanted, atomic_load(&t->asked));
     }
@@ -1117,8 +1128,9 @@ static void puts_refused(struct task *t, const void *before, const void *after) 
 
 /* Registers the thread at the mutex. Gives EBUSY where it has to wait, and has asked where `asks` is set; else the mutex is taken, or never will be. */
 static int registers(struct task *t, pthread_mutex_t *m, bool *asks) {
-    struct keeper *k = keeper_of(m, true);
     *asks = false;
+    tells_untold(t);                                           /* before the thread itself is one of those that wait */
+    struct keeper *k = keeper_of(m, true);
     if (k == NULL) {
         return EBUSY;
     }
@@ -1147,7 +1159,6 @@ static int registers(struct task *t, pthread_mutex_t *m, bool *asks) {
         if (k->holder != holder) {
             is_held_by(k, holder);
         }
-        tells_untold(t);
         asks_for(t, k);
         atomic_store(&t->wanted, atomic_load(&t->asked));
         *asks = true;

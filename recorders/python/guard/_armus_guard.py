@@ -88,7 +88,7 @@ class Life:
     def __init__(self):
         self.order, self.off, self.tasks, self.by_name, self.numbers = real_lock(), False, {}, {}, {}
         self.process = f'{os.getpid()}'
-        self.connection = None
+        self.connection = self.writer = None
 
     # ---- lines
     def connect(self):
@@ -236,9 +236,10 @@ class Ordered:
         self.life, self.lines = life, []
 
     def __enter__(self):
-        if not self.life.order.acquire(timeout=LIMIT):
+        if self.life.writer == _thread.get_ident() or not self.life.order.acquire(timeout=LIMIT):
             self.life.end('the order of lines could not be had in time')
             raise Off
+        self.life.writer = _thread.get_ident()
         return self.lines
 
     def __exit__(self, kind, value, trace):
@@ -248,6 +249,7 @@ class Ordered:
             else:
                 self.life.end('a thread was interrupted while it wrote')
         finally:
+            self.life.writer = None
             self.life.order.release()
 
 
@@ -283,18 +285,23 @@ def may_go_on_by_handlers():
 
 
 # ---- a wait
+def tells_untold(task, lines):
+    """Who waits for what the task has taken."""
+    untold, task.untold = task.untold, []
+    for keeper in untold:
+        keeper.is_told(task, lines)
+
+
 def question(task, phaser, phase, lines):
-    """Adds the question of a task; called with the order held."""
+    """Adds the question of a task; called with the order held. First it is told who waits for this one."""
+    tells_untold(task, lines)
     task.waits, task.event = True, f'{phaser} {phase}'
     task.asked += 1
     lines.append(f'{task.name} wait {task.event} @{task.place}')
 
 
 def own_question(task, phaser, phase, lines):
-    """The question of the current thread, which takes the answer. First it is told who waits for this thread."""
-    for keeper in task.untold:
-        keeper.is_told(task, lines)
-    task.untold = []
+    """The question of the current thread, which takes the answer."""
     question(task, phaser, phase, lines)
     task.wanted = task.asked
 
@@ -318,7 +325,7 @@ def moves(task, line, lines):
 
 def is_over(task):
     """The wait of the current thread has ended."""
-    if task.is_there():
+    if (task.waits or task.left) and task.is_there():
         try:
             with Ordered(task.life) as lines:
                 goes_on(task, lines)
@@ -372,8 +379,8 @@ class Keeper:
             self.holder = None
 
     def is_told(self, holder, lines):
-        """The current thread has to act, and the others wait for it. None of these questions is refused, since this thread runs. Whoever has no answer to its own question yet
-        looks again itself."""
+        """The holder has to act, and the others wait for it. None of these questions is refused, since the holder runs, for the monitor too. Whoever has no answer to its own
+        question yet looks again itself."""
         if self.holder is not holder:
             self.is_held_by(holder, lines)
         for task in self.tasks:
@@ -383,7 +390,8 @@ class Keeper:
                 task.turn = self.turn
 
     def enters(self, task, holder, lines):
-        """Registers the current thread. Where it is known who has to act it asks."""
+        """Registers the current thread. Where it is known who has to act it asks, behind all that others ask because of it."""
+        tells_untold(task, lines)
         self.tasks.append(task)
         task.place, task.may_ask = place(), not may_go_on_by_handlers()
         if task.may_ask and holder is not None and holder.is_there():
@@ -770,14 +778,18 @@ class Members:
         if (self.are_known() and task not in self.tasks) or task in self.came:
             self.is_unknown(barrier, lines)
         self.came.append(task)
-        task.place, task.may_ask = place(), not has_limit and not may_go_on_by_handlers()
+        task.may_ask = False
         if task in self.tasks:
+            task.place, task.may_ask = place(), not has_limit and not may_go_on_by_handlers()
             lines.append(f'{task.name} arrive {self.name}')
         if len(self.came) == self.parties:
             self.ends_turn(barrier, lines)
         elif self.are_known() and task.may_ask and self.have_come_alone():
             own_question(task, self.name, self.turn + 1, lines)
-        return self.turns
+        return self.state()
+
+    def state(self):
+        return self.turns, self.turn
 
     def have_come_alone(self):
         """Whether nobody else came in this turn."""
@@ -822,15 +834,15 @@ def wait(self, timeout=None):
             if not self.broken:
                 forgets(self)                                  # one that is not known comes
             return real_wait(self, timeout)
-        members = turns = None
+        members = state = None
         try:
             with Ordered(task.life) as lines:
                 members = members_of(self, task.life)
-                turns = members.comes(task, self, timeout is not None or self._timeout is not None, lines)
+                state = members.comes(task, self, timeout is not None or self._timeout is not None, lines)
         except Off:
             pass
         sentence = answered(task)
-        if members is not None and members.turns != turns:   # it is not known any more who has to come
+        if members is not None and members.state() != state:   # all have come meanwhile, or it is not known any more who has to
             is_over(task)
         elif sentence is not None:
             self.abort()
