@@ -31,6 +31,9 @@ abstract class Awaited {
     /** Says who has still to do it. */
     abstract void keep(Recorder recorder);
 
+    /** One who waits for it is interrupted. */
+    abstract void interrupt();
+
     /** Nobody waits for it any more. */
     abstract void release(Recorder recorder);
 

@@ -23,7 +23,7 @@ final class Calls {
         list(LIBRARY + "Phaser", "arrive()I", "arriveAndDeregister()I", "arriveAndAwaitAdvance()I", "awaitAdvance(I)I", "awaitAdvanceInterruptibly(I)I");
         list(LIBRARY + "CountDownLatch", "await()V", "countDown()V");
         list(LIBRARY + "CompletableFuture", "get()Ljava/lang/Object;", "join()Ljava/lang/Object;");
-        list("java/lang/Thread", "join()V", "join(J)V");
+        list("java/lang/Thread", "join()V", "join(J)V", "interrupt()V");
         for (String future : Arrays.asList("Future", "RunnableFuture", "ScheduledFuture", "RunnableScheduledFuture", "FutureTask")) {
             list(LIBRARY + future, "get()Ljava/lang/Object;");
         }

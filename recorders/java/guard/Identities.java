@@ -25,8 +25,26 @@ final class Identities<V> {
 
         @Override
         public boolean equals(Object other) {
-            Object own = get();
-            return this == other || own != null && other instanceof Key && own == ((Key) other).get();
+            return this == other;                                 // an object has one key
+        }
+    }
+
+    /** What finds the key of an object. */
+    private static final class Probe {
+        private final Object object;
+
+        Probe(Object object) {
+            this.object = object;
+        }
+
+        @Override
+        public int hashCode() {
+            return System.identityHashCode(object);
+        }
+
+        @Override
+        public boolean equals(Object other) {
+            return other instanceof Key && ((Key) other).get() == object;
         }
     }
 
@@ -34,15 +52,12 @@ final class Identities<V> {
     private final ReferenceQueue<Object> gone = new ReferenceQueue<>();
 
     V get(Object object) {
-        return values.get(new Key(object, null));
+        return object == null ? null : values.get(new Probe(object));
     }
 
     void put(Object object, V value) {
+        values.remove(new Probe(object));
         values.put(new Key(object, gone), value);
-    }
-
-    void remove(Object object) {
-        values.remove(new Key(object, null));
     }
 
     /** Those of objects that are gone, which are forgotten. */

@@ -14,9 +14,12 @@ abstract class Meeting extends Awaited {
     private final Set<Task> arrived = new HashSet<>();
     private final List<Part> ended = new ArrayList<>();
     private Object mark;
+    /** The turn in which a barrier breaks as soon as somebody runs who was interrupted. */
+    private Object broken;
     private long turn;
     private int arrivals;
     private boolean isUnknown;
+    private boolean isAway;
 
     Meeting(String name) {
         super(name);
@@ -36,9 +39,10 @@ abstract class Meeting extends Awaited {
 
     @Override
     void look() {
+        isAway = false;
         Object now = mark();
         if (mark == null || !now.equals(mark)) {
-            if (mark != null && !isOpen(mark) && !isOpen(now) && !arrived.containsAll(members.keySet())) {
+            if (mark != null && broken != mark && !isOpen(mark) && !isOpen(now) && !arrived.containsAll(members.keySet())) {
                 forget();
             }
             turn = mark == null ? turn(now, -1) : turn(now, turn);
@@ -50,7 +54,7 @@ abstract class Meeting extends Awaited {
 
     @Override
     void lookAway() {
-        look();                                                   // its members come under the lock of the recorder
+        isAway = true;
     }
 
     @Override
@@ -67,8 +71,19 @@ abstract class Meeting extends Awaited {
         members.clear();
     }
 
+    /** Whether nobody has to wait, or not for long. */
+    private boolean isOver() {
+        return isAway || broken == mark || isOpen(mark);
+    }
+
     private boolean hasCome(Task task) {
-        return arrived.contains(task) || isOpen(mark);
+        return arrived.contains(task) || isOver();
+    }
+
+    @Override
+    void interrupt() {
+        look();
+        broken = parties() > 0 ? mark : broken;
     }
 
     void member(Task task, Recorder recorder) {
@@ -108,7 +123,7 @@ abstract class Meeting extends Awaited {
     /** Whether a wait has to be announced: a turn goes on, and somebody has said who belongs to it. */
     boolean mayWait() {
         look();
-        return !members.isEmpty() && !isOpen(mark);
+        return !members.isEmpty() && !isOver();
     }
 
     @Override
@@ -118,7 +133,7 @@ abstract class Meeting extends Awaited {
 
     @Override
     boolean isKept() {
-        return !isOpen(mark) && !arrived.containsAll(members.keySet());
+        return !isOver() && !arrived.containsAll(members.keySet());
     }
 
     @Override

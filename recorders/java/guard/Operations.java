@@ -35,10 +35,10 @@ public final class Operations {
         recorder.off("the recorder failed");
     }
 
-    private static Wait meet(Object meeting, boolean arrives) {
+    private static Wait meet(Object meeting, boolean arrives, boolean mayBeInterrupted) {
         Recorder recorder = Recorder.on;
         try {
-            return recorder == null || !recorder.hasMeetings() ? null : recorder.meet(meeting, arrives);
+            return recorder == null || !recorder.hasMeetings() ? null : recorder.meet(meeting, arrives, mayBeInterrupted);
         } catch (RuntimeException | Error e) {
             failed(recorder, e);
             return null;
@@ -56,10 +56,10 @@ public final class Operations {
         }
     }
 
-    private static Wait awaitTurn(Phaser phaser, int turn) {
+    private static Wait awaitTurn(Phaser phaser, int turn, boolean mayBeInterrupted) {
         Recorder recorder = Recorder.on;
         try {
-            return recorder == null || !recorder.hasMeetings() || turn < 0 ? null : recorder.awaitTurn(phaser, turn);
+            return recorder == null || !recorder.hasMeetings() || turn < 0 ? null : recorder.awaitTurn(phaser, turn, mayBeInterrupted);
         } catch (RuntimeException | Error e) {
             failed(recorder, e);
             return null;
@@ -81,14 +81,19 @@ public final class Operations {
         }
     }
 
-    private static Wait ask(Object owned) {
+    private static Wait ask(Object owned, boolean mayBeInterrupted) {
         Recorder recorder = Recorder.on;
         try {
-            return recorder == null || owned instanceof FutureTask && recorder.isDone((FutureTask<?>) owned) ? null : recorder.await(owned);
+            return recorder == null || owned instanceof FutureTask && recorder.isDone((FutureTask<?>) owned) ? null : recorder.await(owned, mayBeInterrupted);
         } catch (RuntimeException | Error e) {
             failed(recorder, e);
             return null;
         }
+    }
+
+    /** Such a call throws at once where it may be interrupted, and does not wait. */
+    private static boolean isInterrupted() {
+        return Thread.currentThread().isInterrupted();
     }
 
     private static void over(Wait wait) {
@@ -106,7 +111,7 @@ public final class Operations {
     // ---- barriers, phasers, latches
 
     public static int await(CyclicBarrier barrier) throws InterruptedException, BrokenBarrierException {
-        Wait wait = meet(barrier, true);
+        Wait wait = isInterrupted() ? null : meet(barrier, true, true);
         if (wait != null && wait.isRefused()) {
             return broken(barrier, wait);
         }
@@ -145,7 +150,7 @@ public final class Operations {
     }
 
     public static int arriveAndAwaitAdvance(Phaser phaser) {
-        Wait wait = meet(phaser, true);
+        Wait wait = meet(phaser, true, false);
         if (wait != null && wait.isRefused()) {
             arriveAndDeregister(phaser);
             throw wait.refusal();
@@ -158,7 +163,7 @@ public final class Operations {
     }
 
     public static int awaitAdvance(Phaser phaser, int turn) {
-        Wait wait = awaitTurn(phaser, turn);
+        Wait wait = awaitTurn(phaser, turn, false);
         check(wait);
         try {
             return phaser.awaitAdvance(turn);
@@ -168,7 +173,7 @@ public final class Operations {
     }
 
     public static int awaitAdvanceInterruptibly(Phaser phaser, int turn) throws InterruptedException {
-        Wait wait = awaitTurn(phaser, turn);
+        Wait wait = isInterrupted() ? null : awaitTurn(phaser, turn, true);
         check(wait);
         try {
             return phaser.awaitAdvanceInterruptibly(turn);
@@ -178,7 +183,7 @@ public final class Operations {
     }
 
     public static void await(CountDownLatch latch) throws InterruptedException {
-        Wait wait = meet(latch, false);
+        Wait wait = isInterrupted() ? null : meet(latch, false, true);
         check(wait);
         try {
             latch.await();
@@ -199,7 +204,7 @@ public final class Operations {
     }
 
     public static void join(Thread thread, long limit) throws InterruptedException {
-        Wait wait = limit == 0 && thread != null && thread.isAlive() ? ask(thread) : null;
+        Wait wait = limit == 0 && thread != null && thread.isAlive() && !isInterrupted() ? ask(thread, true) : null;
         check(wait);
         try {
             thread.join(limit);
@@ -208,8 +213,20 @@ public final class Operations {
         }
     }
 
+    public static void interrupt(Thread thread) {
+        Recorder recorder = Recorder.on;
+        try {
+            if (recorder != null && thread != null) {
+                recorder.interrupt(thread);
+            }
+        } catch (RuntimeException | Error e) {
+            failed(recorder, e);
+        }
+        thread.interrupt();
+    }
+
     public static Object get(Future<?> future) throws InterruptedException, ExecutionException {
-        Wait wait = future instanceof FutureTask ? ask(future) : future instanceof CompletableFuture ? meet(future, false) : null;
+        Wait wait = isInterrupted() ? null : future instanceof FutureTask ? ask(future, true) : future instanceof CompletableFuture ? meet(future, false, true) : null;
         check(wait);
         try {
             return future.get();
@@ -239,7 +256,7 @@ public final class Operations {
     }
 
     public static Object join(CompletableFuture<?> future) {
-        Wait wait = meet(future, false);
+        Wait wait = meet(future, false, false);
         check(wait);
         try {
             return future.join();
@@ -280,7 +297,7 @@ public final class Operations {
     }
 
     private static void slowly(Lock lock) {
-        Wait wait = ask(lock);
+        Wait wait = ask(lock, false);
         check(wait);
         try {
             lock.lock();
@@ -290,10 +307,10 @@ public final class Operations {
     }
 
     public static void lockInterruptibly(Lock lock) throws InterruptedException {
-        if (Recorder.on == null || !isKnown(lock) || Thread.currentThread().isInterrupted()) {
+        if (Recorder.on == null || !isKnown(lock) || isInterrupted()) {
             lock.lockInterruptibly();
         } else if (!isTaken(lock)) {
-            Wait wait = ask(lock);
+            Wait wait = ask(lock, true);
             check(wait);
             try {
                 lock.lockInterruptibly();

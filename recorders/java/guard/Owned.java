@@ -41,6 +41,11 @@ abstract class Owned extends Awaited {
     }
 
     @Override
+    void interrupt() {
+        return;
+    }
+
+    @Override
     void settle(Recorder recorder) {
         if (part != null && (now == null || !part.by.is(now))) {
             release(recorder);

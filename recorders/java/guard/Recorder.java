@@ -6,6 +6,7 @@ import java.io.IOException;
 import java.nio.charset.StandardCharsets;
 import java.util.ArrayList;
 import java.util.HashMap;
+import java.util.HashSet;
 import java.util.Iterator;
 import java.util.LinkedHashSet;
 import java.util.List;
@@ -31,6 +32,7 @@ final class Recorder {
     private final List<Wait> waits = new ArrayList<>();
     private final Set<Awaited> awaited = new LinkedHashSet<>();
     private final Map<String, Integer> counts = new HashMap<>();
+    private final Set<String> used = new HashSet<>();
     private volatile boolean hasMeetings;
     private volatile int fence;
 
@@ -63,10 +65,16 @@ final class Recorder {
         return new Part(lines.process + "/?part-" + counts.merge("part", 1, Integer::sum), by);
     }
 
+    /** A name that no other object has as long as this one is there: end-of-NAME of a thread, and KIND-1, KIND-2 of others. */
     private String named(String kind) {
         String base = Tasks.named(kind);
-        int number = counts.merge(base, 1, Integer::sum);
-        return lines.process + "/" + base + (base.startsWith("end-of-") && number == 1 ? "" : "-" + number);
+        boolean isThread = base.startsWith("end-of-");
+        int number = isThread ? 1 : counts.merge(base, 1, Integer::sum);
+        String name = isThread ? base : base + "-" + number;
+        while (!used.add(name)) {
+            name = base + "-" + ++number;
+        }
+        return lines.process + "/" + name;
     }
 
     /** A word of the recorder itself, which passes by what the program made of its own standard error. */
@@ -132,29 +140,40 @@ final class Recorder {
     }
 
     /** The current thread comes to a meeting if it arrives there, and then waits for the others. Nothing where it need not be told. */
-    Wait meet(Object object, boolean arrives) {
+    Wait meet(Object object, boolean arrives, boolean mayBeInterrupted) {
         Wait wait;
         synchronized (this) {
             Meeting meeting = meeting(object);
             if (meeting == null || arrives && meeting.arrive(running()) || !meeting.mayWait()) {
                 return null;
             }
-            wait = announce(meeting, object);
+            wait = announce(meeting, object, mayBeInterrupted);
         }
         return answered(wait);
     }
 
     /** The current thread waits for the end of a turn of a phaser. */
-    Wait awaitTurn(Object phaser, int turn) {
+    Wait awaitTurn(Object phaser, int turn, boolean mayBeInterrupted) {
         Wait wait;
         synchronized (this) {
             Meeting meeting = meeting(phaser);
             if (meeting == null || !meeting.mayWait() || meeting.turn() != turn) {
                 return null;
             }
-            wait = announce(meeting, phaser);
+            wait = announce(meeting, phaser, mayBeInterrupted);
         }
         return answered(wait);
+    }
+
+    /** A thread is about to be interrupted: its wait ends by this. */
+    synchronized void interrupt(Thread thread) {
+        Task task = tasks.known(thread);
+        if (task != null && task.wait != null) {
+            task.wait.interrupt();
+            if (task.wait.isOver()) {
+                task.wait.awaited.interrupt();
+            }
+        }
     }
 
     /** Whether a future has come, whatever the program's class says of it. */
@@ -163,7 +182,7 @@ final class Recorder {
     }
 
     /** The current thread waits for what one other has to end. */
-    Wait await(Object object) {
+    Wait await(Object object, boolean mayBeInterrupted) {
         Wait wait;
         synchronized (this) {
             Awaited known = objects.get(object);
@@ -171,7 +190,7 @@ final class Recorder {
                 known = Owners.of(object, named(Owners.kind(object)), inside);
                 objects.put(object, known);
             }
-            wait = announce(known, object);
+            wait = announce(known, object, mayBeInterrupted);
         }
         return answered(wait);
     }
@@ -187,13 +206,13 @@ final class Recorder {
         return task;
     }
 
-    private Wait announce(Awaited of, Object object) {
+    private Wait announce(Awaited of, Object object, boolean mayBeInterrupted) {
         Task task = running();
         of.comes();
         awaited.add(of);
         catchUp();
         lines.say(task.name + " wait " + of.name + " " + (of.turn() + 1) + " @" + Places.here());
-        Wait wait = new Wait(task, of, object);
+        Wait wait = new Wait(task, of, object, mayBeInterrupted);
         tasks.asks();
         task.wait = wait;
         waits.add(wait);
@@ -217,6 +236,8 @@ final class Recorder {
                 forget(wait);
                 handOver();
             }
+        } else {
+            wait.grant();
         }
         return wait;
     }
@@ -262,6 +283,9 @@ final class Recorder {
             if (wait.awaited.isTakenBy(wait.task)) {
                 wait.over();
             }
+            if (wait.task.isInterrupted(inside)) {
+                wait.interrupt();
+            }
             isStill &= !wait.isOver();
         }
         return isStill;
@@ -270,7 +294,7 @@ final class Recorder {
     private void goOn() {
         for (Iterator<Wait> all = waits.iterator(); all.hasNext();) {
             Wait wait = all.next();
-            if (wait.isOver()) {
+            if (wait.isOver() && wait.isGranted()) {
                 all.remove();
                 lines.say(wait.task.name + " go");
                 unlist(wait);
@@ -305,6 +329,7 @@ final class Recorder {
     synchronized void look() {
         catchUp();
         for (Awaited gone : objects.collected()) {
+            used.remove(gone.name.substring(lines.process.length() + 1));
             if (gone instanceof Meeting) {
                 ((Meeting) gone).end(this);
             }

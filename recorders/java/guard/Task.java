@@ -25,6 +25,11 @@ final class Task {
         return thread.get() == other;
     }
 
+    boolean isInterrupted(Inside inside) {
+        Thread own = thread.get();
+        return own != null && inside.isInterrupted(own);
+    }
+
     boolean hasEnded(Inside inside) {
         Thread own = thread.get();
         if (own == null) {

@@ -52,6 +52,11 @@ final class Tasks {
         return task;
     }
 
+    /** The task of a thread, or nothing where it has not to do with a wait yet. */
+    Task known(Thread thread) {
+        return byThread.get(thread);
+    }
+
     /** Those whose threads have ended by now. */
     List<Task> dead() {
         List<Task> dead = new ArrayList<>();

@@ -8,16 +8,21 @@ final class Wait {
     final Object object;
     private final int question;
     private final boolean isKept;
+    /** Whether an interrupt ends it. */
+    private final boolean mayBeInterrupted;
+    private volatile boolean isGranted;
     private volatile boolean isOver;
     private DeadlockException refusal;
 
     /** The last question of a task. */
-    Wait(Task task, Awaited awaited, Object object) {
+    Wait(Task task, Awaited awaited, Object object, boolean mayBeInterrupted) {
         this.task = task;
         this.awaited = awaited;
         this.object = object;
         question = task.asks();
         isKept = awaited.isKept();
+        isGranted = !isKept;
+        this.mayBeInterrupted = mayBeInterrupted;
     }
 
     /** The number of its question. */
@@ -28,6 +33,20 @@ final class Wait {
     /** Whether somebody had still to act when it began. */
     boolean isKept() {
         return isKept;
+    }
+
+    /** The monitor knows that it stands. */
+    void grant() {
+        isGranted = true;
+    }
+
+    boolean isGranted() {
+        return isGranted;
+    }
+
+    /** Its thread is interrupted, though it may not have gone on yet. */
+    void interrupt() {
+        isOver |= mayBeInterrupted;
     }
 
     void over() {

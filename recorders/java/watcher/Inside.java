@@ -112,6 +112,11 @@ final class Inside {
         return !(status instanceof Integer) || (Integer) status != 0;
     }
 
+    /** Whether a thread is interrupted, where the machine says so in a field: from Java 14 on. */
+    boolean isInterrupted(Thread thread) {
+        return Boolean.TRUE.equals(declared(Thread.class, thread, "interrupted"));
+    }
+
     /** The thread that has a lock for itself, of those locks of the library that know it; nothing where there is none. */
     Thread holder(Object lock) {
         Object sync = declared(lock.getClass(), lock, "sync");

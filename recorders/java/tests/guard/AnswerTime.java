@@ -29,7 +29,7 @@ public final class AnswerTime {
         long[] took = new long[TIMES];
         for (int i = 0; i < took.length; i++) {
             long begun = System.nanoTime();
-            Wait wait = Recorder.on.await(awaited);
+            Wait wait = Recorder.on.await(awaited, true);
             took[i] = System.nanoTime() - begun;
             wait.over();
         }

@@ -15,6 +15,7 @@ public class Breaks {
         interrupted();
         timed();
         meets("behind a reset");
+        three();
         acts();
         phaser();
         stranger();
@@ -71,6 +72,34 @@ public class Breaks {
         }
         party.join();
         System.out.println("they meet " + when);
+    }
+
+    /** Of three, main interrupts the first, and at once waits for the second, who finds the barrier broken. */
+    static void three() throws Exception {
+        for (int i = 0; i < 50; i++) {
+            CyclicBarrier three = new CyclicBarrier(3);
+            Thread first = Both.thread("first", () -> waits(three));
+            Thread second = Both.thread("second", () -> waits(three));
+            Members.member(three);
+            Members.member(first, three);
+            Members.member(second, three);
+            first.start();
+            second.start();
+            while (three.getNumberWaiting() < 2) {
+                Thread.yield();
+            }
+            first.interrupt();
+            second.join();
+            first.join();
+        }
+    }
+
+    static void waits(CyclicBarrier barrier) throws Exception {
+        try {
+            barrier.await();
+        } catch (InterruptedException | BrokenBarrierException e) {
+            return;
+        }
     }
 
     static void acts() throws Exception {
