@@ -1,5 +1,6 @@
 // The state of a monitor.
-ghost use Rattle.std.specs.Prelude.{◌≡◌, ◌+◌, ◌<◌, ◌≤◌, ℕ, IfOk, IfSome, IfNone, OnOk, OnErr, List, [], false, Some, Option, ◌||◌, bytes_eq, find, is_some, length, nat_le, nat_lt};
+ghost use Rattle.std.specs.Prelude.{◌≡◌, ◌+◌, ◌<◌, ◌≤◌, ℕ, Contains, IfOk, IfSome, IfNone, OnOk, OnErr, List, [], true, false, Some, Option, ◌||◌, bytes_eq, find, is_some, length, nat_le, nat_lt};
+ghost use Rattle.std.specs.List.{list_any};
 ghost use Rattle.std.specs.Option.{option_copied, option_map};
 ghost use Rattle.monitor_laws.specs.Lines.{Announces, AreGone, PlaysAny, PlaysOneOf};
 ghost use Rattle.monitor_laws.specs.Faults.{faults_of, first_fault, has_no_room, is_wildcard_in, memberships_in, most_listed, most_memberships, participant_in};
@@ -10,6 +11,7 @@ ghost use Rattle.monitor_state.specs.Taking.{taken_state};
 ghost use Rattle.trace_lines.specs.inside.Reading.{spaced_words};
 ghost use Rattle.monitor_state.specs.Values.{fault_of_line};
 ghost use Rattle.monitor_state.specs.inside.FirstFaults.{first_of_two, many_fault};
+ghost use Rattle.monitor_state.specs.inside.FirstPlaces.{IsFirstAt};
 ghost use Rattle.monitor_state.specs.inside.Numbers.{IsPlaceOfName};
 ghost use Rattle.monitor_state.specs.inside.Changes.{IsOfLine, MayChange, changed_value, memberships_had};
 
@@ -120,12 +122,26 @@ impl MonitorState {
         MOST_MEMBERSHIPS <= self.memberships
     }
 
-    // Where who is there with the name t stands.
-    fn place_of(&self, t: &[u8]) -> Option<usize>
-        ensures { IsPlaceOfName self.now.list t.now result }
+    /// Where in the list who is there with the name t stands; none where nobody is there with it.
+    pub fn place_of(&self, t: &[u8]) -> Option<usize>
+        ensures place { IsPlaceOfName self.now.list t.now result }
+        ensures at { IfSome result (IsFirstAt (is_there_as t.now) self.now.list) }
+        ensures none { IfNone result (list_any (is_there_as t.now) self.now.list ≡ false) }
     {
         let _ = &self.memberships;
         self.listing.place_of(t)
+    }
+
+    /// Who is there with the name t, if somebody is.
+    pub fn participant_there(&self, t: &[u8]) -> Option<&ListedParticipant>
+        ensures listed { IfSome result (λ u. Contains self.now.list u.now) }
+        ensures there { IfSome result (λ u. is_there_as t.now u.now ≡ true) }
+        ensures none { IfNone result (list_any (is_there_as t.now) self.now.list ≡ false) }
+    {
+        match self.place_of(t) {
+            None => None,
+            Some(at) => Some(self.listing.one_at(at)),
+        }
     }
 
     // Who is there, where a place is given: whoever has the name whose place it is.
