@@ -6,10 +6,12 @@ ghost use Rattle.monitor_laws.specs.States.{is_there_as};
 ghost use Rattle.monitor_laws.specs.Stuck.{has_phase_below};
 ghost use Rattle.monitor_state.specs.Values.{condition_value};
 ghost use Rattle.monitor_search.specs.Known.{KeepsStuck};
-ghost use Rattle.monitor_search.specs.inside.Leaving.{HasNoPhase, LeavesStuckBy, ends_quietly, frees_nobody, has_ended_as, is_for_any, is_for_some, is_freed, is_surely_out, is_unfreed_below, leaves_stuck, runs_as_one_of, runs_beside, runs_now};
+ghost use Rattle.monitor_search.specs.inside.Keeping.{LeavesStuck, LeavesStuckBy, StaysOut};
+ghost use Rattle.monitor_search.specs.inside.Leaving.{HasNoPhase, ends_quietly, frees_nobody, has_ended_as, is_for_any, is_for_some, is_freed, is_surely_out, is_unfreed_below, runs_as_one_of, runs_beside, runs_now};
 
 use crate::StuckTasks;
 use crate::parting::{has_phase_below, is_among};
+use crate::waits::waits_unneeded;
 use monitor_state::{ListedCondition, ListedParticipant, MonitorState};
 use trace_lines::TraceLine;
 
@@ -41,8 +43,8 @@ fn runs_as_one_of(u: &ListedParticipant, tasks: &[u64]) -> bool
     runs_now(u.condition()) && is_among(tasks, u.number())
 }
 
-// Whether a task of the list with one of these numbers runs.
-fn somebody_runs_of(list: &[ListedParticipant], tasks: &[u64]) -> bool
+/// Whether a task of the list with one of these numbers runs.
+pub(crate) fn somebody_runs_of(list: &[ListedParticipant], tasks: &[u64]) -> bool
     ensures { result ≡ list_any (runs_as_one_of tasks.now) list.now }
 {
     list.iter().any(|u| runs_as_one_of(u, tasks))
@@ -128,14 +130,24 @@ fn frees_nobody(list: &[ListedParticipant], was: &StuckTasks, u: &ListedParticip
         || somebody_runs_beside(list, u.number())
 }
 
-// Whether u was not stuck, cannot be now, and frees nobody.
-fn leaves_stuck(list: &[ListedParticipant], was: &StuckTasks, u: &ListedParticipant) -> bool
-    ensures { result ≡ leaves_stuck list.now was.now u.now }
+// Whether u stands in no closed set: it is freed or waits for those who are, or it waits unneeded for those who stood in none.
+fn stays_out(list: &[ListedParticipant], was: &StuckTasks, u: &ListedParticipant) -> bool
+    ensures { result ≡ true → StaysOut list.now was.now u.now }
 {
-    if was.has_number(u.number()) || !is_surely_out(list, u.condition()) {
+    if is_surely_out(list, u.condition()) {
+        return true;
+    }
+    waits_unneeded(list, was, u)
+}
+
+// Whether u was not stuck, stands in no closed set now, and frees nobody.
+fn leaves_stuck(list: &[ListedParticipant], was: &StuckTasks, u: &ListedParticipant) -> bool
+    ensures { result ≡ true → LeavesStuck list.now was.now u.now }
+{
+    if was.has_number(u.number()) || !frees_nobody(list, was, u) {
         return false;
     }
-    frees_nobody(list, was, u)
+    stays_out(list, was, u)
 }
 
 // Whether somebody of the list has ended with the name t.

@@ -12,6 +12,7 @@ mod noting;
 mod parting;
 mod phases;
 mod stuck;
+mod waits;
 
 pub use known_tasks::{StuckTask, StuckTasks};
 pub use laws::one_known;

@@ -2,7 +2,8 @@ use Rattle.std.proofs.Common.{List, sym, subst}
 use Rattle.trace_lines.specs.Values.{line_value, place_value, said_value}
 use Rattle.monitor_laws.specs.States.{Participant}
 use Rattle.monitor_search.specs.Known.{KeepsStuck}
-use Rattle.monitor_search.specs.inside.Leaving.{HasNoPhase, LeavesStuckBy}
+use Rattle.monitor_search.specs.inside.Keeping.{LeavesStuckBy}
+use Rattle.monitor_search.specs.inside.Leaving.{HasNoPhase}
 use Rattle.monitor_search.proofs.LeftByLines.{announces_keeps, any_keeps, one_of_keeps}
 use Rattle.monitor_search.proofs.leaving.keeps_stuck.Goals as goal
 
