@@ -11,7 +11,7 @@ use Rattle.monitor_laws.proofs.Filters.{any_from, any_is, none_passes}
 use Rattle.monitor_laws.proofs.Known.{stuck_is_known}
 use Rattle.monitor_search.specs.Known.{AreStuckTasks, has_stuck_number}
 use Rattle.monitor_search.specs.inside.Leaving.{is_freed, runs_as_one_of, runs_now}
-use Rattle.monitor_search.specs.inside.Waits.{is_inside_below, is_unstuck_of, needs_in, needs_other, waits_unneeded, was_outside}
+use Rattle.monitor_search.specs.inside.Waits.{is_inside_below, is_unstuck, is_unstuck_of, needs_in, needs_other, waits_unneeded, was_outside}
 use Rattle.monitor_search.proofs.Parted.{has_number}
 use Rattle.monitor_search.proofs.SurelyOut.{freed_out}
 
@@ -164,18 +164,18 @@ module _ (s after : TraceState) (u : Participant) (beside : IsBeside s after u) 
         by_condition AnyTask same outside = freed_not_in y listed inside AnyTask same outside
         by_condition (OneOf names tasks) same outside =
             let w = any_is (is_unstuck_of known tasks) after.list outside in
-            let parts = and_parts (is_live_task w.0.condition) (list_any (λ j. j == w.0.number) tasks && not (has_stuck_number known w.0.number)) w.2 in
-            let more = and_parts (list_any (λ j. j == w.0.number) tasks) (not (has_stuck_number known w.0.number)) parts.1 in
+            let parts = and_parts (is_unstuck known w.0) (list_any (λ j. j == w.0.number) tasks) w.2 in
+            let more = and_parts (is_live_task w.0.condition) (not (has_stuck_number known w.0.number)) parts.0 in
             let all : IsKeptIn after set (OneOf names tasks) = subst (IsKeptIn after set) same (closed y listed inside) in
-            let in_w = all w.0 w.1 parts.0 (has_number tasks w.0 more.0) in
+            let in_w = all w.0 w.1 more.0 (has_number tasks w.0 parts.1) in
             let new = from_not_true (has_stuck_number known w.0.number) more.1 in
             elim (cases_Bool (w.0.number == u.number)) [
               | inr apart ↦
-                  absurd (let stuck = live_was_stuck set set_closed w.0 w.1 parts.0 (λ e. let f = eq-eqb w.0.number u.number e in absurd (cc)) in_w in cc)
+                  absurd (let stuck = live_was_stuck set set_closed w.0 w.1 more.0 (λ e. let f = eq-eqb w.0.number u.number e in absurd (cc)) in_w in cc)
               | inl own ↦
                   (let is_u = eqb-true w.0.number u.number own in
                   let other : y.number ≡ u.number → ⊥ = λ e. let f = ap (λ (x : Participant). is_live_task x.condition) (beside.only y listed e) in let g = ap is_live_task same in absurd (cc) in
-                  let has : list_any (λ j. j == u.number) tasks ≡ true = subst (λ j. list_any (λ x. x == j) tasks ≡ true) is_u more.0 in
+                  let has : list_any (λ j. j == u.number) tasks ≡ true = subst (λ j. list_any (λ x. x == j) tasks ≡ true) is_u parts.1 in
                   let none : needs_in after.list known u y.number (OneOf names tasks) ≡ false = subst (λ c. needs_in after.list known u y.number c ≡ false) same (needs_not y listed other) in
                   freed_not_in y listed inside (OneOf names tasks) same
                   (from_not_not (list_any (runs_as_one_of tasks) after.list) (not_other (list_any (λ j. j == u.number) tasks) (not (list_any (runs_as_one_of tasks) after.list)) none has)))

@@ -9,6 +9,7 @@ mod known_tasks;
 mod laws;
 mod leaving;
 mod noting;
+mod numbered;
 mod parting;
 mod phases;
 mod stuck;

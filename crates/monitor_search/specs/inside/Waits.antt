@@ -6,9 +6,13 @@ use Rattle.monitor_laws.specs.Stuck.{has_phase_below}
 use Rattle.monitor_search.specs.Known.{has_stuck_number}
 use Rattle.monitor_search.specs.inside.Leaving.{runs_as_one_of, runs_now}
 
--- a task with one of these numbers that has not ended and was not stuck
+-- a task that has not ended and was not stuck
+abbrev pub is_unstuck : List (ℕ × List ℕ) → Participant → Bool
+is_unstuck known u = is_live_task u.condition && not (has_stuck_number known u.number)
+
+-- such a task with one of these numbers
 abbrev pub is_unstuck_of : List (ℕ × List ℕ) → List ℕ → Participant → Bool
-is_unstuck_of known tasks u = is_live_task u.condition && (list_any (λ k. k == u.number) tasks && not (has_stuck_number known u.number))
+is_unstuck_of known tasks u = is_unstuck known u && list_any (λ k. k == u.number) tasks
 
 -- who has this number and is in this condition stood in no closed set, and is not the task with number k
 abbrev pub was_outside : List Participant → List (ℕ × List ℕ) → ℕ → ℕ → Condition → Bool
