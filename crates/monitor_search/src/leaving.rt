@@ -1,12 +1,13 @@
 // Lines by which nobody becomes stuck and nobody is stuck no longer.
-ghost use Rattle.std.specs.Prelude.{◌≡◌, ◌&&◌, ◌==◌, true};
+ghost use Rattle.std.specs.Prelude.{◌≡◌, ◌&&◌, ◌==◌, true, not};
 ghost use Rattle.std.specs.List.{list_any};
 ghost use Rattle.trace_lines.specs.Values.{line_value};
 ghost use Rattle.monitor_laws.specs.Stuck.{has_phase_below};
 ghost use Rattle.monitor_state.specs.Values.{condition_value};
 ghost use Rattle.monitor_search.specs.Known.{KeepsStuck};
+ghost use Rattle.monitor_search.specs.inside.Cascades.{HasLiveNumber};
 ghost use Rattle.monitor_search.specs.inside.Keeping.{LeavesStuck, LeavesStuckBy, StaysOut};
-ghost use Rattle.monitor_search.specs.inside.Leaving.{HasNoPhase, ends_quietly, frees_nobody, has_ended_as, is_for_any, is_for_some, is_freed, is_surely_out, is_unfreed_below, runs_as_one_of, runs_beside, runs_now};
+ghost use Rattle.monitor_search.specs.inside.Leaving.{HasNoPhase, asks_for_ended, ends_quietly, frees_nobody, has_ended_as, is_for_any, is_freed, is_surely_out, is_unfreed_below, lives_with_number, runs_as_one_of, runs_beside, runs_now};
 
 use crate::StuckTasks;
 use crate::numbered::numbered;
@@ -115,12 +116,50 @@ fn some_for_any(list: &[ListedParticipant]) -> bool
     list.iter().any(|u| is_for_any(u.condition()))
 }
 
-// Whether only some tasks may play a wildcard of the list.
-fn some_for_some(list: &[ListedParticipant]) -> bool
-    ensures { result ≡ list_any (λ u. is_for_some u.condition) list.now }
+/// Whether the task with this number is in the list and has not ended.
+pub(crate) fn lives_with_number(state: &MonitorState, k: u64) -> bool
+    ensures lives { result ≡ lives_with_number state.now.list k }
+    ensures has { result ≡ true → HasLiveNumber state.now.list k }
 {
-    list.iter()
-        .any(|u| matches!(u.condition(), ListedCondition::OneOf(_, _)))
+    match numbered(state, k) {
+        None => false,
+        Some(u) => u.condition().is_live_task(),
+    }
+}
+
+// Whether one of these is the number of no task that lives.
+fn some_ended_of(state: &MonitorState, tasks: &[u64]) -> bool
+    ensures { result ≡ list_any (λ k. not (lives_with_number state.now.list k)) tasks.now }
+{
+    for k in tasks {
+        if !lives_with_number(state, *k) {
+            return true;
+        }
+    }
+    false
+}
+
+// Whether it is of a wildcard that some tasks may play, of whom not all live.
+fn asks_for_ended(state: &MonitorState, condition: &ListedCondition) -> bool
+    ensures { result ≡ asks_for_ended state.now.list (condition_value condition.now) }
+{
+    match condition {
+        ListedCondition::OneOf(_, tasks) => some_ended_of(state, tasks),
+        ListedCondition::Running
+        | ListedCondition::Waiting(_, _)
+        | ListedCondition::Ended
+        | ListedCondition::AnyTask => false,
+    }
+}
+
+// Whether there is such a wildcard in the list.
+fn some_asks_for_ended(state: &MonitorState) -> bool
+    ensures { result ≡ list_any (λ v. asks_for_ended state.now.list v.condition) state.now.list }
+{
+    state
+        .participants()
+        .iter()
+        .any(|v| asks_for_ended(state, v.condition()))
 }
 
 // Whether a task of the list that has another number runs.
@@ -169,11 +208,12 @@ fn some_ended_as(list: &[ListedParticipant], t: &[u8]) -> bool
     list.iter().any(|u| has_ended_as(u, t))
 }
 
-// Whether nobody was stuck, nobody has ended with the name t, and each wildcard is one that somebody who runs may play.
-fn ends_quietly(list: &[ListedParticipant], was: &StuckTasks, t: &[u8]) -> bool
-    ensures { result ≡ ends_quietly list.now was.now t.now }
+// Whether nobody was stuck, nobody has ended with the name t, each wildcard of some tasks asks for such as live, and somebody runs, or none is for any task.
+fn ends_quietly(state: &MonitorState, was: &StuckTasks, t: &[u8]) -> bool
+    ensures { result ≡ ends_quietly state.now.list was.now t.now }
 {
-    if !was.is_empty() || some_ended_as(list, t) || some_for_some(list) {
+    let list = state.participants();
+    if !was.is_empty() || some_ended_as(list, t) || some_asks_for_ended(state) {
         return false;
     }
     somebody_runs(list) || !some_for_any(list)
@@ -184,7 +224,7 @@ fn leaves_stuck_by(state: &MonitorState, was: &StuckTasks, t: &[u8]) -> bool
     ensures { result ≡ true → LeavesStuckBy state.now.list was.now t.now }
 {
     match state.participant_there(t) {
-        None => ends_quietly(state.participants(), was, t),
+        None => ends_quietly(state, was, t),
         Some(u) => leaves_stuck(state, was, u),
     }
 }
