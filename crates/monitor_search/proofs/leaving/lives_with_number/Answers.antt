@@ -1,5 +1,5 @@
 use Rattle.std.proofs.Common.{◌∙◌, ap, sym}
-use Rattle.monitor_laws.specs.States.{Participant, is_live_task}
+use Rattle.monitor_laws.specs.States.{is_live_task}
 use Rattle.monitor_search.proofs.NumberSearch.{none_passes_numbered, one_passes_numbered}
 use Rattle.monitor_search.proofs.leaving.lives_with_number.Goals as goal
 
