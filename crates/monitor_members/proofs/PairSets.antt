@@ -1,10 +1,11 @@
 -- Pairs of a phase and a number after one was put or taken.
-use Rattle.std.proofs.Common.{Ordering, ◌≡◌, ℕ, Bool, true, false, not, ◌&&◌, ◌||◌, List, [], ◌∷◌, refl, sym, ◌∙◌, ap, arith}
-use Rattle.std.specs.Prelude.{◌==◌, cond}
-use Rattle.std.specs.BTreeSet.{BTreeSet, Updates, contains}
+use Rattle.std.proofs.Common.{Ordering, ◌≡◌, ◌<◌, ◌≤◌, ℕ, Bool, true, false, not, ◌&&◌, ◌||◌, List, [], ◌∷◌, refl, sym, ◌∙◌, ap, inl, inr, arith}
+use Rattle.std.specs.Prelude.{◌==◌, cond, nat_lt}
+use Rattle.std.specs.BTreeSet.{BTreeSet, IsLowerBound, IsUpperBound, Updates, contains}
 use Rattle.std.specs.Cmp.{tied_then}
 use Rattle.std.specs.List.{list_any}
-use Rattle.std.specs.Ordering.{is_eq, nat_cmp, ordering_then}
+use Rattle.std.specs.Ordering.{is_eq, is_gt, is_lt, nat_cmp, ordering_then}
+use Rattle.std.proofs.lemmas.Bool.{cases_Bool, ltb-false, ltb-true}
 use Rattle.std.proofs.lemmas.Bool.Decides.{nat_tests}
 use Rattle.monitor_members.specs.Noted.{has_pair}
 
@@ -44,3 +45,26 @@ module _ (old new : BTreeSet (ℕ × ℕ)) (m k : ℕ) where
   taken updates n j =
       sym (contained new.keys n j) ∙ updates.0 (n, j) ∙ off_cond (is_eq (pair_cmp (m, k) (n, j))) (contains pair_cmp old (n, j))
       ∙ ap (λ b. b && not (is_eq (pair_cmp (m, k) (n, j)))) (contained old.keys n j) ∙ ap (λ b. has_pair old.keys n j && not b) (same_pair m k n j)
+
+-- the least pair and the greatest one
+not_after : (a b c d : ℕ) → is_gt (ordering_then (nat_cmp a b) (nat_cmp c d)) ≡ false → a ≤ b
+not_after a b c d off = grind (arith, nat_tests)
+
+not_before : (a b c d : ℕ) → is_lt (ordering_then (nat_cmp a b) (nat_cmp c d)) ≡ false → b ≤ a
+not_before a b c d off = grind (arith, nat_tests)
+
+module _ (pairs : BTreeSet (ℕ × ℕ)) where
+  pub found : (e : ℕ × ℕ) → contains pair_cmp pairs e ≡ true → has_pair pairs.keys e.0 e.1 ≡ true
+  found e there = sym (contained pairs.keys e.0 e.1) ∙ there
+
+  absent : (m k : ℕ) → (contains pair_cmp pairs (m, k) ≡ true → ⊥) → has_pair pairs.keys m k ≡ false
+  absent m k never = elim (cases_Bool (has_pair pairs.keys m k)) [
+    | inl on ↦ absurd (never (contained pairs.keys m k ∙ on))
+    | inr off ↦ off
+  ]
+
+  pub none_below : (e : ℕ × ℕ) (n : ℕ) → IsLowerBound pair_cmp pairs e → nat_lt e.0 n ≡ false → (m k : ℕ) → m < n → has_pair pairs.keys m k ≡ false
+  none_below e n least off m k less = absent m k (λ there. (let le = not_after e.0 m e.1 k (least (m, k) there) in let not_less : n ≤ e.0 = ltb-false e.0 n off in omega arith))
+
+  pub none_above : (e : ℕ × ℕ) (n : ℕ) → IsUpperBound pair_cmp pairs e → nat_lt n e.0 ≡ false → (m k : ℕ) → n < m → has_pair pairs.keys m k ≡ false
+  none_above e n greatest off m k more = absent m k (λ there. (let le = not_before e.0 m e.1 k (greatest (m, k) there) in let not_more : e.0 ≤ n = ltb-false n e.0 off in omega arith))

@@ -1,8 +1,9 @@
 // Numbers of tasks and wildcards, by phaser and phase.
-ghost use Rattle.std.specs.Prelude.{◌≡◌, ◌&&◌, ◌||◌, ◌==◌, ℕ, List, false, not, true, IfOk, OnOk, OnErr, bytes_eq};
-ghost use Rattle.monitor_members.specs.Noted.{has_pair, is_here, is_noted, pairs_at};
+ghost use Rattle.std.specs.Prelude.{◌≡◌, ◌<◌, ◌&&◌, ◌||◌, ◌==◌, ℕ, List, false, not, true, IfOk, OnOk, OnErr, bytes_eq};
+ghost use Rattle.std.specs.Option.{option_copied};
+ghost use Rattle.monitor_members.specs.Noted.{has_pair, is_here, is_noted, pairs_at, pairs_of};
 
-use crate::pairs::{one_pair, put_pair, take_pair};
+use crate::pairs::{has_above, has_below, one_pair, put_pair, take_pair};
 use std::alloc::{AllocError, Global};
 use std::collections::{BTreeSet, HashMap};
 
@@ -66,6 +67,35 @@ impl PhaserIndex {
     {
         if take_out(&mut self.by_phaser, p, m, k) {
             self.by_phaser.remove(p);
+        }
+    }
+
+    /// The pairs of a phase and a number that are noted at phaser p, in their order; none where nobody is noted there.
+    pub fn at(&self, p: &[u8]) -> Option<&BTreeSet<(u32, u64)>>
+        ensures { pairs_of (option_copied result) ≡ pairs_at self.now.by_phaser p.now }
+    {
+        self.by_phaser.get(p)
+    }
+
+    /// Whether somebody is noted at a phase of phaser p below n.
+    pub fn has_below(&self, p: &[u8], n: u32) -> bool
+        ensures some { result ≡ true → (m : ℕ) × (k : ℕ) × (m < n) × (is_noted self.now p.now m k ≡ true) }
+        ensures none { result ≡ false → (m k : ℕ) → m < n → is_noted self.now p.now m k ≡ false }
+    {
+        match self.at(p) {
+            None => false,
+            Some(pairs) => has_below(pairs, n),
+        }
+    }
+
+    /// Whether somebody is noted at a phase of phaser p above n.
+    pub fn has_above(&self, p: &[u8], n: u32) -> bool
+        ensures some { result ≡ true → (m : ℕ) × (k : ℕ) × (n < m) × (is_noted self.now p.now m k ≡ true) }
+        ensures none { result ≡ false → (m k : ℕ) → n < m → is_noted self.now p.now m k ≡ false }
+    {
+        match self.at(p) {
+            None => false,
+            Some(pairs) => has_above(pairs, n),
         }
     }
 }

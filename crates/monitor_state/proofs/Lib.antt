@@ -17,3 +17,4 @@ pub mod Moved
 pub mod Indexed
 pub mod IndexChanges
 pub mod Newcomers
+pub mod Beyond

@@ -511,7 +511,8 @@ impl ListedParticipant {
         ensures resting { OnOk result ((q : List ℕ) (n j : ℕ) → is_noted index.new.resting q n j ≡ (is_noted index.old.resting q n j || (self.now.number == j && rests_at q n (gone_by beginning.now self.now)))) }
         ensures waiting { OnOk result ((q : List ℕ) (n j : ℕ) → is_noted index.new.waiting q n j ≡ (is_noted index.old.waiting q n j || (self.now.number == j && waits_at q n (gone_by beginning.now self.now)))) }
     {
-        if self.parts.name.as_slice().starts_with(beginning) {
+        let begins = self.parts.name.as_slice().starts_with(beginning);
+        if begins {
             return self
                 .parts
                 .memberships
