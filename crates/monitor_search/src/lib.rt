@@ -9,9 +9,11 @@ mod known_tasks;
 mod laws;
 mod leaving;
 mod noting;
+mod numbered;
 mod parting;
 mod phases;
 mod stuck;
+mod waits;
 
 pub use known_tasks::{StuckTask, StuckTasks};
 pub use laws::one_known;
