@@ -9,6 +9,7 @@ ghost use Rattle.trace_lines.specs.Values.{line_value, place_value, said_value};
 ghost use Rattle.monitor_laws.specs.Lawful.{AreAscending, IsLawfulState};
 ghost use Rattle.monitor_state.specs.Taking.{taken_state};
 ghost use Rattle.trace_lines.specs.inside.Reading.{spaced_words};
+ghost use Rattle.monitor_state.specs.Indexes.{IsIndexOf};
 ghost use Rattle.monitor_state.specs.Values.{fault_of_line};
 ghost use Rattle.monitor_state.specs.inside.FirstFaults.{first_of_two, many_fault};
 ghost use Rattle.monitor_state.specs.inside.FirstPlaces.{IsFirstAt};
@@ -21,7 +22,7 @@ use crate::goes::memberships_of;
 use crate::listing::Listing;
 use crate::players::task_numbers;
 use crate::words::split_word;
-use crate::{FaultOfLine, ListedCondition, ListedParticipant};
+use crate::{FaultOfLine, ListedCondition, ListedParticipant, MemberIndex};
 use armus_base::NoMemory;
 use std::alloc::Global;
 use std::marker::Model;
@@ -72,6 +73,14 @@ impl MonitorState {
         ensures short { length self.now.list ≤ most_listed }
     {
         self.listing.as_slice()
+    }
+
+    /// The members of phasers that do not run, and the tasks that wait there, by phase.
+    pub fn index(&self) -> &MemberIndex
+        ensures { IsIndexOf self.now.list result.now }
+    {
+        let _ = &self.memberships;
+        self.listing.index()
     }
 
     #[tactic(none)]
@@ -215,11 +224,13 @@ impl MonitorState {
     }
 
     // All whose names begin so have ended.
-    fn go_all(&mut self, beginning: &[u8])
-        ensures { self.new ≡ after_line self.old (AreGone beginning.now) }
+    fn go_all(&mut self, alloc: Global, beginning: &[u8]) -> Result<(), NoMemory>
+        ensures gone { OnOk result (self.new ≡ after_line self.old (AreGone beginning.now)) }
+        ensures kept { OnErr result (self.new ≡ self.old) }
     {
-        self.listing.go_all(beginning);
+        self.listing.go_all(alloc, beginning)?;
         self.memberships = memberships_of(self.listing.as_slice());
+        Ok(())
     }
 
     // Whether a wildcard is there with the name t.
@@ -401,7 +412,7 @@ impl MonitorState {
         match line {
             TraceLine::SaysNothing | TraceLine::AsksReport | TraceLine::AsksList => Ok(None),
             TraceLine::AreGone(beginning) => {
-                self.go_all(beginning);
+                self.go_all(alloc, beginning)?;
                 Ok(None)
             }
             TraceLine::Announces(t, what, place) => {
