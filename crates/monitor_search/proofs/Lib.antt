@@ -1,3 +1,4 @@
+pub mod ByIndex
 pub mod Carried
 pub mod Filtered
 pub mod FreedWildcards

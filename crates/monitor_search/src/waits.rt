@@ -1,8 +1,9 @@
 // A wait by which its task does not come into a closed set.
-ghost use Rattle.std.specs.Prelude.{◌≡◌, ◌&&◌, ◌==◌};
+ghost use Rattle.std.specs.Prelude.{◌≡◌, ◌&&◌, ◌==◌, false};
 ghost use Rattle.std.specs.List.{list_any};
 ghost use Rattle.monitor_state.specs.Values.{condition_value};
-ghost use Rattle.monitor_search.specs.inside.Waits.{is_inside_below, is_unstuck, is_unstuck_of, needs_in, needs_other, waits_unneeded, was_outside};
+ghost use Rattle.monitor_laws.specs.States.{is_live_wildcard};
+ghost use Rattle.monitor_search.specs.inside.Waits.{NobodyAwaits, is_inside_below, is_unstuck, is_unstuck_of, needs_in, needs_other, waits_unneeded, was_outside};
 
 use crate::StuckTasks;
 use crate::leaving::{somebody_runs, somebody_runs_of};
@@ -114,14 +115,35 @@ fn needs_other(
     v.number() != u.number() && needs_in(state, was, u, v.number(), v.condition())
 }
 
+// Whether somebody waits for u.
+fn is_awaited(state: &MonitorState, u: &ListedParticipant) -> bool
+    ensures { result ≡ false → NobodyAwaits state.now.list u.now.phases }
+{
+    let index = state.index();
+    for membership in u.memberships().as_slice() {
+        if index.is_awaited_above(membership.phaser(), membership.phase()) {
+            return true;
+        }
+    }
+    false
+}
+
+// Whether a wildcard of the list is not gone.
+fn some_wildcard(list: &[ListedParticipant]) -> bool
+    ensures { result ≡ list_any (λ v. is_live_wildcard v.condition) list.now }
+{
+    list.iter().any(|v| v.condition().is_live_wildcard())
+}
+
 // Whether somebody else of the list needs u.
 fn is_needed(state: &MonitorState, was: &StuckTasks, u: &ListedParticipant) -> bool
     ensures { result ≡ list_any (needs_other state.now.list was.now u.now) state.now.list }
 {
-    state
-        .participants()
-        .iter()
-        .any(|v| needs_other(state, was, u, v))
+    let list = state.participants();
+    if !is_awaited(state, u) && !some_wildcard(list) {
+        return false;
+    }
+    list.iter().any(|v| needs_other(state, was, u, v))
 }
 
 /// Whether u waits for nobody who may have stood in a closed set, and nobody else needs it.

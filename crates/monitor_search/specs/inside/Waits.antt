@@ -1,8 +1,9 @@
 -- A wait by which its task does not come into a closed set.
-use Rattle.std.specs.Prelude.{ℕ, Bool, true, false, not, ◌&&◌, ◌||◌, ◌==◌, List}
+use Rattle.std.specs.Prelude.{◌≡◌, ℕ, Bool, true, false, not, ◌&&◌, ◌||◌, ◌==◌, List, Contains}
 use Rattle.std.specs.List.{list_any}
 use Rattle.monitor_laws.specs.States.{Condition, Running, Waiting, Ended, AnyTask, OneOf, Participant, is_live_task}
 use Rattle.monitor_laws.specs.Stuck.{has_phase_below}
+use Rattle.monitor_state.specs.Indexes.{waits_above}
 use Rattle.monitor_search.specs.Known.{has_stuck_number}
 use Rattle.monitor_search.specs.inside.Leaving.{runs_as_one_of, runs_now}
 
@@ -37,6 +38,10 @@ needs_in list known u number (OneOf names tasks) = list_any (λ k. k == u.number
 -- somebody else who needs u
 abbrev pub needs_other : List Participant → List (ℕ × List ℕ) → Participant → Participant → Bool
 needs_other list known u v = not (v.number == u.number) && needs_in list known u v.number v.condition
+
+-- nobody waits for who has these phases
+abbrev pub NobodyAwaits : List Participant → List (List ℕ × ℕ) → Type 0
+NobodyAwaits list phases = (m : List ℕ × ℕ) → Contains phases m → list_any (waits_above m.0 m.1) list ≡ false
 
 -- u, in this condition, waits for nobody who may have stood in a closed set, and nobody else needs it
 abbrev pub waits_unneeded : List Participant → List (ℕ × List ℕ) → Participant → Condition → Bool
