@@ -12,3 +12,4 @@ pub mod References
 pub mod SurelyOut
 pub mod TakenOut
 pub mod Unneeded
+pub mod Resting
