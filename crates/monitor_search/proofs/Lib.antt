@@ -14,3 +14,4 @@ pub mod References
 pub mod SurelyOut
 pub mod TakenOut
 pub mod Unneeded
+pub mod Resting

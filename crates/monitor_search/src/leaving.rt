@@ -90,6 +90,9 @@ fn is_unfreed_below(state: &MonitorState, u: &ListedParticipant, p: &[u8], n: u3
 fn some_unfreed_below(state: &MonitorState, p: &[u8], n: u32) -> bool
     ensures { result ≡ list_any (is_unfreed_below state.now.list p.now n) state.now.list }
 {
+    if !state.index().rests_below(p, n) {
+        return false;
+    }
     state
         .participants()
         .iter()
