@@ -1,5 +1,5 @@
 -- Lines by which nobody becomes stuck and nobody is stuck no longer.
-use Rattle.std.proofs.Common.{◌≡◌, ◌==◌, ℕ, Bool, true, false, ◌&&◌, ◌||◌, not, Option, List, [], ◌∷◌, length, map, refl, sym, ◌∙◌, ap, subst, ◌⊎◌, inl, inr, arith}
+use Rattle.std.proofs.Common.{◌≡◌, ◌==◌, ℕ, Bool, true, false, ◌||◌, not, Option, List, [], ◌∷◌, length, map, refl, sym, ◌∙◌, ap, subst, ◌⊎◌, inl, inr, arith}
 use Rattle.std.specs.Prelude.{Contains, filter, is_some}
 use Rattle.std.specs.List.{list_any}
 use Rattle.std.proofs.lemmas.Bool.{and_from, eq-eqb, and_parts, cases_Bool, or_cases, or_left}
@@ -12,10 +12,13 @@ use Rattle.monitor_laws.proofs.Lawful.{IsLawfulState, announced_name, announced_
 use Rattle.monitor_search.proofs.QuietEnds.{quietly_ended}
 use Rattle.monitor_laws.proofs.Rows.{both_tables, has_no_fault, is_task, is_wildcard, no_row, no_task_row, task_or_wildcard}
 use Rattle.monitor_search.specs.Known.{AreStuckTasks, KeepsStuck, has_stuck_number, known_task}
-use Rattle.monitor_search.specs.inside.Leaving.{HasNoPhase, LeavesStuckBy, is_for_any, is_freed, ends_quietly, is_nobody, is_surely_out, leaves_stuck, runs_beside, runs_now}
+use Rattle.monitor_search.specs.inside.Keeping.{LeavesStuck, LeavesStuckBy, StaysOut}
+use Rattle.monitor_search.specs.inside.Leaving.{HasNoPhase, is_for_any, is_freed, ends_quietly, is_nobody, is_surely_out, runs_beside, runs_now}
+use Rattle.monitor_search.specs.inside.Waits.{waits_unneeded}
 use Rattle.monitor_search.proofs.Carried.{AsksFor, IsApart, IsCarried, NoneAsks, apart_idle, apart_outside, still_stuck}
 use Rattle.monitor_search.proofs.OneChanged.{WasThere, had_number, new_number, one_there, others_are, others_were, same_number, same_passed, was_there}
 use Rattle.monitor_search.proofs.SurelyOut.{freed_out, runs_is, surely_out}
+use Rattle.monitor_search.proofs.Unneeded.{IsBeside, unneeded_out}
 
 -- a condition is of a task or of a wildcard
 wild_not_live : (c : Condition) → is_live_wildcard c ≡ true → is_live_task c ≡ true → ⊥
@@ -31,6 +34,13 @@ wild_freed list (Waiting p n) wild on = absurd (cc)
 wild_freed list Ended wild on = absurd (cc)
 wild_freed list AnyTask wild on = on
 wild_freed list (OneOf names tasks) wild on = on
+
+wild_not_unneeded : (list : List Participant) (known : List (ℕ × List ℕ)) (u : Participant) (c : Condition) → is_live_wildcard c ≡ true → waits_unneeded list known u c ≡ true → ⊥
+wild_not_unneeded list known u Running wild on = absurd (cc)
+wild_not_unneeded list known u (Waiting p n) wild on = absurd (cc)
+wild_not_unneeded list known u Ended wild on = absurd (cc)
+wild_not_unneeded list known u AnyTask wild on = absurd (cc)
+wild_not_unneeded list known u (OneOf names tasks) wild on = absurd (cc)
 
 from_not : (b : Bool) → not b ≡ true → b ≡ false
 from_not true e = absurd (cc)
@@ -97,14 +107,14 @@ module _ (s : TraceState) (lawful : IsLawfulState s) (t : List ℕ) (change : Pa
             same_passed s lawful t change number (λ x. has_stuck_number known x.number) (λ x. ap (has_stuck_number known) (number x)) none_new
             (λ x listed on. (clean x listed on, lawful.stays x listed))
 
-    module _ (out : is_surely_out after.list u.condition ≡ true) where
+    module _ (outside : (set : ℕ → Bool) → IsClosedSet after set → set u.number ≡ true → ⊥) where
       not_stuck_out : IsStuck after u → ⊥
-      not_stuck_out stuck = surely_out after u.condition out stuck.set stuck.closed (stuck.closed u within stuck.inside)
+      not_stuck_out stuck = outside stuck.set stuck.closed stuck.inside
 
       apart_out : IsApart after u.number
       apart_out =
           apart_outside after u.number
-          (λ set closed x listed same inside. surely_out after u.condition out set closed (closed u within (subst (λ (y : Participant). set y.number ≡ true) (has_number_after x listed same) inside)))
+          (λ set closed x listed same inside. outside set closed (subst (λ (y : Participant). set y.number ≡ true) (has_number_after x listed same) inside))
 
       -- of a task
       module _ (live : is_live_task u.condition ≡ true) (was_live : Contains s.list old.was → is_live_task old.was.condition ≡ true) where
@@ -179,7 +189,7 @@ module _ (s : TraceState) (lawful : IsLawfulState s) (t : List ℕ) (change : Pa
             subst (IsKeptIn s set) runs (closed v in_s (all v in_s (ap is_live_task runs))))))
 
       -- of a wildcard that stays what it is
-      module _ (wild : is_live_wildcard u.condition ≡ true) (same_condition : old.was.condition ≡ u.condition) where
+      module _ (wild : is_live_wildcard u.condition ≡ true) (same_condition : old.was.condition ≡ u.condition) (out : is_surely_out after.list u.condition ≡ true) where
         apart_wild : IsApart s u.number
         apart_wild =
             apart_outside s u.number
@@ -308,26 +318,14 @@ module _ (s : TraceState) (lawful : IsLawfulState s) (t : List ℕ) (what : Anno
   later = changed_at t change s
 
   announced_leaves : IsLawfulState later → (known : List (ℕ × List ℕ)) → AreStuckTasks s known → (u : Participant) → Contains later.list u → is_there_as t u ≡ true →
-      leaves_stuck later.list known u ≡ true → AreStuckTasks later known
+      LeavesStuck later.list known u → AreStuckTasks later known
   announced_leaves lawful_too known is u within there leaves = by_kind (task_or_wildcard t u there)
     where
-      new_and_out : Bool
-      new_and_out = not (has_stuck_number known u.number) && is_surely_out later.list u.condition
-
-      kinds : Bool
-      kinds = (((is_live_wildcard u.condition || is_nobody known) || not (list_any (λ v. is_for_any v.condition) later.list)) || list_any (runs_beside u.number) later.list)
-
-      parts : (new_and_out ≡ true) × (kinds ≡ true)
-      parts = and_parts new_and_out kinds leaves
-
-      first : (not (has_stuck_number known u.number) ≡ true) × (is_surely_out later.list u.condition ≡ true)
-      first = and_parts (not (has_stuck_number known u.number)) (is_surely_out later.list u.condition) parts.0
-
       new : has_stuck_number known u.number ≡ false
-      new = from_not (has_stuck_number known u.number) first.0
+      new = leaves.new
 
       kind : (((is_live_wildcard u.condition ≡ true) ⊎ (is_nobody known ≡ true)) ⊎ (list_any (λ v. is_for_any v.condition) later.list ≡ false)) ⊎ ((v : Participant) × Contains later.list v × (runs_beside u.number v ≡ true))
-      kind = elim (or_cases ((is_live_wildcard u.condition || is_nobody known) || not (list_any (λ v. is_for_any v.condition) later.list)) (list_any (runs_beside u.number) later.list) parts.1) [
+      kind = elim (or_cases ((is_live_wildcard u.condition || is_nobody known) || not (list_any (λ v. is_for_any v.condition) later.list)) (list_any (runs_beside u.number) later.list) leaves.frees) [
         | inl a ↦ elim (or_cases (is_live_wildcard u.condition || is_nobody known) (not (list_any (λ v. is_for_any v.condition) later.list)) a) [
           | inl b ↦ inl (inl (or_cases (is_live_wildcard u.condition) (is_nobody known) b))
           | inr none ↦ inl (inr (from_not (list_any (λ v. is_for_any v.condition) later.list) none))
@@ -338,25 +336,47 @@ module _ (s : TraceState) (lawful : IsLawfulState s) (t : List ℕ) (what : Anno
       was : WasThere s lawful t change number u
       was = was_there s lawful t change number u within there
 
+      beside : IsBeside s later u
+      beside =
+          record {
+            within = within;
+            only = λ x listed same. lawful_too.one_number x u listed within same;
+            back = others_were s lawful t change number u was;
+            onward = others_are s lawful t change number u was;
+          }
+
+      outside : (set : ℕ → Bool) → IsClosedSet later set → set u.number ≡ true → ⊥
+      outside set closed inside = by_way leaves.out
+        where
+          by_way : StaysOut later.list known u → ⊥
+          by_way (inl out) = surely_out later u.condition out set closed (closed u within inside)
+          by_way (inr unneeded) = unneeded_out s later u beside known is unneeded set closed inside
+
+      surely : is_live_wildcard u.condition ≡ true → is_surely_out later.list u.condition ≡ true
+      surely wild = elim leaves.out [
+        | inl out ↦ out
+        | inr unneeded ↦ absurd (wild_not_unneeded later.list known u u.condition wild unneeded)
+      ]
+
       by_kind : (is_live_task u.condition ≡ true) ⊎ (is_live_wildcard u.condition ≡ true) → AreStuckTasks later known
       by_kind (inl live) =
           let lived : Contains s.list was.was → is_live_task was.was.condition ≡ true =
           λ listed. task_was was.was listed was.there (subst (λ (x : Participant). is_live_task x.condition ≡ true) (sym was.is) live) in
           keeps s lawful t change number lawful_too known is u within there new
-          (not_stuck_out s lawful t change number lawful_too known is u within there new first.1)
-          (apart_task s lawful t change number lawful_too known is u within there new first.1 live lived)
-          (apart_out s lawful t change number lawful_too known is u within there new first.1)
-          (task_onward s lawful t change number lawful_too known is u within there new first.1 live lived kind)
-          (task_back s lawful t change number lawful_too known is u within there new first.1 live lived)
+          (not_stuck_out s lawful t change number lawful_too known is u within there new outside)
+          (apart_task s lawful t change number lawful_too known is u within there new outside live lived)
+          (apart_out s lawful t change number lawful_too known is u within there new outside)
+          (task_onward s lawful t change number lawful_too known is u within there new outside live lived kind)
+          (task_back s lawful t change number lawful_too known is u within there new outside live lived)
       by_kind (inr wild) =
           let same : was.was.condition ≡ u.condition =
           wild_was was.was (subst (λ (x : Participant). is_live_wildcard x.condition ≡ true) (sym was.is) wild) ∙ ap (λ (x : Participant). x.condition) was.is in
           keeps s lawful t change number lawful_too known is u within there new
-          (not_stuck_out s lawful t change number lawful_too known is u within there new first.1)
-          (apart_wild s lawful t change number lawful_too known is u within there new first.1 wild same)
-          (apart_out s lawful t change number lawful_too known is u within there new first.1)
-          (inl (wild_onward s lawful t change number lawful_too known is u within there new first.1 wild same))
-          (wild_back s lawful t change number lawful_too known is u within there new first.1 wild same)
+          (not_stuck_out s lawful t change number lawful_too known is u within there new outside)
+          (apart_wild s lawful t change number lawful_too known is u within there new outside wild same (surely wild))
+          (apart_out s lawful t change number lawful_too known is u within there new outside)
+          (inl (wild_onward s lawful t change number lawful_too known is u within there new outside wild same (surely wild)))
+          (wild_back s lawful t change number lawful_too known is u within there new outside wild same (surely wild))
 
 -- after a line that says who may play a wildcard
 module _ (s : TraceState) (lawful : IsLawfulState s) (w : List ℕ) (c : Condition) (wild : is_live_wildcard c ≡ true) (none : is_task_in s w ≡ false) where
@@ -393,7 +413,7 @@ unfolding change
 announces_keeps state t what place known (inl (u, within, there, leaves)) s lawful same legal is =
     subst (λ a. AreStuckTasks a known) (sym same)
     (announced_leaves s lawful t what place legal (lawful_after s (Announces t what place) lawful) known is u
-    (subst (λ (a : TraceState). Contains a.list u) same within) there (subst (λ (a : TraceState). leaves_stuck a.list known u ≡ true) same leaves))
+    (subst (λ (a : TraceState). Contains a.list u) same within) there (subst (λ (a : TraceState). LeavesStuck a.list known u) same leaves))
 announces_keeps state t what place known (inr (nobody, quiet)) s lawful same legal is =
     subst (λ a. AreStuckTasks a known) (sym same)
     (quietly_ended s lawful t (λ u. placed_at place (announced_by what u)) (λ u. placed_name place (announced_by what u) ∙ announced_name what u) known

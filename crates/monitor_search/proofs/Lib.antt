@@ -1,12 +1,17 @@
+pub mod ByIndex
 pub mod Carried
 pub mod Filtered
+pub mod FreedWildcards
 pub mod Groups
 pub mod KeptByTable
 pub mod LeastPhases
 pub mod LeftByLines
+pub mod NumberSearch
 pub mod OneChanged
 pub mod Parted
 pub mod QuietEnds
 pub mod References
 pub mod SurelyOut
 pub mod TakenOut
+pub mod Unneeded
+pub mod Resting

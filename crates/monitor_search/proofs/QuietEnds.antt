@@ -1,8 +1,8 @@
 -- A line by which who is there with a name is taken out of the list.
-use Rattle.std.proofs.Common.{◌≡◌, ℕ, Bool, true, false, ◌&&◌, ◌||◌, not, List, [], ◌∷◌, map, refl, sym, ◌∙◌, ap, subst, ◌⊎◌, inl, inr, arith}
+use Rattle.std.proofs.Common.{◌≡◌, ◌==◌, ℕ, Bool, true, false, ◌&&◌, ◌||◌, not, List, [], ◌∷◌, map, refl, sym, ◌∙◌, ap, subst, ◌⊎◌, inl, inr, arith}
 use Rattle.std.specs.Prelude.{Contains, bytes_eq}
 use Rattle.std.specs.List.{list_any}
-use Rattle.std.proofs.lemmas.Bool.{and_parts, cases_Bool, or_cases}
+use Rattle.std.proofs.lemmas.Bool.{and_parts, cases_Bool, eqb-true, or_cases}
 use Rattle.std.proofs.lemmas.Slice.Eq.{bytes_eq-Decides}
 use Rattle.monitor_laws.specs.States.{Condition, Running, Waiting, Ended, AnyTask, OneOf, Participant, TraceState, changed_at, is_live_task, is_live_wildcard, is_there_as, new_participant, stays_listed, with_named}
 use Rattle.monitor_laws.specs.Stuck.{IsKeptIn}
@@ -11,10 +11,11 @@ use Rattle.monitor_laws.proofs.Filters.{any_from, any_is, none_passes}
 use Rattle.monitor_laws.proofs.Lawful.{IsLawfulState}
 use Rattle.monitor_words.specs.Reasons.{has_ended}
 use Rattle.monitor_search.specs.Known.{AreStuckTasks, known_task}
-use Rattle.monitor_search.specs.inside.Leaving.{ends_quietly, has_ended_as, is_for_any, is_for_some, is_nobody, runs_now}
+use Rattle.monitor_search.specs.inside.Leaving.{ends_quietly, asks_for_ended, has_ended_as, is_for_any, is_nobody, lives_with_number, runs_now}
 use Rattle.monitor_search.proofs.Carried.{AsksFor, IsApart, IsCarried, NoneAsks, apart_outside, still_stuck}
 use Rattle.monitor_search.proofs.Parted.{none_known}
 use Rattle.monitor_search.proofs.SurelyOut.{runs_is}
+use Rattle.monitor_search.proofs.Unneeded.{from_not_not}
 
 -- who has the name is there with it or has ended with it
 named_is_told : (c : Condition) (named : Bool) → named ≡ true → ((is_live_task c || is_live_wildcard c) && named) ≡ false → (has_ended c && named) ≡ false → ⊥
@@ -85,7 +86,7 @@ module _ (s : TraceState) (lawful : IsLawfulState s) (t : List ℕ) (change : Pa
   apart : IsApart after out.k
   apart = apart_outside after out.k (λ set closed x within same inside. differs x within same)
 
-  module _ (none_some : list_any (λ v. is_for_some v.condition) after.list ≡ false)
+  module _ (none_some : list_any (λ v. asks_for_ended after.list v.condition) after.list ≡ false)
       (freed : (list_any (λ u. runs_now u.condition) after.list ≡ true) ⊎ (list_any (λ v. is_for_any v.condition) after.list ≡ false)) where
     none_asks : NoneAsks after out.k
     none_asks set closed w listed inside asks = by_condition w.condition refl asks freed
@@ -101,7 +102,12 @@ module _ (s : TraceState) (lawful : IsLawfulState s) (t : List ℕ) (change : Pa
             let all : IsKeptIn after set AnyTask = subst (IsKeptIn after set) same (closed w listed inside) in
             subst (IsKeptIn after set) runs (closed v.0 v.1 (all v.0 v.1 (ap is_live_task runs)))
         by_condition AnyTask same asked (inr none) = let some = any_from (λ v. is_for_any v.condition) after.list w listed (ap is_for_any same) in absurd (cc)
-        by_condition (OneOf names tasks) same asked by = let some = any_from (λ v. is_for_some v.condition) after.list w listed (ap is_for_some same) in absurd (cc)
+        by_condition (OneOf names tasks) same asked by =
+            let all_live : list_any (λ k. not (lives_with_number after.list k)) tasks ≡ false =
+            sym (ap (asks_for_ended after.list) same) ∙ none_passes (λ v. asks_for_ended after.list v.condition) after.list w listed none_some in
+            let lives : lives_with_number after.list out.k ≡ true = from_not_not (lives_with_number after.list out.k) (none_passes (λ k. not (lives_with_number after.list k)) tasks out.k asked all_live) in
+            let u = any_is (λ u. is_live_task u.condition && u.number == out.k) after.list lives in
+            differs u.0 u.1 (eqb-true u.0.number out.k (and_parts (is_live_task u.0.condition) (u.0.number == out.k) u.2).1)
 
     carried : IsCarried after s out.k
     carried =
@@ -133,7 +139,7 @@ pub quietly_ended :
     list_any (is_there_as t) (changed_at t change s).list ≡ false → ends_quietly (changed_at t change s).list known t ≡ true → AreStuckTasks s known →
     AreStuckTasks (changed_at t change s) known
 quietly_ended s lawful t change name [] nobody quiet is =
-    nobody_stuck s lawful t change name nobody (from_not (list_any (has_ended_as t) list) two.1) (from_not (list_any (λ v. is_for_some v.condition) list) first.1)
+    nobody_stuck s lawful t change name nobody (from_not (list_any (has_ended_as t) list) two.1) (from_not (list_any (λ v. asks_for_ended list v.condition) list) first.1)
     (elim (or_cases (list_any (λ u. runs_now u.condition) list) (not (list_any (λ v. is_for_any v.condition) list)) parts.1) [
       | inl runs ↦ inl runs
       | inr none ↦ inr (from_not (list_any (λ v. is_for_any v.condition) list) none)
@@ -144,14 +150,14 @@ quietly_ended s lawful t change name [] nobody quiet is =
     list = (changed_at t change s).list
 
     parts :
-        (((is_nobody [] && not (list_any (has_ended_as t) list)) && not (list_any (λ v. is_for_some v.condition) list)) ≡ true)
+        (((is_nobody [] && not (list_any (has_ended_as t) list)) && not (list_any (λ v. asks_for_ended list v.condition) list)) ≡ true)
         × ((list_any (λ u. runs_now u.condition) list || not (list_any (λ v. is_for_any v.condition) list)) ≡ true)
     parts =
-        and_parts ((is_nobody [] && not (list_any (has_ended_as t) list)) && not (list_any (λ v. is_for_some v.condition) list))
+        and_parts ((is_nobody [] && not (list_any (has_ended_as t) list)) && not (list_any (λ v. asks_for_ended list v.condition) list))
         (list_any (λ u. runs_now u.condition) list || not (list_any (λ v. is_for_any v.condition) list)) quiet
 
-    first : ((is_nobody [] && not (list_any (has_ended_as t) list)) ≡ true) × (not (list_any (λ v. is_for_some v.condition) list) ≡ true)
-    first = and_parts (is_nobody [] && not (list_any (has_ended_as t) list)) (not (list_any (λ v. is_for_some v.condition) list)) parts.0
+    first : ((is_nobody [] && not (list_any (has_ended_as t) list)) ≡ true) × (not (list_any (λ v. asks_for_ended list v.condition) list) ≡ true)
+    first = and_parts (is_nobody [] && not (list_any (has_ended_as t) list)) (not (list_any (λ v. asks_for_ended list v.condition) list)) parts.0
 
     two : (is_nobody [] ≡ true) × (not (list_any (has_ended_as t) list) ≡ true)
     two = and_parts (is_nobody []) (not (list_any (has_ended_as t) list)) first.0

@@ -1,4 +1,7 @@
 pub mod Cascades
+pub mod Keeping
 pub mod LeastPhases
 pub mod Leaving
+pub mod Numbers
 pub mod Partings
+pub mod Waits

@@ -6,11 +6,11 @@ ghost use Rattle.monitor_laws.specs.States.{Participant as Listed};
 ghost use Rattle.monitor_laws.specs.Stuck.{has_phase_below, is_phase_below};
 ghost use Rattle.monitor_state.specs.Values.{condition_value};
 ghost use Rattle.monitor_search.specs.inside.Leaving.{is_freed};
-ghost use Rattle.monitor_search.specs.inside.Cascades.{AreOfList, AreOut, HasLiveNumber, HasLiveOut, HaveMembers, IsFreeWait, IsLeastInside, IsOut, IsPlayedOut, named_group};
+ghost use Rattle.monitor_search.specs.inside.Cascades.{AreOfList, AreOut, HasLiveOut, HaveMembers, IsFreeWait, IsLeastInside, IsOut, IsPlayedOut, named_group};
 ghost use Rattle.monitor_search.specs.inside.Partings.{referred};
 
 use crate::grouping::{PhaserTable, phaser_table};
-use crate::leaving::somebody_runs;
+use crate::leaving::{lives_with_number, somebody_runs};
 use crate::noting::{phasers_of, waited_phasers, wildcard_places};
 use armus_base::NoMemory;
 use monitor_state::{ListedCondition, ListedParticipant, MonitorState};
@@ -190,24 +190,12 @@ fn free_runners(alloc: Global, state: &MonitorState, out: &mut HashSet<u64>) -> 
     Ok(())
 }
 
-// Whether a task of the list that has not ended has this number.
-fn is_live_number(list: &[ListedParticipant], number: u64) -> bool
-    ensures { result ≡ true → HasLiveNumber list.now number }
-{
-    let place = list.partition_point(|u| u.number() < number);
-    if place >= list.len() {
-        return false;
-    }
-    let u = &list[place];
-    u.number() == number && u.condition().is_live_task()
-}
-
 // Whether one of these numbers is out, and is that of a task of the list that has not ended.
-fn some_live_out(list: &[ListedParticipant], tasks: &[u64], out: &HashSet<u64>) -> bool
-    ensures { result ≡ true → HasLiveOut list.now tasks.now (contains nat_eq out.now) }
+fn some_live_out(state: &MonitorState, tasks: &[u64], out: &HashSet<u64>) -> bool
+    ensures { result ≡ true → HasLiveOut state.now.list tasks.now (contains nat_eq out.now) }
 {
     for k in tasks {
-        if out.contains(k) && is_live_number(list, *k) {
+        if out.contains(k) && lives_with_number(state, *k) {
             return true;
         }
     }
@@ -215,15 +203,11 @@ fn some_live_out(list: &[ListedParticipant], tasks: &[u64], out: &HashSet<u64>) 
 }
 
 // Whether who is in this condition is a wildcard of which one is out who may play it.
-fn is_played_out(
-    list: &[ListedParticipant],
-    condition: &ListedCondition,
-    out: &HashSet<u64>,
-) -> bool
-    ensures { result ≡ true → IsPlayedOut list.now (condition_value condition.now) (contains nat_eq out.now) }
+fn is_played_out(state: &MonitorState, condition: &ListedCondition, out: &HashSet<u64>) -> bool
+    ensures { result ≡ true → IsPlayedOut state.now.list (condition_value condition.now) (contains nat_eq out.now) }
 {
     match condition {
-        ListedCondition::OneOf(_, tasks) => some_live_out(list, tasks, out),
+        ListedCondition::OneOf(_, tasks) => some_live_out(state, tasks, out),
         _ => false,
     }
 }
@@ -239,7 +223,7 @@ fn free_played<'a>(
     requires out { AreOut state.now (contains nat_eq out.old) }
     ensures { OnOk result (AreOut state.now (contains nat_eq out.new)) }
 {
-    if is_played_out(state.participants(), u.condition(), out) {
+    if is_played_out(state, u.condition(), out) {
         take_out(state, u, out, fresh)?;
     }
     Ok(())

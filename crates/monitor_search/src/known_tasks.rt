@@ -1,7 +1,8 @@
 // The stuck tasks of a state, as they are known.
-ghost use Rattle.std.specs.Prelude.{◌≡◌, ◌++◌, ◌∷◌, [], true, false, OnOk};
+ghost use Rattle.std.specs.Prelude.{◌≡◌, ◌≤◌, ◌++◌, ◌∷◌, [], ℕ, List, true, false, Contains, MatchBool, OnOk};
 ghost use Rattle.monitor_search.specs.Known.{has_stuck_number, known_task};
 ghost use Rattle.monitor_search.specs.inside.Leaving.{is_nobody};
+ghost use Rattle.monitor_search.specs.inside.Numbers.{HasNumberAt, IsFirstFrom, NeverFall};
 
 use armus_base::NoMemory;
 use monitor_state::ListedParticipant;
@@ -63,6 +64,21 @@ fn are_same(these: &[StuckTask], others: &[StuckTask]) -> bool
     true
 }
 
+// The first place from which on no task has a lower number.
+fn first_from(tasks: &[StuckTask], number: u64) -> usize
+    requires { NeverFall tasks.now }
+    ensures { IsFirstFrom tasks.now number result }
+{
+    tasks.partition_point(|task| task.number() < number)
+}
+
+// Whether a task with this number stands at this place.
+fn is_at(tasks: &[StuckTask], number: u64, at: usize) -> bool
+    ensures { MatchBool result (HasNumberAt tasks.now number at) (HasNumberAt tasks.now number at → ⊥) }
+{
+    at < tasks.len() && tasks[at].number() == number
+}
+
 /// The stuck tasks of a state, in list order, as they are known.
 #[derive(Drop)]
 pub struct StuckTasks {
@@ -71,10 +87,13 @@ pub struct StuckTasks {
 
 impl Model for StuckTasks {
     ghost use Rattle.std.specs.Prelude.{ℕ, List};
+    ghost use Rattle.monitor_search.specs.inside.Numbers.{NeverFall};
 
     ghost Value = { List (ℕ × List ℕ) };
 
     ghost view = { λ s. s.tasks.items };
+
+    ghost invariant = { λ s. NeverFall s.tasks.items };
 }
 
 impl StuckTasks {
@@ -87,8 +106,9 @@ impl StuckTasks {
         }
     }
 
-    /// One more, behind the others.
+    /// One more, behind the others, of whom none has a greater number.
     pub(crate) fn push(&mut self, alloc: Global, task: &ListedParticipant) -> Result<(), NoMemory>
+        requires { (t : ℕ × List ℕ) → Contains self.old t → t.0 ≤ task.now.number }
         ensures { OnOk result (self.new ≡ self.old ++ known_task task.now ∷ []) }
     {
         let name = Vec::from_slice(alloc, task.name())?;
@@ -125,6 +145,6 @@ impl StuckTasks {
     pub fn has_number(&self, number: u64) -> bool
         ensures { result ≡ has_stuck_number self.now number }
     {
-        self.tasks.iter().any(|task| task.number() == number)
+        is_at(&self.tasks, number, first_from(&self.tasks, number))
     }
 }

@@ -1,15 +1,18 @@
 // Lines by which nobody becomes stuck and nobody is stuck no longer.
-ghost use Rattle.std.specs.Prelude.{◌≡◌, true, false, Contains, IfNone, IfSome};
+ghost use Rattle.std.specs.Prelude.{◌≡◌, ◌&&◌, ◌==◌, true, not};
 ghost use Rattle.std.specs.List.{list_any};
 ghost use Rattle.trace_lines.specs.Values.{line_value};
-ghost use Rattle.monitor_laws.specs.States.{is_there_as};
 ghost use Rattle.monitor_laws.specs.Stuck.{has_phase_below};
 ghost use Rattle.monitor_state.specs.Values.{condition_value};
 ghost use Rattle.monitor_search.specs.Known.{KeepsStuck};
-ghost use Rattle.monitor_search.specs.inside.Leaving.{HasNoPhase, LeavesStuckBy, ends_quietly, frees_nobody, has_ended_as, is_for_any, is_for_some, is_freed, is_surely_out, is_unfreed_below, leaves_stuck, runs_as_one_of, runs_beside, runs_now};
+ghost use Rattle.monitor_search.specs.inside.Cascades.{HasLiveNumber};
+ghost use Rattle.monitor_search.specs.inside.Keeping.{LeavesStuck, LeavesStuckBy, StaysOut};
+ghost use Rattle.monitor_search.specs.inside.Leaving.{HasNoPhase, asks_for_ended, ends_quietly, frees_nobody, has_ended_as, is_for_any, is_freed, is_surely_out, is_unfreed_below, lives_with_number, runs_as_one_of, runs_beside, runs_now};
 
 use crate::StuckTasks;
-use crate::parting::{has_phase_below, is_among};
+use crate::numbered::numbered;
+use crate::parting::has_phase_below;
+use crate::waits::waits_unneeded;
 use monitor_state::{ListedCondition, ListedParticipant, MonitorState};
 use trace_lines::TraceLine;
 
@@ -34,30 +37,38 @@ pub(crate) fn somebody_runs(list: &[ListedParticipant]) -> bool
     list.iter().any(|u| runs_now(u.condition()))
 }
 
-// Whether u runs and has one of these numbers.
-fn runs_as_one_of(u: &ListedParticipant, tasks: &[u64]) -> bool
-    ensures { result ≡ runs_as_one_of tasks.now u.now }
+// Whether the task with this number runs.
+fn runs_with_number(state: &MonitorState, k: u64) -> bool
+    ensures { result ≡ list_any (λ u. runs_now u.condition && u.number == k) state.now.list }
 {
-    runs_now(u.condition()) && is_among(tasks, u.number())
+    match numbered(state, k) {
+        None => false,
+        Some(u) => runs_now(u.condition()),
+    }
 }
 
-// Whether a task of the list with one of these numbers runs.
-fn somebody_runs_of(list: &[ListedParticipant], tasks: &[u64]) -> bool
-    ensures { result ≡ list_any (runs_as_one_of tasks.now) list.now }
+/// Whether a task of the list with one of these numbers runs.
+pub(crate) fn somebody_runs_of(state: &MonitorState, tasks: &[u64]) -> bool
+    ensures { result ≡ list_any (runs_as_one_of tasks.now) state.now.list }
 {
-    list.iter().any(|u| runs_as_one_of(u, tasks))
+    for k in tasks {
+        if runs_with_number(state, *k) {
+            return true;
+        }
+    }
+    false
 }
 
-// Whether who is in this condition runs, or is a wildcard that somebody who runs may play.
+/// Whether who is in this condition runs, or is a wildcard that somebody who runs may play.
 #[tactic(auto, unfolding(crate::specs::inside::Leaving::is_freed))]
-fn is_freed(list: &[ListedParticipant], condition: &ListedCondition) -> bool
-    ensures { result ≡ is_freed list.now (condition_value condition.now) }
+pub(crate) fn is_freed(state: &MonitorState, condition: &ListedCondition) -> bool
+    ensures { result ≡ is_freed state.now.list (condition_value condition.now) }
 {
     match condition {
         ListedCondition::Running => true,
         ListedCondition::Waiting(_, _) | ListedCondition::Ended => false,
-        ListedCondition::AnyTask => somebody_runs(list),
-        ListedCondition::OneOf(_, tasks) => somebody_runs_of(list, tasks),
+        ListedCondition::AnyTask => somebody_runs(state.participants()),
+        ListedCondition::OneOf(_, tasks) => somebody_runs_of(state, tasks),
     }
 }
 
@@ -69,29 +80,35 @@ fn has_ended_as(u: &ListedParticipant, t: &[u8]) -> bool
 }
 
 // Whether u is a member of phaser p with a phase below n, and not freed.
-fn is_unfreed_below(list: &[ListedParticipant], u: &ListedParticipant, p: &[u8], n: u32) -> bool
-    ensures { result ≡ is_unfreed_below list.now p.now n u.now }
+fn is_unfreed_below(state: &MonitorState, u: &ListedParticipant, p: &[u8], n: u32) -> bool
+    ensures { result ≡ is_unfreed_below state.now.list p.now n u.now }
 {
-    has_phase_below(u, p, n) && !is_freed(list, u.condition())
+    has_phase_below(u, p, n) && !is_freed(state, u.condition())
 }
 
 // Whether somebody who is not freed is a member of phaser p with a phase below n.
-fn some_unfreed_below(list: &[ListedParticipant], p: &[u8], n: u32) -> bool
-    ensures { result ≡ list_any (is_unfreed_below list.now p.now n) list.now }
+fn some_unfreed_below(state: &MonitorState, p: &[u8], n: u32) -> bool
+    ensures { result ≡ list_any (is_unfreed_below state.now.list p.now n) state.now.list }
 {
-    list.iter().any(|u| is_unfreed_below(list, u, p, n))
+    if !state.index().rests_below(p, n) {
+        return false;
+    }
+    state
+        .participants()
+        .iter()
+        .any(|u| is_unfreed_below(state, u, p, n))
 }
 
 // Whether who is in this condition is freed, or waits and all who keep it waiting are freed.
-fn is_surely_out(list: &[ListedParticipant], condition: &ListedCondition) -> bool
-    ensures { result ≡ is_surely_out list.now (condition_value condition.now) }
+fn is_surely_out(state: &MonitorState, condition: &ListedCondition) -> bool
+    ensures { result ≡ is_surely_out state.now.list (condition_value condition.now) }
 {
     match condition {
         ListedCondition::Running => true,
-        ListedCondition::Waiting(p, n) => !some_unfreed_below(list, p, *n),
+        ListedCondition::Waiting(p, n) => !some_unfreed_below(state, p, *n),
         ListedCondition::Ended => false,
-        ListedCondition::AnyTask => somebody_runs(list),
-        ListedCondition::OneOf(_, tasks) => somebody_runs_of(list, tasks),
+        ListedCondition::AnyTask => somebody_runs(state.participants()),
+        ListedCondition::OneOf(_, tasks) => somebody_runs_of(state, tasks),
     }
 }
 
@@ -102,12 +119,50 @@ fn some_for_any(list: &[ListedParticipant]) -> bool
     list.iter().any(|u| is_for_any(u.condition()))
 }
 
-// Whether only some tasks may play a wildcard of the list.
-fn some_for_some(list: &[ListedParticipant]) -> bool
-    ensures { result ≡ list_any (λ u. is_for_some u.condition) list.now }
+/// Whether the task with this number is in the list and has not ended.
+pub(crate) fn lives_with_number(state: &MonitorState, k: u64) -> bool
+    ensures lives { result ≡ lives_with_number state.now.list k }
+    ensures has { result ≡ true → HasLiveNumber state.now.list k }
 {
-    list.iter()
-        .any(|u| matches!(u.condition(), ListedCondition::OneOf(_, _)))
+    match numbered(state, k) {
+        None => false,
+        Some(u) => u.condition().is_live_task(),
+    }
+}
+
+// Whether one of these is the number of no task that lives.
+fn some_ended_of(state: &MonitorState, tasks: &[u64]) -> bool
+    ensures { result ≡ list_any (λ k. not (lives_with_number state.now.list k)) tasks.now }
+{
+    for k in tasks {
+        if !lives_with_number(state, *k) {
+            return true;
+        }
+    }
+    false
+}
+
+// Whether it is of a wildcard that some tasks may play, of whom not all live.
+fn asks_for_ended(state: &MonitorState, condition: &ListedCondition) -> bool
+    ensures { result ≡ asks_for_ended state.now.list (condition_value condition.now) }
+{
+    match condition {
+        ListedCondition::OneOf(_, tasks) => some_ended_of(state, tasks),
+        ListedCondition::Running
+        | ListedCondition::Waiting(_, _)
+        | ListedCondition::Ended
+        | ListedCondition::AnyTask => false,
+    }
+}
+
+// Whether there is such a wildcard in the list.
+fn some_asks_for_ended(state: &MonitorState) -> bool
+    ensures { result ≡ list_any (λ v. asks_for_ended state.now.list v.condition) state.now.list }
+{
+    state
+        .participants()
+        .iter()
+        .any(|v| asks_for_ended(state, v.condition()))
 }
 
 // Whether a task of the list that has another number runs.
@@ -119,23 +174,34 @@ fn somebody_runs_beside(list: &[ListedParticipant], number: u64) -> bool
 }
 
 // Whether u frees nobody: it is no new task among stuck tasks and wildcards that nobody else who runs may play.
-fn frees_nobody(list: &[ListedParticipant], was: &StuckTasks, u: &ListedParticipant) -> bool
-    ensures { result ≡ frees_nobody list.now was.now u.now }
+fn frees_nobody(state: &MonitorState, was: &StuckTasks, u: &ListedParticipant) -> bool
+    ensures { result ≡ frees_nobody state.now.list was.now u.now }
 {
+    let list = state.participants();
     u.condition().is_live_wildcard()
         || was.is_empty()
         || !some_for_any(list)
         || somebody_runs_beside(list, u.number())
 }
 
-// Whether u was not stuck, cannot be now, and frees nobody.
-fn leaves_stuck(list: &[ListedParticipant], was: &StuckTasks, u: &ListedParticipant) -> bool
-    ensures { result ≡ leaves_stuck list.now was.now u.now }
+// Whether u stands in no closed set: it is freed or waits for those who are, or it waits unneeded for those who stood in none.
+fn stays_out(state: &MonitorState, was: &StuckTasks, u: &ListedParticipant) -> bool
+    ensures { result ≡ true → StaysOut state.now.list was.now u.now }
 {
-    if was.has_number(u.number()) || !is_surely_out(list, u.condition()) {
+    if is_surely_out(state, u.condition()) {
+        return true;
+    }
+    waits_unneeded(state, was, u)
+}
+
+// Whether u was not stuck, stands in no closed set now, and frees nobody.
+fn leaves_stuck(state: &MonitorState, was: &StuckTasks, u: &ListedParticipant) -> bool
+    ensures { result ≡ true → LeavesStuck state.now.list was.now u.now }
+{
+    if was.has_number(u.number()) || !frees_nobody(state, was, u) {
         return false;
     }
-    frees_nobody(list, was, u)
+    stays_out(state, was, u)
 }
 
 // Whether somebody of the list has ended with the name t.
@@ -145,45 +211,32 @@ fn some_ended_as(list: &[ListedParticipant], t: &[u8]) -> bool
     list.iter().any(|u| has_ended_as(u, t))
 }
 
-// Whether nobody was stuck, nobody has ended with the name t, and each wildcard is one that somebody who runs may play.
-fn ends_quietly(list: &[ListedParticipant], was: &StuckTasks, t: &[u8]) -> bool
-    ensures { result ≡ ends_quietly list.now was.now t.now }
+// Whether nobody was stuck, nobody has ended with the name t, each wildcard of some tasks asks for such as live, and somebody runs, or none is for any task.
+fn ends_quietly(state: &MonitorState, was: &StuckTasks, t: &[u8]) -> bool
+    ensures { result ≡ ends_quietly state.now.list was.now t.now }
 {
-    if !was.is_empty() || some_ended_as(list, t) || some_for_some(list) {
+    let list = state.participants();
+    if !was.is_empty() || some_ended_as(list, t) || some_asks_for_ended(state) {
         return false;
     }
     somebody_runs(list) || !some_for_any(list)
 }
 
-// Who is there with the name t.
-fn found<'a>(list: &'a [ListedParticipant], t: &[u8]) -> Option<&'a ListedParticipant>
-    ensures listed { IfSome result (λ u. Contains list.now u.now) }
-    ensures there { IfSome result (λ u. is_there_as t.now u.now ≡ true) }
-    ensures none { IfNone result (list_any (is_there_as t.now) list.now ≡ false) }
-{
-    for u in list {
-        if u.is_there_as(t) {
-            return Some(u);
-        }
-    }
-    None
-}
-
 // Whether after a line of t surely the same are stuck as before it.
-fn leaves_stuck_by(list: &[ListedParticipant], was: &StuckTasks, t: &[u8]) -> bool
-    ensures { result ≡ true → LeavesStuckBy list.now was.now t.now }
+fn leaves_stuck_by(state: &MonitorState, was: &StuckTasks, t: &[u8]) -> bool
+    ensures { result ≡ true → LeavesStuckBy state.now.list was.now t.now }
 {
-    match found(list, t) {
-        None => ends_quietly(list, was, t),
-        Some(u) => leaves_stuck(list, was, u),
+    match state.participant_there(t) {
+        None => ends_quietly(state, was, t),
+        Some(u) => leaves_stuck(state, was, u),
     }
 }
 
 // Whether who is there with the name w is a member of nothing.
-fn has_no_phase(list: &[ListedParticipant], w: &[u8]) -> bool
-    ensures { result ≡ true → HasNoPhase list.now w.now }
+fn has_no_phase(state: &MonitorState, w: &[u8]) -> bool
+    ensures { result ≡ true → HasNoPhase state.now.list w.now }
 {
-    match found(list, w) {
+    match state.participant_there(w) {
         None => false,
         Some(u) => u.memberships().len() == 0,
     }
@@ -193,12 +246,11 @@ fn has_no_phase(list: &[ListedParticipant], w: &[u8]) -> bool
 pub(crate) fn keeps_stuck(state: &MonitorState, line: &TraceLine, was: &StuckTasks) -> bool
     ensures { result ≡ true → KeepsStuck state.now (line_value line.now) was.now }
 {
-    let list = state.participants();
     match line {
         TraceLine::SaysNothing | TraceLine::AsksReport | TraceLine::AsksList => true,
         TraceLine::AreGone(_) => false,
-        TraceLine::Announces(t, _, _) => leaves_stuck_by(list, was, t),
-        TraceLine::PlaysAny(w) => has_no_phase(list, w),
-        TraceLine::PlaysOneOf(w, _) => has_no_phase(list, w),
+        TraceLine::Announces(t, _, _) => leaves_stuck_by(state, was, t),
+        TraceLine::PlaysAny(w) => has_no_phase(state, w),
+        TraceLine::PlaysOneOf(w, _) => has_no_phase(state, w),
     }
 }

@@ -3,6 +3,7 @@ ghost use Rattle.std.specs.Prelude.{◌≡◌, ◌==◌, ◌++◌, nat_eq, IfOk,
 ghost use Rattle.std.specs.HashSet.{contains};
 ghost use Rattle.std.specs.List.{list_any};
 ghost use Rattle.monitor_laws.specs.Faults.{waits_now};
+ghost use Rattle.monitor_laws.specs.Lawful.{AreAscending};
 ghost use Rattle.monitor_laws.specs.States.{is_live_task};
 ghost use Rattle.monitor_laws.specs.Stuck.{has_phase_below};
 ghost use Rattle.monitor_state.specs.Values.{condition_value};
@@ -126,11 +127,12 @@ pub(crate) fn closed_parting(alloc: Global, state: &MonitorState) -> Result<Part
     }
 }
 
-/// The waiting tasks of these.
+/// The waiting tasks of these, who stand in list order.
 pub(crate) fn waiting_of(
     alloc: Global,
     these: &[&ListedParticipant],
 ) -> Result<StuckTasks, NoMemory>
+    requires { AreAscending (referred these.now) }
     ensures { IfOk result (λ known. known ≡ map known_task (filter (λ u. waits_now u.condition) (referred these.now))) }
 {
     let mut known = StuckTasks::none(alloc);

@@ -1,13 +1,19 @@
 -- What a legal line may change.
-use Rattle.std.proofs.Common.{◌≡◌, ℕ, ◌<◌, ◌≤◌, ◌+◌, Bool, true, false, not, ◌&&◌, ◌||◌, Some, None, Option, List, [], ◌∷◌, ◌++◌, length, refl, sym, ◌∙◌, ap, inl, inr, ◌⊎◌, arith}
+use Rattle.std.proofs.Common.{◌≡◌, ℕ, ◌<◌, ◌≤◌, ◌+◌, Bool, true, false, not, ◌&&◌, ◌||◌, Some, None, Option, List, [], ◌∷◌, ◌++◌, length, get_or, subst, refl, sym, ◌∙◌, ap, inl, inr, ◌⊎◌, arith}
 use Rattle.std.specs.Prelude.{IfSome, bytes_eq, filter, if◌then◌else◌, is_some, nat_le, unwrap_or}
 use Rattle.std.proofs.lemmas.Bool.{cases_Bool, cond-true, cond-false, leb-false}
 use Rattle.std.proofs.lemmas.List.{length-append, length-map}
 use Rattle.monitor_laws.specs.Lines.{Announcement, Joins, Arrives, Leaves, Waits, Goes, Ends, Stands, Announces, PlaysAny, TraceLine}
-use Rattle.monitor_laws.specs.States.{AnyTask, Participant, TraceState, announced_by, is_live_wildcard, placed_at}
+use Rattle.monitor_laws.specs.States.{AnyTask, Condition, Ended, OneOf, Participant, Running, Waiting, is_live_task, is_there_as, new_participant, TraceState, announced_by, is_live_wildcard, placed_at}
 use Rattle.monitor_laws.specs.Faults.{NamesTask, NamesWildcard, StillWaits, IsMemberAlready, IsNoMember, IsAtLastPhase, TooManyListed, TooManyMemberships, fault_where, faults_of, first_fault, has_no_room, is_go, is_join, is_of_tasks, is_task_in, is_wildcard_in, last_phase, memberships_in, most_memberships, participant_in, phase_on, said_faults, waits_now}
 use Rattle.std.specs.Borrow.{Bor}
+use Rattle.std.specs.List.{list_any}
+use Rattle.std.proofs.lemmas.Bool.{and_parts}
+use Rattle.std.proofs.lemmas.List.{get_or_default}
+use Rattle.std.proofs.lemmas.List.Folds.{list_any_at}
 use Rattle.armus_base.proofs.Lists.{none_first}
+use Rattle.monitor_state.specs.inside.FirstPlaces.{IsFirstAt}
+use Rattle.monitor_state.proofs.OnePassing.{first_place, found_first, found_none}
 use Rattle.trace_lines.specs.Values.{place_value}
 use Rattle.monitor_laws.proofs.Rows.{both_tables, no_row}
 use Rattle.monitor_state.specs.inside.Changes.{MayAnnounce, memberships_had}
@@ -22,16 +28,50 @@ below_last None some below = absurd (let e : true ≡ false = some in cc)
 below_last (Some m) some below = leb-false last_phase m below
 
 -- what is said may be announced
-pub may_say : (t : List ℕ) (u : Participant) (what : Announcement) → said_faults t u what ≡ [] → MayAnnounce what u
-may_say t u (Joins p n) none = no_phase (phase_on u p) (no_row (is_some (phase_on u p)) (IsMemberAlready t p) none)
-may_say t u (Arrives p) none =
+pub may_say : (t : List ℕ) (u : Participant) (what : Announcement) → ((p : List ℕ) (n : ℕ) → what ≡ Waits p n → u.condition ≡ Running) → said_faults t u what ≡ [] → MayAnnounce what u
+may_say t u (Joins p n) runs none = no_phase (phase_on u p) (no_row (is_some (phase_on u p)) (IsMemberAlready t p) none)
+may_say t u (Arrives p) runs none =
     let rows = both_tables (fault_where (not (is_some (phase_on u p))) (IsNoMember t p)) (fault_where (nat_le last_phase (unwrap_or (phase_on u p) 0)) (IsAtLastPhase t p)) none in
     below_last (phase_on u p) (no_row (not (is_some (phase_on u p))) (IsNoMember t p) rows.0) (no_row (nat_le last_phase (unwrap_or (phase_on u p) 0)) (IsAtLastPhase t p) rows.1)
-may_say t u (Leaves p) none = tt
-may_say t u (Waits p n) none = tt
-may_say t u Goes none = tt
-may_say t u Ends none = tt
-may_say t u Stands none = tt
+may_say t u (Leaves p) runs none = tt
+may_say t u (Waits p n) runs none = runs p n refl
+may_say t u Goes runs none = tt
+may_say t u Ends runs none = tt
+may_say t u Stands runs none = tt
+
+-- who is there, is no wildcard and does not wait runs, and who comes does
+not_wildcard : (s : TraceState) (t : List ℕ) → is_wildcard_in s t ≡ false → (i : ℕ) (u : Participant) → IsFirstAt (is_there_as t) s.list i → u ≡ get_or s.list i u → is_live_wildcard u.condition ≡ false
+not_wildcard s t none i u first is = elim (cases_Bool (is_live_wildcard u.condition)) [
+  | inr off ↦ off
+  | inl on ↦ absurd (
+      let there : is_there_as t u ≡ true = subst (λ v. is_there_as t v ≡ true) (sym is) (first.here u) in
+      let name : bytes_eq t u.name ≡ true = (and_parts (is_live_task u.condition || is_live_wildcard u.condition) (bytes_eq t u.name) there).1 in
+      let both : (is_live_wildcard u.condition && bytes_eq t u.name) ≡ true = ap (λ b. b && bytes_eq t u.name) on ∙ name in
+      let some : is_wildcard_in s t ≡ true = list_any_at (λ v. is_live_wildcard v.condition && bytes_eq t v.name) s.list i u first.within (subst (λ v. (is_live_wildcard v.condition && bytes_eq t v.name) ≡ true) is both) in
+      let e : true ≡ false = sym some ∙ none in
+      cc)
+]
+
+runs_there : (c : Condition) → (is_live_task c || is_live_wildcard c) ≡ true → is_live_wildcard c ≡ false → waits_now c ≡ false → c ≡ Running
+runs_there Running live wild waits = refl
+runs_there (Waiting p n) live wild waits = absurd (let e : true ≡ false = waits in cc)
+runs_there Ended live wild waits = absurd (let e : false ≡ true = live in cc)
+runs_there AnyTask live wild waits = absurd (let e : true ≡ false = wild in cc)
+runs_there (OneOf names tasks) live wild waits = absurd (let e : true ≡ false = wild in cc)
+
+runs_in : (s : TraceState) (t : List ℕ) → is_wildcard_in s t ≡ false → waits_now (participant_in s t).condition ≡ false → (participant_in s t).condition ≡ Running
+runs_in s t none waits = elim (cases_Bool (list_any (is_there_as t) s.list)) [
+  | inl some ↦
+      (let place = first_place (is_there_as t) s.list some in
+      let d = new_participant s.named t in
+      let u = get_or s.list place.0 d in
+      let is : participant_in s t ≡ u = ap (λ o. unwrap_or o d) (found_first (is_there_as t) s.list place.0 d place.1) in
+      let read : u ≡ get_or s.list place.0 u = get_or_default s.list place.0 d u place.1.within in
+      let live = (and_parts (is_live_task u.condition || is_live_wildcard u.condition) (bytes_eq t u.name) (place.1.here d)).0 in
+      ap (λ (v : Participant). v.condition) is
+      ∙ runs_there u.condition live (not_wildcard s t none place.0 u place.1 read) (subst (λ (v : Participant). waits_now v.condition ≡ false) is waits))
+  | inr nobody ↦ ap (λ o. (unwrap_or o (new_participant s.named t)).condition) (found_none (is_there_as t) s.list nobody)
+]
 
 -- a filter is not longer
 pub fewer : {A : Type 0} (test : A → Bool) (xs : List A) → length (filter test xs) ≤ length xs
@@ -64,6 +104,10 @@ one_more : (b : Bool) (sum most a c : ℕ) → sum ≤ most → (b ≡ true → 
 one_more true sum most a c few joins le = let j = joins refl in omega arith
 one_more false sum most a c few joins le = omega arith
 
+first_off : (a b : Bool) → b ≡ true → (a && b) ≡ false → a ≡ false
+first_off true b on off = absurd (let e : true ≡ false = sym on ∙ off in cc)
+first_off false b on off = refl
+
 -- a legal announcement may be made, and its memberships are few enough
 pub record IsAllowed (s : TraceState) (t : List ℕ) (what : Announcement) (place : Option (List ℕ)) : Type 0 where
   pub may : MayAnnounce what (participant_in s t)
@@ -82,10 +126,15 @@ allowed s t what place few legal =
     let listed_too = both_tables (first ++ second ++ said) listed most.0 in
     let said_too = both_tables (first ++ second) said listed_too.0 in
     let not_many = no_row (is_join what && nat_le most_memberships (memberships_in s)) TooManyMemberships most.1 in
+    let head = both_tables first second said_too.0 in
+    let not_of_tasks : (p : List ℕ) (n : ℕ) → what ≡ Waits p n → is_wildcard_in s t ≡ false =
+    λ p n waits. first_off (is_wildcard_in s t) (is_of_tasks what || is_some place) (ap (λ w. is_of_tasks w || is_some place) waits) (no_row (is_wildcard_in s t && (is_of_tasks what || is_some place)) (NamesWildcard t) head.0) in
+    let not_waiting : (p : List ℕ) (n : ℕ) → what ≡ Waits p n → waits_now u.condition ≡ false =
+    λ p n waits. first_off (waits_now u.condition) (not (is_go what)) (ap (λ w. not (is_go w)) waits) (no_row (waits_now u.condition && not (is_go what)) (StillWaits t) head.1) in
     let had = announced_had what u in
     let placed = placed_had place (announced_by what u) in
     record {
-      may = may_say t u what said_too.1;
+      may = may_say t u what (λ p n waits. runs_in s t (not_of_tasks p n waits) (not_waiting p n waits)) said_too.1;
       room =
           one_more (is_join what) (memberships_in s) most_memberships (memberships_had u) (memberships_had (placed_at place (announced_by what u))) few
           (λ joins. leb-false most_memberships (memberships_in s) (sym (ap (λ b. b && nat_le most_memberships (memberships_in s)) joins) ∙ not_many)) (omega arith);

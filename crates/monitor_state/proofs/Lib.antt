@@ -12,3 +12,9 @@ pub mod NumbersByName
 pub mod ByName
 pub mod Climbing
 pub mod Gathering
+pub mod Noting
+pub mod Moved
+pub mod Indexed
+pub mod IndexChanges
+pub mod Newcomers
+pub mod Beyond

@@ -1,3 +1,4 @@
+pub mod Indexes
 pub mod NumberedLists
 pub mod Taking
 pub mod Values

@@ -1,7 +1,9 @@
 pub mod Changes
 pub mod FirstFaults
 pub mod FirstPlaces
+pub mod Listings
 pub mod Numbers
 pub mod PhaserLists
 pub mod Players
+pub mod Reindexing
 pub mod States

@@ -19,6 +19,7 @@ impl ListedCondition {
     ghost use Rattle.std.specs.Prelude.{◌≡◌, length};
     ghost use Rattle.monitor_laws.specs.Faults.{tasks_had, waits_now};
     ghost use Rattle.monitor_laws.specs.States.{is_live_task, is_live_wildcard};
+    ghost use Rattle.monitor_state.specs.Indexes.{is_running};
     ghost use Rattle.monitor_state.specs.Values.{condition_value};
 
     /// Whether it is of a task that has not ended.
@@ -39,6 +40,13 @@ impl ListedCondition {
             self,
             ListedCondition::AnyTask | ListedCondition::OneOf(_, _)
         )
+    }
+
+    /// Whether it is of a task that runs: it neither waits nor has ended.
+    pub fn is_running(&self) -> bool
+        ensures { result ≡ is_running (condition_value self.now) }
+    {
+        matches!(self, ListedCondition::Running)
     }
 
     /// Whether it is of a task that waits.

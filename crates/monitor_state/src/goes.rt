@@ -1,10 +1,13 @@
 // The list, where all of a process are gone.
-ghost use Rattle.std.specs.Prelude.{◌≡◌, ◌≤◌, filter, length, map, sum_by, vec_len};
+ghost use Rattle.std.specs.Prelude.{◌≡◌, ◌≤◌, IfOk, filter, length, map, sum_by, vec_len};
 ghost use Rattle.monitor_laws.specs.Faults.{most_memberships};
 ghost use Rattle.monitor_laws.specs.States.{gone_by, stays_listed};
+ghost use Rattle.monitor_state.specs.Indexes.{IsIndexOf};
 ghost use Rattle.monitor_state.specs.inside.Changes.{memberships_had};
 
-use crate::ListedParticipant;
+use crate::{ListedParticipant, MemberIndex};
+use armus_base::NoMemory;
+use std::alloc::Global;
 
 /// All whose names begin so have ended.
 pub(crate) fn end_all(list: &mut Vec<ListedParticipant>, beginning: &[u8])
@@ -21,6 +24,21 @@ pub(crate) fn keep_listed(list: &mut Vec<ListedParticipant>)
     ensures { list.new.items ≡ filter stays_listed list.old.items }
 {
     list.retain(|participant| participant.stays_listed());
+}
+
+/// The index of the list where all whose names begin so have ended.
+pub(crate) fn index_of_gone(
+    alloc: Global,
+    list: &[ListedParticipant],
+    beginning: &[u8],
+) -> Result<MemberIndex, NoMemory>
+    ensures { IfOk result (λ index. IsIndexOf (filter stays_listed (map (gone_by beginning.now) list.now)) index) }
+{
+    let mut index = MemberIndex::new(alloc);
+    for participant in list {
+        participant.note_gone(alloc, &mut index, beginning)?;
+    }
+    Ok(index)
 }
 
 /// How many memberships they have in all.

@@ -1,5 +1,5 @@
 //! The state of a monitor: the list of tasks and wildcards, with their memberships and waits, and what each line of a trace makes of it, or its first fault.
-//! It stands on monitor_laws for what lines mean, and on trace_lines for lines as they are read.
+//! It stands on monitor_laws for what lines mean, on trace_lines for lines as they are read, and on monitor_members for the index of phasers.
 //! The tests of the monitor stand in the gallery.
 #![tactic(auto)]
 
@@ -9,6 +9,7 @@ mod faults;
 mod goes;
 mod line_fault;
 mod listing;
+mod member_index;
 mod memberships;
 mod numbers;
 mod participant;
@@ -20,6 +21,7 @@ mod words;
 
 pub use condition::ListedCondition;
 pub use line_fault::FaultOfLine;
+pub use member_index::MemberIndex;
 pub use memberships::Memberships;
 pub use participant::ListedParticipant;
 pub use phaser_membership::PhaserMembership;

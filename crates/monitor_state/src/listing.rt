@@ -1,38 +1,41 @@
 // The list, with the numbers of those who are there by name: where somebody stands, and one who changes.
-ghost use Rattle.std.specs.Prelude.{◌≡◌, ◌<◌, ◌≤◌, ◌++◌, ◌∷◌, false, [], IfSome, IfNone, IfOk, OnOk, OnErr, filter, length, map, slice_index_or};
+ghost use Rattle.std.specs.Prelude.{◌≡◌, ℕ, List, Contains, ◌<◌, ◌≤◌, ◌++◌, ◌∷◌, false, [], IfSome, IfNone, IfOk, OnOk, OnErr, filter, length, map, slice_index_or};
 ghost use Rattle.std.specs.List.{list_any};
 ghost use Rattle.monitor_laws.specs.Faults.{most_memberships};
 ghost use Rattle.monitor_laws.specs.States.{Participant as Listed, gone_by, is_there_as, new_participant, stays_listed};
 ghost use Rattle.monitor_state.specs.inside.Changes.{MayChange, changed_value, memberships_had, put_at, put_behind};
 ghost use Rattle.monitor_state.specs.inside.FirstPlaces.{IsFirstAt};
+ghost use Rattle.monitor_state.specs.Indexes.{IsIndexOf};
 ghost use Rattle.monitor_state.specs.inside.Numbers.{HasEachNameOnce};
+ghost use Rattle.monitor_state.specs.inside.Reindexing.{IsIndexed, IsReindexed, IsSameIndex};
 
-use crate::ListedParticipant;
 use crate::change::Change;
-use crate::goes::{end_all, keep_listed};
+use crate::goes::{end_all, index_of_gone, keep_listed};
 use crate::numbers::{number_by_name, put_number, remove_number, remove_numbers};
+use crate::{ListedParticipant, MemberIndex};
 use armus_base::NoMemory;
 use std::alloc::Global;
 use std::collections::BTreeMap;
 use std::marker::Model;
 
-/// The list of tasks and wildcards, and the numbers of those who are there, by name.
+/// The list of tasks and wildcards, with the numbers of those who are there, by name, and of those who do not run, by phaser and phase.
 #[derive(Drop)]
 pub(crate) struct Listing {
     list: Vec<ListedParticipant>,
     numbers: BTreeMap<Vec<u8>, u64>,
+    index: MemberIndex,
 }
 
 impl Model for Listing {
     ghost use Rattle.std.specs.Prelude.{List};
     ghost use Rattle.monitor_laws.specs.States.{Participant as Listed};
-    ghost use Rattle.monitor_state.specs.inside.Numbers.{HasNumbersOf};
+    ghost use Rattle.monitor_state.specs.inside.Listings.{IsListing};
 
     ghost Value = { List Listed };
 
     ghost view = { λ l. l.list.items };
 
-    ghost invariant = { λ l. HasNumbersOf l.list.items l.numbers };
+    ghost invariant = { λ l. IsListing l.list.items l.numbers l.index };
 }
 
 /// How many memberships somebody has after a change, and whether it is there.
@@ -45,6 +48,7 @@ struct AfterChange {
 // Changes who stands at a place, and takes it out where it does not stay.
 fn change_listed(
     list: &mut Vec<ListedParticipant>,
+    index: &mut MemberIndex,
     at: usize,
     alloc: Global,
     t: &[u8],
@@ -53,13 +57,16 @@ fn change_listed(
     requires place { at < length list.old.items }
     requires may { (u : Listed) → u ≡ slice_index_or list.old.items at u → MayChange change u }
     requires few { (u : Listed) → u ≡ slice_index_or list.old.items at u → memberships_had (changed_value change u) ≤ most_memberships }
+    requires indexed { (u : Listed) → u ≡ slice_index_or list.old.items at u → IsIndexed index.old u }
     ensures changed { OnOk result ((u : Listed) → u ≡ slice_index_or list.old.items at u → list.new.items ≡ put_at list.old.items at (changed_value change.entry u)) }
     ensures count { IfOk result (λ after. (u : Listed) → u ≡ slice_index_or list.old.items at u → after.memberships ≡ memberships_had (changed_value change.entry u)) }
     ensures there { IfOk result (λ after. (u : Listed) → u ≡ slice_index_or list.old.items at u → after.is_there ≡ is_there_as t.now (changed_value change.entry u)) }
+    ensures indexed { OnOk result ((u : Listed) → u ≡ slice_index_or list.old.items at u → IsReindexed index.old index.new (changed_value change.entry u)) }
     ensures kept { OnErr result (list.new.items ≡ list.old.items) }
+    ensures same { OnErr result (IsSameIndex index.old index.new) }
 {
     let participant = &mut list[at];
-    participant.change(alloc, change)?;
+    participant.change(alloc, index, change)?;
     let after = AfterChange {
         memberships: participant.memberships_had(),
         is_there: participant.is_there_as(t),
@@ -70,21 +77,6 @@ fn change_listed(
     Ok(after)
 }
 
-// Somebody new with the name t, changed.
-fn changed_new(
-    alloc: Global,
-    number: u64,
-    t: &[u8],
-    change: Change,
-) -> Result<ListedParticipant, NoMemory>
-    requires { MayChange change (new_participant number t.now) }
-    ensures { IfOk result (λ v. v ≡ changed_value change.entry (new_participant number t.now)) }
-{
-    let mut participant = ListedParticipant::new(alloc, number, t)?;
-    participant.change(alloc, change)?;
-    Ok(participant)
-}
-
 impl Listing {
     /// Nobody.
     pub(crate) fn new(alloc: Global) -> Listing
@@ -93,6 +85,7 @@ impl Listing {
         Listing {
             list: Vec::new(alloc),
             numbers: BTreeMap::new(alloc),
+            index: MemberIndex::new(alloc),
         }
     }
 
@@ -142,7 +135,7 @@ impl Listing {
         ensures count { IfOk result (λ count. (u : Listed) → u ≡ slice_index_or self.old at u → count ≡ memberships_had (changed_value change.entry u)) }
         ensures kept { OnErr result (self.new ≡ self.old) }
     {
-        let after = change_listed(&mut self.list, at, alloc, t, change)?;
+        let after = change_listed(&mut self.list, &mut self.index, at, alloc, t, change)?;
         if !after.is_there {
             remove_number(&mut self.numbers, t);
         }
@@ -150,23 +143,13 @@ impl Listing {
     }
 
     // Puts somebody new with the name t behind all others.
-    fn push(
-        &mut self,
-        alloc: Global,
-        t: &[u8],
-        participant: ListedParticipant,
-    ) -> Result<(), NoMemory>
-        requires name { participant.name ≡ t.now }
-        requires nobody { list_any (is_there_as t.now) self.old ≡ false }
-        ensures pushed { OnOk result (self.new ≡ self.old ++ participant ∷ []) }
+    fn push(&mut self, number: u64, alloc: Global, t: &[u8]) -> Result<(), NoMemory>
+        requires { list_any (is_there_as t.now) self.old ≡ false }
+        ensures pushed { OnOk result (self.new ≡ self.old ++ new_participant number t.now ∷ []) }
         ensures kept { OnErr result (self.new ≡ self.old) }
     {
-        let number = participant.number();
-        let is_there = participant.is_there_as(t);
+        let participant = ListedParticipant::new(alloc, number, t)?;
         self.list.push(participant)?;
-        if !is_there {
-            return Ok(());
-        }
         match put_number(&mut self.numbers, alloc, t, number) {
             Ok(()) => Ok(()),
             Err(wanting) => {
@@ -174,6 +157,15 @@ impl Listing {
                 Err(wanting)
             }
         }
+    }
+
+    // Takes out who was put behind all others with the name t, as long as nothing of it has changed.
+    fn pop(&mut self, t: &[u8])
+        requires { (us : List Listed) × (number : ℕ) × (self.old ≡ us ++ new_participant number t.now ∷ []) × (list_any (is_there_as t.now) us ≡ false) }
+        ensures { (us : List Listed) (u : Listed) → self.old ≡ us ++ u ∷ [] → self.new ≡ us }
+    {
+        self.list.pop();
+        remove_number(&mut self.numbers, t);
     }
 
     /// Puts somebody new with the name t behind all others, changed, where it stays then; tells how many memberships it has.
@@ -185,26 +177,42 @@ impl Listing {
         change: Change,
     ) -> Result<usize, NoMemory>
         requires nobody { list_any (is_there_as t.now) self.old ≡ false }
+        requires order { HasEachNameOnce self.old }
+        requires above { (u : Listed) → Contains self.old u → u.number < number }
         requires may { MayChange change (new_participant number t.now) }
         requires few { memberships_had (changed_value change (new_participant number t.now)) ≤ most_memberships }
         ensures changed { OnOk result (self.new ≡ put_behind self.old (changed_value change.entry (new_participant number t.now))) }
         ensures count { IfOk result (λ count. count ≡ memberships_had (changed_value change.entry (new_participant number t.now))) }
         ensures kept { OnErr result (self.new ≡ self.old) }
     {
-        let participant = changed_new(alloc, number, t, change)?;
-        let count = participant.memberships_had();
-        if participant.stays_listed() {
-            self.push(alloc, t, participant)?;
+        let at = self.list.len();
+        self.push(number, alloc, t)?;
+        match self.change_at(at, alloc, t, change) {
+            Ok(count) => Ok(count),
+            Err(wanting) => {
+                self.pop(t);
+                Err(wanting)
+            }
         }
-        Ok(count)
     }
 
-    /// All whose names begin so have ended, and all that do not stay are taken out.
-    pub(crate) fn go_all(&mut self, beginning: &[u8])
-        ensures { self.new ≡ filter stays_listed (map (gone_by beginning.now) self.old) }
+    /// All whose names begin so have ended, and all that do not stay are taken out. Where memory is wanting, nothing is changed.
+    pub(crate) fn go_all(&mut self, alloc: Global, beginning: &[u8]) -> Result<(), NoMemory>
+        ensures gone { OnOk result (self.new ≡ filter stays_listed (map (gone_by beginning.now) self.old)) }
+        ensures kept { OnErr result (self.new ≡ self.old) }
     {
+        let index = index_of_gone(alloc, &self.list, beginning)?;
         end_all(&mut self.list, beginning);
         keep_listed(&mut self.list);
         remove_numbers(&mut self.numbers, beginning);
+        self.index = index;
+        Ok(())
+    }
+
+    /// The members that do not run, and the tasks that wait.
+    pub(crate) fn index(&self) -> &MemberIndex
+        ensures { IsIndexOf self.now result.now }
+    {
+        &self.index
     }
 }

@@ -1,13 +1,17 @@
 // The memberships of one task or wildcard.
-ghost use Rattle.std.specs.Prelude.{◌≡◌, false, ◌<◌, ◌≤◌, ◌+◌, ◌++◌, ◌∷◌, [], None, Some, IfSome, IfNone, OnOk, OnErr, length, bytes_eq, map, filter, not, if◌then◌else◌};
+ghost use Rattle.std.specs.Prelude.{◌≡◌, ◌&&◌, ◌||◌, ◌==◌, ℕ, List, true, false, ◌<◌, ◌≤◌, ◌+◌, ◌++◌, ◌∷◌, [], None, Some, IfSome, IfNone, OnOk, OnErr, length, bytes_eq, map, filter, not, if◌then◌else◌};
 ghost use Rattle.std.specs.Map.{lookup};
 ghost use Rattle.std.specs.List.{list_any};
 ghost use Rattle.monitor_laws.specs.Faults.{last_phase};
+ghost use Rattle.monitor_members.specs.Noted.{is_noted};
+ghost use Rattle.monitor_state.specs.Indexes.{is_phase};
 ghost use Rattle.monitor_state.specs.inside.FirstPlaces.{IsFirstAt};
-ghost use Rattle.monitor_state.specs.inside.PhaserLists.{is_of_phaser, risen_on, without_phaser};
+ghost use Rattle.monitor_state.specs.inside.PhaserLists.{are_here, is_of_phaser, risen_on, without_phaser};
+ghost use Rattle.monitor_state.specs.inside.Reindexing.{IsNotedAnew, IsNotedWhere, IsSameNoted};
 
 use crate::PhaserMembership;
 use armus_base::NoMemory;
+use monitor_members::PhaserIndex;
 use std::alloc::Global;
 use std::marker::Model;
 
@@ -39,6 +43,31 @@ fn position_of(items: &[PhaserMembership], p: &[u8]) -> Option<usize>
         }
     }
     None
+}
+
+// Notes number k at each of these phases.
+fn note_each(
+    items: &[PhaserMembership],
+    alloc: Global,
+    index: &mut PhaserIndex,
+    k: u64,
+) -> Result<(), NoMemory>
+    ensures noted { OnOk result ((q : List ℕ) (n j : ℕ) → is_noted index.new q n j ≡ (is_noted index.old q n j || are_here items.now k q n j)) }
+    ensures others { (q : List ℕ) (n j : ℕ) → are_here items.now k q n j ≡ false → is_noted index.new q n j ≡ is_noted index.old q n j }
+{
+    for membership in items {
+        index.insert(alloc, membership.phaser(), membership.phase(), k)?;
+    }
+    Ok(())
+}
+
+// Number k is noted at none of these phases any more.
+fn forget_each(items: &[PhaserMembership], index: &mut PhaserIndex, k: u64)
+    ensures { (q : List ℕ) (n j : ℕ) → is_noted index.new q n j ≡ (is_noted index.old q n j && not (are_here items.now k q n j)) }
+{
+    for membership in items {
+        index.remove(membership.phaser(), membership.phase(), k);
+    }
 }
 
 impl Memberships {
@@ -102,6 +131,46 @@ impl Memberships {
         if let Some(at) = position_of(&self.items, p) {
             self.items.remove(at);
         }
+    }
+
+    /// Notes number k, which is noted nowhere, at all its phases. Where memory is wanting, nothing is changed.
+    pub(crate) fn note_all(
+        &self,
+        alloc: Global,
+        index: &mut PhaserIndex,
+        k: u64,
+    ) -> Result<(), NoMemory>
+        requires { IsNotedWhere index.old k (λ q n. false) }
+        ensures noted { OnOk result (IsNotedAnew index.old index.new k (λ q n. is_phase (lookup (bytes_eq q) self.now) n)) }
+        ensures kept { OnErr result (IsSameNoted index.old index.new) }
+    {
+        match note_each(&self.items, alloc, index, k) {
+            Ok(()) => Ok(()),
+            Err(wanting) => {
+                forget_each(&self.items, index, k);
+                Err(wanting)
+            }
+        }
+    }
+
+    /// Notes number k at all its phases too.
+    pub(crate) fn note_too(
+        &self,
+        alloc: Global,
+        index: &mut PhaserIndex,
+        k: u64,
+    ) -> Result<(), NoMemory>
+        ensures { OnOk result ((q : List ℕ) (n j : ℕ) → is_noted index.new q n j ≡ (is_noted index.old q n j || (k == j && is_phase (lookup (bytes_eq q) self.now) n))) }
+    {
+        note_each(&self.items, alloc, index, k)
+    }
+
+    /// Number k, which is noted at some of its phases at most, is noted nowhere any more.
+    pub(crate) fn forget_all(&self, index: &mut PhaserIndex, k: u64)
+        requires { (q : List ℕ) (n : ℕ) → is_noted index.old q n k ≡ true → is_phase (lookup (bytes_eq q) self.now) n ≡ true }
+        ensures { IsNotedAnew index.old index.new k (λ q n. false) }
+    {
+        forget_each(&self.items, index, k);
     }
 
     /// Is a member of nothing any more.

@@ -1,5 +1,6 @@
 // The state of a monitor.
-ghost use Rattle.std.specs.Prelude.{◌≡◌, ◌+◌, ◌<◌, ◌≤◌, ℕ, IfOk, IfSome, IfNone, OnOk, OnErr, List, [], false, Some, Option, ◌||◌, bytes_eq, find, is_some, length, nat_le, nat_lt};
+ghost use Rattle.std.specs.Prelude.{◌≡◌, ◌+◌, ◌<◌, ◌≤◌, ℕ, Contains, IfOk, IfSome, IfNone, OnOk, OnErr, List, [], true, false, Some, Option, ◌||◌, bytes_eq, find, is_some, length, nat_le, nat_lt};
+ghost use Rattle.std.specs.List.{list_any};
 ghost use Rattle.std.specs.Option.{option_copied, option_map};
 ghost use Rattle.monitor_laws.specs.Lines.{Announces, AreGone, PlaysAny, PlaysOneOf};
 ghost use Rattle.monitor_laws.specs.Faults.{faults_of, first_fault, has_no_room, is_wildcard_in, memberships_in, most_listed, most_memberships, participant_in};
@@ -8,8 +9,10 @@ ghost use Rattle.trace_lines.specs.Values.{line_value, place_value, said_value};
 ghost use Rattle.monitor_laws.specs.Lawful.{AreAscending, IsLawfulState};
 ghost use Rattle.monitor_state.specs.Taking.{taken_state};
 ghost use Rattle.trace_lines.specs.inside.Reading.{spaced_words};
+ghost use Rattle.monitor_state.specs.Indexes.{IsIndexOf};
 ghost use Rattle.monitor_state.specs.Values.{fault_of_line};
 ghost use Rattle.monitor_state.specs.inside.FirstFaults.{first_of_two, many_fault};
+ghost use Rattle.monitor_state.specs.inside.FirstPlaces.{IsFirstAt};
 ghost use Rattle.monitor_state.specs.inside.Numbers.{IsPlaceOfName};
 ghost use Rattle.monitor_state.specs.inside.Changes.{IsOfLine, MayChange, changed_value, memberships_had};
 
@@ -19,7 +22,7 @@ use crate::goes::memberships_of;
 use crate::listing::Listing;
 use crate::players::task_numbers;
 use crate::words::split_word;
-use crate::{FaultOfLine, ListedCondition, ListedParticipant};
+use crate::{FaultOfLine, ListedCondition, ListedParticipant, MemberIndex};
 use armus_base::NoMemory;
 use std::alloc::Global;
 use std::marker::Model;
@@ -72,6 +75,14 @@ impl MonitorState {
         self.listing.as_slice()
     }
 
+    /// The members of phasers that do not run, and the tasks that wait there, by phase.
+    pub fn index(&self) -> &MemberIndex
+        ensures { IsIndexOf self.now.list result.now }
+    {
+        let _ = &self.memberships;
+        self.listing.index()
+    }
+
     #[tactic(none)]
     // Who is there with the name t, at its place, is changed, or comes by this line. Where memory is wanting, or 2^64 were named, nothing is changed.
     fn change(
@@ -120,12 +131,26 @@ impl MonitorState {
         MOST_MEMBERSHIPS <= self.memberships
     }
 
-    // Where who is there with the name t stands.
-    fn place_of(&self, t: &[u8]) -> Option<usize>
-        ensures { IsPlaceOfName self.now.list t.now result }
+    /// Where in the list who is there with the name t stands; none where nobody is there with it.
+    pub fn place_of(&self, t: &[u8]) -> Option<usize>
+        ensures place { IsPlaceOfName self.now.list t.now result }
+        ensures at { IfSome result (IsFirstAt (is_there_as t.now) self.now.list) }
+        ensures none { IfNone result (list_any (is_there_as t.now) self.now.list ≡ false) }
     {
         let _ = &self.memberships;
         self.listing.place_of(t)
+    }
+
+    /// Who is there with the name t, if somebody is.
+    pub fn participant_there(&self, t: &[u8]) -> Option<&ListedParticipant>
+        ensures listed { IfSome result (λ u. Contains self.now.list u.now) }
+        ensures there { IfSome result (λ u. is_there_as t.now u.now ≡ true) }
+        ensures none { IfNone result (list_any (is_there_as t.now) self.now.list ≡ false) }
+    {
+        match self.place_of(t) {
+            None => None,
+            Some(at) => Some(self.listing.one_at(at)),
+        }
     }
 
     // Who is there, where a place is given: whoever has the name whose place it is.
@@ -199,11 +224,13 @@ impl MonitorState {
     }
 
     // All whose names begin so have ended.
-    fn go_all(&mut self, beginning: &[u8])
-        ensures { self.new ≡ after_line self.old (AreGone beginning.now) }
+    fn go_all(&mut self, alloc: Global, beginning: &[u8]) -> Result<(), NoMemory>
+        ensures gone { OnOk result (self.new ≡ after_line self.old (AreGone beginning.now)) }
+        ensures kept { OnErr result (self.new ≡ self.old) }
     {
-        self.listing.go_all(beginning);
+        self.listing.go_all(alloc, beginning)?;
         self.memberships = memberships_of(self.listing.as_slice());
+        Ok(())
     }
 
     // Whether a wildcard is there with the name t.
@@ -385,7 +412,7 @@ impl MonitorState {
         match line {
             TraceLine::SaysNothing | TraceLine::AsksReport | TraceLine::AsksList => Ok(None),
             TraceLine::AreGone(beginning) => {
-                self.go_all(beginning);
+                self.go_all(alloc, beginning)?;
                 Ok(None)
             }
             TraceLine::Announces(t, what, place) => {

@@ -1,10 +1,9 @@
 -- Lines by which nobody becomes stuck and nobody is stuck no longer.
-use Rattle.std.specs.Prelude.{◌≡◌, ℕ, Bool, true, false, not, ◌&&◌, ◌||◌, ◌==◌, List, [], ◌∷◌, ◌⊎◌, Contains, bytes_eq, length}
+use Rattle.std.specs.Prelude.{◌≡◌, ℕ, Bool, true, false, not, ◌&&◌, ◌||◌, ◌==◌, List, [], ◌∷◌, Contains, bytes_eq, length}
 use Rattle.std.specs.List.{list_any}
-use Rattle.monitor_laws.specs.States.{Condition, Running, Waiting, Ended, AnyTask, OneOf, Participant, is_live_wildcard, is_there_as}
+use Rattle.monitor_laws.specs.States.{Condition, Running, Waiting, Ended, AnyTask, OneOf, Participant, is_live_task, is_live_wildcard, is_there_as}
 use Rattle.monitor_laws.specs.Stuck.{has_phase_below}
 use Rattle.monitor_words.specs.Reasons.{has_ended}
-use Rattle.monitor_search.specs.Known.{has_stuck_number}
 
 -- a task runs in this condition
 abbrev pub runs_now : Condition → Bool
@@ -60,33 +59,27 @@ abbrev pub frees_nobody : List Participant → List (ℕ × List ℕ) → Partic
 frees_nobody list known u =
     ((is_live_wildcard u.condition || is_nobody known) || not (list_any (λ v. is_for_any v.condition) list)) || list_any (runs_beside u.number) list
 
--- u was not stuck, cannot be now, and frees nobody
-abbrev pub leaves_stuck : List Participant → List (ℕ × List ℕ) → Participant → Bool
-leaves_stuck list known u = (not (has_stuck_number known u.number) && is_surely_out list u.condition) && frees_nobody list known u
+-- the task with this number is in the list and has not ended
+abbrev pub lives_with_number : List Participant → ℕ → Bool
+lives_with_number list k = list_any (λ u. is_live_task u.condition && u.number == k) list
 
--- one of these tasks may play a wildcard in this condition
-abbrev pub is_for_some : Condition → Bool
-is_for_some Running = false
-is_for_some (Waiting p n) = false
-is_for_some Ended = false
-is_for_some AnyTask = false
-is_for_some (OneOf names tasks) = true
+-- one of these tasks may play a wildcard in this condition, and not all of them live
+abbrev pub asks_for_ended : List Participant → Condition → Bool
+asks_for_ended list Running = false
+asks_for_ended list (Waiting p n) = false
+asks_for_ended list Ended = false
+asks_for_ended list AnyTask = false
+asks_for_ended list (OneOf names tasks) = list_any (λ k. not (lives_with_number list k)) tasks
 
 -- has ended with the name t
 abbrev pub has_ended_as : List ℕ → Participant → Bool
 has_ended_as t u = has_ended u.condition && bytes_eq t u.name
 
--- nobody is known; nobody is there with the name t or has ended with it; and each wildcard is one that somebody who runs may play
+-- nobody is known; nobody is there with the name t or has ended with it; each wildcard of some tasks asks for such as live; and somebody runs, or none is for any task
 abbrev pub ends_quietly : List Participant → List (ℕ × List ℕ) → List ℕ → Bool
 ends_quietly list known t =
-    ((is_nobody known && not (list_any (has_ended_as t) list)) && not (list_any (λ v. is_for_some v.condition) list))
+    ((is_nobody known && not (list_any (has_ended_as t) list)) && not (list_any (λ v. asks_for_ended list v.condition) list))
     && (list_any (λ u. runs_now u.condition) list || not (list_any (λ v. is_for_any v.condition) list))
-
--- who is there with the name t after its line leaves all as they were; or nobody is there, and t has ended quietly
-abbrev pub LeavesStuckBy : List Participant → List (ℕ × List ℕ) → List ℕ → Type 0
-LeavesStuckBy list known t =
-    ((u : Participant) × Contains list u × (is_there_as t u ≡ true) × (leaves_stuck list known u ≡ true))
-    ⊎ ((list_any (is_there_as t) list ≡ false) × (ends_quietly list known t ≡ true))
 
 -- who is there with the name w is a member of nothing
 abbrev pub HasNoPhase : List Participant → List ℕ → Type 0

@@ -3,6 +3,8 @@ use Rattle.std.specs.Prelude.{filter}
 use Rattle.std.specs.List.{list_any}
 use Rattle.monitor_laws.specs.States.{Participant}
 use Rattle.monitor_laws.specs.Faults.{waits_now}
+use Rattle.monitor_laws.specs.Lawful.{AreAscending}
+use Rattle.monitor_state.proofs.Ascending.{ascending_filter}
 use Rattle.monitor_search.specs.Known.{AreStuckTasks, known_task}
 use Rattle.monitor_search.specs.inside.Partings.{referred}
 use Rattle.monitor_search.proofs.Parted.{none_stuck, stuck_of_parting}
@@ -21,3 +23,9 @@ returns c =
     c.in_ok-known.ensures ∙ ap (λ (l : List (Bor Participant)). map known_task (filter (λ u. waits_now u.condition) (referred l))) c.deref.ensures.value in
     subst (AreStuckTasks c.args.state.now) (sym is)
     (stuck_of_parting c.args.state.now (referred parting.inside.items) (referred parting.outside.items) c.in_ok-parting.ensures.parting c.participants.ensures.lawful c.in_ok-parting.ensures.closed)
+
+pub waiting_of-requires : goal.waiting_of-requires
+waiting_of-requires c =
+    let parting = c.in_ok-parting.ensures.parting in
+    subst (λ (l : List (Bor Participant)). AreAscending (referred l)) (sym c.deref.ensures.value)
+    (subst AreAscending (sym parting.chosen.1) (ascending_filter parting.chosen.0 c.args.state.now.list c.participants.ensures.ascending))

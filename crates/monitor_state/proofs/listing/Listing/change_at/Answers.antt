@@ -9,7 +9,15 @@ use Rattle.monitor_state.specs.inside.FirstPlaces.{IsFirstAt}
 use Rattle.monitor_state.specs.inside.Numbers.{HasEachNameOnce}
 use Rattle.monitor_state.specs.inside.Players.{participant_number}
 use Rattle.monitor_state.proofs.ByName.{changed_name, changed_number, number_lost, numbers_kept}
+use Rattle.monitor_state.proofs.IndexChanges.{indexed_at, reindexed_at}
 use Rattle.monitor_state.proofs.listing.Listing.change_at.Goals as goal
+
+pub change_listed-requires-clause-indexed : goal.change_listed-requires-clause-indexed
+change_listed-requires-clause-indexed c =
+    let us = c.self.inside.list.items in
+    let order : HasEachNameOnce us = subst HasEachNameOnce (sym c.self.view_is) c.requires.order in
+    let first : IsFirstAt (is_there_as c.args.t.now) us c.args.at = subst (λ l. IsFirstAt (is_there_as c.args.t.now) l c.args.at) (sym c.self.view_is) c.requires.first in
+    λ u read. indexed_at us c.args.at u order.ascending first.within read c.self.inside.index c.self.invariant.index
 
 pub invariant_of-self-then-not-after : goal.invariant_of-self-then-not-after
 invariant_of-self-then-not-after c =
@@ -21,10 +29,13 @@ invariant_of-self-then-not-after c =
     let read : u ≡ get_or us c.args.at u = get_or_default us c.args.at (new_participant 0 t) u first.within in
     let v = changed_value c.args.change u in
     let away = sym (c.in_ok-after.ensures.there u read) ∙ not-true _ c.if-not-after.true in
-    λ x.
-    c.remove_number.ensures x ∙ ap (λ o. if bytes_eq t x then None else o) (c.self.invariant x)
-    ∙ number_lost us order t c.args.at u v first read (changed_name c.args.change u) away x
-    ∙ sym (ap (λ (l : List Participant). option_map participant_number (find (is_there_as x) l)) (c.in_ok-after.ensures.changed u read))
+    record {
+      numbers = λ x.
+          c.remove_number.ensures x ∙ ap (λ o. if bytes_eq t x then None else o) (c.self.invariant.numbers x)
+          ∙ number_lost us order t c.args.at u v first read (changed_name c.args.change u) away x
+          ∙ sym (ap (λ (l : List Participant). option_map participant_number (find (is_there_as x) l)) (c.in_ok-after.ensures.changed u read));
+      index = reindexed_at us c.args.at u v order.ascending first.within read (changed_number c.args.change u) _ _ c.self.invariant.index (c.in_ok-after.ensures.indexed u read) _ (c.in_ok-after.ensures.changed u read);
+    }
 
 pub invariant_of-self-else-not-after : goal.invariant_of-self-else-not-after
 invariant_of-self-else-not-after c =
@@ -36,7 +47,10 @@ invariant_of-self-else-not-after c =
     let read : u ≡ get_or us c.args.at u = get_or_default us c.args.at (new_participant 0 t) u first.within in
     let v = changed_value c.args.change u in
     let there = sym (c.in_ok-after.ensures.there u read) ∙ not-false _ c.if-not-after.false in
-    λ x.
-    c.self.invariant x
-    ∙ sym (numbers_kept us order t c.args.at u v first read (changed_name c.args.change u) (changed_number c.args.change u) there x)
-    ∙ sym (ap (λ (l : List Participant). option_map participant_number (find (is_there_as x) l)) (c.in_ok-after.ensures.changed u read))
+    record {
+      numbers = λ x.
+          c.self.invariant.numbers x
+          ∙ sym (numbers_kept us order t c.args.at u v first read (changed_name c.args.change u) (changed_number c.args.change u) there x)
+          ∙ sym (ap (λ (l : List Participant). option_map participant_number (find (is_there_as x) l)) (c.in_ok-after.ensures.changed u read));
+      index = reindexed_at us c.args.at u v order.ascending first.within read (changed_number c.args.change u) _ _ c.self.invariant.index (c.in_ok-after.ensures.indexed u read) _ (c.in_ok-after.ensures.changed u read);
+    }

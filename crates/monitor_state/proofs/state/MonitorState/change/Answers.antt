@@ -89,6 +89,12 @@ pub returns-in_err-named-in-None-clause-kept : goal.returns-in_err-named-in-None
 returns-in_err-named-in-None-clause-kept c =
     search rules
 
+pub change_behind-requires-clause-order : goal.change_behind-requires-clause-order
+change_behind-requires-clause-order c = in_order _ c.self.inside.memberships c.self.invariant
+
+pub change_behind-requires-clause-above : goal.change_behind-requires-clause-above
+change_behind-requires-clause-above c = λ u listed. c.self.invariant.lawful.numbers u listed
+
 pub change_behind-requires-clause-may : goal.change_behind-requires-clause-may
 change_behind-requires-clause-may c =
     let step : IsStep c.args.self.now c.self.inside.listing c.self.inside.named c.self.inside.memberships c.args.t.now (changed_value c.args.change) = record { is = c.self.view_is; kept = c.self.invariant; line = c.requires.line; room = c.requires.few; space = c.requires.space } in

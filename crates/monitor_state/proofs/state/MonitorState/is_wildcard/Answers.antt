@@ -8,7 +8,7 @@ use Rattle.monitor_state.proofs.state.MonitorState.is_wildcard.Goals as goal
 pub returns : goal.returns
 returns c =
     let lawful : IsLawfulState c.args.self.now = subst IsLawfulState c.self.view_is c.self.invariant.lawful in
-    c.is_wildcard_there.ensures ∙ ap is_wildcard_there (c.found.ensures c.args.t.now c.place_of.ensures) ∙ sym (wildcard_is c.args.self.now c.args.t.now lawful)
+    c.is_wildcard_there.ensures ∙ ap is_wildcard_there (c.found.ensures c.args.t.now c.place_of.ensures.place) ∙ sym (wildcard_is c.args.self.now c.args.t.now lawful)
 
 pub found-requires : goal.found-requires
-found-requires c = place_within c.args.self.now.list c.args.t.now c.place_of.result c.place_of.ensures
+found-requires c = place_within c.args.self.now.list c.args.t.now c.place_of.result c.place_of.ensures.place

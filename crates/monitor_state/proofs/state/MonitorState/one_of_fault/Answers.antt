@@ -23,7 +23,7 @@ returns-clause-first c =
     one_of_first s w names lawful
     ∙ ap (λ (o : Option LineFault). first_of_two o (many_fault (nat_lt most_memberships (memberships_in (after_line s (PlaysOneOf w names))))))
     (sym (c.one_of_fault.ensures
-    ∙ ap (λ (o : Option Participant). one_of_fault w o (option_copied c.first_misnamed.result) c.is_full.result) (c.found.ensures w c.place_of.ensures)
+    ∙ ap (λ (o : Option Participant). one_of_fault w o (option_copied c.first_misnamed.result) c.is_full.result) (c.found.ensures w c.place_of.ensures.place)
     ∙ ap (λ (o : Option (List ℕ)). one_of_fault w found o c.is_full.result) c.first_misnamed.ensures
     ∙ ap (λ (b : Bool). one_of_fault w found misnamed b) c.is_full.ensures))
 
@@ -34,9 +34,9 @@ returns-clause-space c =
     where_none c.one_of_fault.result (λ none.
     one_of_space s w (option_copied c.first_misnamed.result)
     (sym (c.one_of_fault.ensures
-    ∙ ap (λ (o : Option Participant). one_of_fault w o (option_copied c.first_misnamed.result) c.is_full.result) (c.found.ensures w c.place_of.ensures)
+    ∙ ap (λ (o : Option Participant). one_of_fault w o (option_copied c.first_misnamed.result) c.is_full.result) (c.found.ensures w c.place_of.ensures.place)
     ∙ ap (λ (b : Bool). one_of_fault w (find (is_there_as w) s.list) (option_copied c.first_misnamed.result) b) c.is_full.ensures)
     ∙ ap (option_map fault_of_line) none))
 
 pub found-requires : goal.found-requires
-found-requires c = place_within c.args.self.now.list c.args.w.now c.place_of.result c.place_of.ensures
+found-requires c = place_within c.args.self.now.list c.args.w.now c.place_of.result c.place_of.ensures.place

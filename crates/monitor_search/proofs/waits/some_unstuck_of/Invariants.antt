@@ -1,0 +1,8 @@
+use Rattle.std.proofs.Common.{◌≡◌, ◌==◌, ◌&&◌, false, take}
+use Rattle.std.specs.List.{list_any}
+use Rattle.monitor_search.specs.inside.Waits.{is_unstuck}
+use Rattle.monitor_search.proofs.waits.some_unstuck_of.Given as goal
+
+-- none so far
+abbrev pub invariant-loop-k : goal.invariant-loop-k
+invariant-loop-k l = list_any (λ k. list_any (λ u. (is_unstuck l.was) u && u.number == k) l.state.list) (take l.k-index l.tasks) ≡ false

@@ -1,0 +1,34 @@
+// Who of a list has a number.
+ghost use Rattle.std.specs.Prelude.{◌≡◌, Contains, IfNone, IfSome};
+ghost use Rattle.monitor_laws.specs.Lawful.{AreAscending};
+ghost use Rattle.monitor_laws.specs.States.{Participant as Listed};
+ghost use Rattle.monitor_search.specs.inside.Numbers.{IsFirstListed};
+
+use monitor_state::{ListedParticipant, MonitorState};
+
+// The first place from which on nobody has a lower number.
+fn first_listed(list: &[ListedParticipant], number: u64) -> usize
+    requires { AreAscending list.now }
+    ensures { IsFirstListed list.now number result }
+{
+    list.partition_point(|u| u.number() < number)
+}
+
+/// Who of the list has this number.
+pub(crate) fn numbered(state: &MonitorState, number: u64) -> Option<&ListedParticipant>
+    ensures listed { IfSome result (λ u. Contains state.now.list u.now) }
+    ensures number { IfSome result (λ u. u.now.number ≡ number) }
+    ensures one { IfSome result (λ u. (v : Listed) → Contains state.now.list v → v.number ≡ number → v ≡ u.now) }
+    ensures none { IfNone result ((u : Listed) → Contains state.now.list u → u.number ≡ number → ⊥) }
+{
+    let list = state.participants();
+    let at = first_listed(list, number);
+    if at >= list.len() {
+        return None;
+    }
+    let u = &list[at];
+    if u.number() != number {
+        return None;
+    }
+    Some(u)
+}

@@ -1,0 +1,56 @@
+// Members that do not run, and tasks that wait, by phaser and phase.
+
+use monitor_members::PhaserIndex;
+use std::alloc::Global;
+
+/// The numbers of the tasks and wildcards that do not run, at the phases that they have on phasers, and of the tasks that wait, at the phases for which they wait.
+#[derive(Drop)]
+pub struct MemberIndex {
+    pub(crate) resting: PhaserIndex,
+    pub(crate) waiting: PhaserIndex,
+}
+
+impl MemberIndex {
+    ghost use Rattle.std.specs.Prelude.{◌≡◌, [], ℕ, List};
+    ghost use Rattle.std.specs.List.{list_any};
+    ghost use Rattle.monitor_laws.specs.States.{Participant as Listed};
+    ghost use Rattle.monitor_state.specs.Indexes.{IsIndexOf, rests_below, waits_above};
+
+    /// Nobody.
+    pub(crate) fn new(alloc: Global) -> MemberIndex
+        ensures { IsIndexOf [] result }
+    {
+        MemberIndex {
+            resting: PhaserIndex::new(alloc),
+            waiting: PhaserIndex::new(alloc),
+        }
+    }
+
+    /// Whether somebody who does not run is a member of phaser p with a phase below n.
+    pub fn rests_below(&self, p: &[u8], n: u32) -> bool
+        ensures { (us : List Listed) → IsIndexOf us self.now → result ≡ list_any (rests_below p.now n) us }
+    {
+        self.resting.has_below(p, n)
+    }
+
+    /// Whether somebody waits for a phase of phaser p above n, so for each member of it with phase n.
+    pub fn is_awaited_above(&self, p: &[u8], n: u32) -> bool
+        ensures { (us : List Listed) → IsIndexOf us self.now → result ≡ list_any (waits_above p.now n) us }
+    {
+        self.waiting.has_above(p, n)
+    }
+
+    /// Those who do not run, by their phases.
+    pub fn resting(&self) -> &PhaserIndex
+        ensures { result.now ≡ self.now.resting }
+    {
+        &self.resting
+    }
+
+    /// Those who wait, by the phases for which they wait.
+    pub fn waiting(&self) -> &PhaserIndex
+        ensures { result.now ≡ self.now.waiting }
+    {
+        &self.waiting
+    }
+}
