@@ -8,7 +8,7 @@ use Rattle.std.proofs.lemmas.List.Folds.{Any-from_list_any, list_any_at}
 use Rattle.monitor_laws.specs.States.{Condition, Running, Waiting, Ended, AnyTask, OneOf, Participant}
 use Rattle.monitor_laws.specs.Faults.{phase_on}
 use Rattle.monitor_laws.specs.Stuck.{has_phase_below, is_phase_below}
-use Rattle.monitor_state.specs.Indexes.{is_phase, is_running, is_wait_above, is_wait_for, rests_at, rests_below, waits_above, waits_at}
+use Rattle.monitor_state.specs.Indexes.{is_phase, is_running, is_wait_above, is_wait_for, rests_at, rests_below, waits_above, awaits_phase}
 
 self_number : (k : ℕ) → (k == k) ≡ true
 self_number k = grind (arith, nat_tests)
@@ -80,8 +80,8 @@ wait_from p n Ended is = absurd (let e : false ≡ true = is in cc)
 wait_from p n AnyTask is = absurd (let e : false ≡ true = is in cc)
 wait_from p n (OneOf names tasks) is = absurd (let e : false ≡ true = is in cc)
 
-pub waits_to : (p : List ℕ) (n : ℕ) (u : Participant) (m : ℕ) → waits_at p m u ≡ true → n < m → waits_above p n u ≡ true
+pub waits_to : (p : List ℕ) (n : ℕ) (u : Participant) (m : ℕ) → awaits_phase p m u ≡ true → n < m → waits_above p n u ≡ true
 waits_to p n u m waits more = wait_to p n u.condition m waits more
 
-pub waits_from : (p : List ℕ) (n : ℕ) (u : Participant) → waits_above p n u ≡ true → (m : ℕ) × (n < m) × (waits_at p m u ≡ true)
+pub waits_from : (p : List ℕ) (n : ℕ) (u : Participant) → waits_above p n u ≡ true → (m : ℕ) × (n < m) × (awaits_phase p m u ≡ true)
 waits_from p n u waits = wait_from p n u.condition waits

@@ -8,7 +8,7 @@ use Rattle.std.proofs.lemmas.List.{map-append, take_more}
 use Rattle.std.proofs.lemmas.List.Folds.{list_any-append}
 use Rattle.monitor_laws.specs.States.{Ended, Participant, gone_by, new_participant, stays_listed}
 use Rattle.monitor_laws.specs.Lawful.{AreAscending}
-use Rattle.monitor_state.specs.Indexes.{IsIndexOf, rests_at, waits_at}
+use Rattle.monitor_state.specs.Indexes.{IsIndexOf, rests_at, awaits_phase}
 use Rattle.monitor_state.specs.inside.Changes.{put_at}
 use Rattle.monitor_state.specs.inside.Listings.{IsListing}
 use Rattle.monitor_state.specs.inside.Reindexing.{IsIndexed, IsReindexed, IsSameIndex}
@@ -19,7 +19,7 @@ use Rattle.monitor_state.proofs.Indexed.{after_push, after_put, any_filtered, le
 pub indexed_at : (us : List Participant) (i : ℕ) (u : Participant) (up : AreAscending us) (within : i < length us) (is : u ≡ get_or us i u) (index : MemberIndex) → IsIndexOf us index → IsIndexed index u
 indexed_at us i u up within is index of = record {
   resting = λ q n. of.resting q n u.number ∙ own_test (rests_at q n) us i u up within is;
-  waiting = λ q n. of.waiting q n u.number ∙ own_test (waits_at q n) us i u up within is;
+  waiting = λ q n. of.waiting q n u.number ∙ own_test (awaits_phase q n) us i u up within is;
 }
 
 module _ (us : List Participant) (i : ℕ) (u v : Participant) (up : AreAscending us) (within : i < length us) (is : u ≡ get_or us i u) where
@@ -29,8 +29,8 @@ module _ (us : List Participant) (i : ℕ) (u v : Participant) (up : AreAscendin
         step.resting q n j ∙ ap (λ b. if v.number == j then rests_at q n v else b) (of.resting q n j)
         ∙ after_put (rests_at q n) us i u v up within is same (leaves_resting q n v) j ∙ ap (list_any (λ w. w.number == j && rests_at q n w)) (sym put);
     waiting = λ q n j.
-        step.waiting q n j ∙ ap (λ b. if v.number == j then waits_at q n v else b) (of.waiting q n j)
-        ∙ after_put (waits_at q n) us i u v up within is same (leaves_waiting q n v) j ∙ ap (list_any (λ w. w.number == j && waits_at q n w)) (sym put);
+        step.waiting q n j ∙ ap (λ b. if v.number == j then awaits_phase q n v else b) (of.waiting q n j)
+        ∙ after_put (awaits_phase q n) us i u v up within is same (leaves_waiting q n v) j ∙ ap (list_any (λ w. w.number == j && awaits_phase q n w)) (sym put);
   }
 
 -- the same list with the same index
@@ -48,13 +48,13 @@ same_listing us vs numbers old new kept same is =
 pub pushed_index : (us vs : List Participant) (number : ℕ) (t : List ℕ) (index : MemberIndex) → IsIndexOf us index → vs ≡ us ++ new_participant number t ∷ [] → IsIndexOf vs index
 pushed_index us vs number t index of is = subst (λ l. IsIndexOf l index) (sym is) (record {
   resting = λ q n j. of.resting q n j ∙ after_push (rests_at q n) us (new_participant number t) j refl;
-  waiting = λ q n j. of.waiting q n j ∙ after_push (waits_at q n) us (new_participant number t) j refl;
+  waiting = λ q n j. of.waiting q n j ∙ after_push (awaits_phase q n) us (new_participant number t) j refl;
 })
 
 pub popped_index : (us vs : List Participant) (number : ℕ) (t : List ℕ) (index : MemberIndex) → IsIndexOf vs index → vs ≡ us ++ new_participant number t ∷ [] → IsIndexOf us index
 popped_index us vs number t index of is = record {
   resting = λ q n j. of.resting q n j ∙ ap (list_any (λ w. w.number == j && rests_at q n w)) is ∙ sym (after_push (rests_at q n) us (new_participant number t) j refl);
-  waiting = λ q n j. of.waiting q n j ∙ ap (list_any (λ w. w.number == j && waits_at q n w)) is ∙ sym (after_push (waits_at q n) us (new_participant number t) j refl);
+  waiting = λ q n j. of.waiting q n j ∙ ap (list_any (λ w. w.number == j && awaits_phase q n w)) is ∙ sym (after_push (awaits_phase q n) us (new_participant number t) j refl);
 }
 
 -- one more who is gone, or is not
@@ -79,5 +79,5 @@ module _ (f : Participant → Bool) (beginning : List ℕ) (us : List Participan
 pub index_kept : (us : List Participant) (index : MemberIndex) → IsIndexOf us index → IsIndexOf (filter stays_listed us) index
 index_kept us index of = record {
   resting = λ q n j. of.resting q n j ∙ any_filtered (λ w. w.number == j && rests_at q n w) stays_listed us (λ v goes. ap (λ b. v.number == j && b) (leaves_resting q n v goes) ∙ and_off (v.number == j));
-  waiting = λ q n j. of.waiting q n j ∙ any_filtered (λ w. w.number == j && waits_at q n w) stays_listed us (λ v goes. ap (λ b. v.number == j && b) (leaves_waiting q n v goes) ∙ and_off (v.number == j));
+  waiting = λ q n j. of.waiting q n j ∙ any_filtered (λ w. w.number == j && awaits_phase q n w) stays_listed us (λ v goes. ap (λ b. v.number == j && b) (leaves_waiting q n v goes) ∙ and_off (v.number == j));
 }

@@ -10,7 +10,7 @@ use Rattle.std.proofs.lemmas.List.Folds.{list_any-append}
 use Rattle.armus_base.proofs.Elements.{Contains-head, Contains-tail}
 use Rattle.monitor_laws.specs.States.{Condition, Running, Waiting, Ended, AnyTask, OneOf, Participant, is_live_task, is_live_wildcard, stays_listed}
 use Rattle.monitor_laws.specs.Lawful.{AreAscending}
-use Rattle.monitor_state.specs.Indexes.{is_phase, is_running, is_wait_for, rests_at, waits_at}
+use Rattle.monitor_state.specs.Indexes.{is_phase, is_running, is_wait_for, rests_at, awaits_phase}
 use Rattle.monitor_state.specs.inside.Changes.{put_at}
 use Rattle.monitor_state.proofs.Noting.{or_off}
 
@@ -127,13 +127,13 @@ leaves_resting q n v goes = by_phases v.phases refl
         let f : true ≡ false = sym none ∙ more_number 0 (length (m ∷ ms)) (omega arith) in
         cc)
 
-pub leaves_waiting : (q : List ℕ) (n : ℕ) (v : Participant) → stays_listed v ≡ false → waits_at q n v ≡ false
+pub leaves_waiting : (q : List ℕ) (n : ℕ) (v : Participant) → stays_listed v ≡ false → awaits_phase q n v ≡ false
 leaves_waiting q n v goes = by_condition v.condition refl
   where
     live : is_live_task v.condition ≡ true → true ≡ false
     live on = sym (ap (λ b. b || is_live_wildcard v.condition || not (length v.phases == 0)) on) ∙ goes
 
-    by_condition : (c : Condition) → v.condition ≡ c → waits_at q n v ≡ false
+    by_condition : (c : Condition) → v.condition ≡ c → awaits_phase q n v ≡ false
     by_condition Running e = ap (is_wait_for q n) e
     by_condition (Waiting p m) e = absurd (let f = live (ap is_live_task e) in cc)
     by_condition Ended e = ap (is_wait_for q n) e

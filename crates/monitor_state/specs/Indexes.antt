@@ -33,8 +33,8 @@ abbrev pub rests_at : List ℕ → ℕ → Participant → Bool
 rests_at q n u = not (is_running u.condition) && is_phase (phase_on u q) n
 
 -- a task that waits for phase n of q
-abbrev pub waits_at : List ℕ → ℕ → Participant → Bool
-waits_at q n u = is_wait_for q n u.condition
+abbrev pub awaits_phase : List ℕ → ℕ → Participant → Bool
+awaits_phase q n u = is_wait_for q n u.condition
 
 -- does not run, and is a member of p with a phase below n
 abbrev pub rests_below : List ℕ → ℕ → Participant → Bool
@@ -55,4 +55,4 @@ waits_above p n u = is_wait_above p n u.condition
 -- it has the numbers of those of the list that do not run by the phases that they have, and of those that wait by the phases for which they wait
 pub record IsIndexOf (us : List Participant) (index : MemberIndex) : Type 0 where
   pub resting : (q : List ℕ) (n j : ℕ) → is_noted index.resting q n j ≡ list_any (λ u. u.number == j && rests_at q n u) us
-  pub waiting : (q : List ℕ) (n j : ℕ) → is_noted index.waiting q n j ≡ list_any (λ u. u.number == j && waits_at q n u) us
+  pub waiting : (q : List ℕ) (n j : ℕ) → is_noted index.waiting q n j ≡ list_any (λ u. u.number == j && awaits_phase q n u) us

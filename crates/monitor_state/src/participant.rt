@@ -7,7 +7,7 @@ ghost use Rattle.monitor_laws.specs.Faults.{last_phase, most_memberships, phase_
 ghost use Rattle.monitor_laws.specs.States.{Running, announced_by, gone_by, is_live_wildcard, is_there_as, new_participant, placed_at, stays_listed};
 ghost use Rattle.monitor_members.specs.Noted.{is_noted};
 ghost use Rattle.trace_lines.specs.Values.{place_value, said_value};
-ghost use Rattle.monitor_state.specs.Indexes.{is_phase, is_running, rests_at, waits_at};
+ghost use Rattle.monitor_state.specs.Indexes.{is_phase, is_running, rests_at, awaits_phase};
 ghost use Rattle.monitor_state.specs.Values.{condition_value, kept_bytes};
 ghost use Rattle.monitor_state.specs.inside.Changes.{MayAnnounce, MayChange, changed_value, memberships_had};
 ghost use Rattle.monitor_state.specs.inside.Reindexing.{IsForgotten, IsIndexed, IsNotedAnew, IsNotedWhere, IsReindexed, IsSameIndex, IsSameNoted, RestsEverywhere};
@@ -188,7 +188,7 @@ impl ListedParticipant {
 
     // Notes that it does not wait any more.
     fn forget_wait(&self, waiting: &mut PhaserIndex)
-        requires { IsNotedWhere waiting.old self.now.number (λ q n. waits_at q n self.now) }
+        requires { IsNotedWhere waiting.old self.now.number (λ q n. awaits_phase q n self.now) }
         ensures { IsNotedAnew waiting.old waiting.new self.now.number (λ q n. false) }
     {
         if let ListedCondition::Waiting(p, n) = &self.parts.condition {
@@ -490,7 +490,7 @@ impl ListedParticipant {
 
     // Notes that it waits too, if it does.
     fn note_wait_too(&self, alloc: Global, waiting: &mut PhaserIndex) -> Result<(), NoMemory>
-        ensures { OnOk result ((q : List ℕ) (n j : ℕ) → is_noted waiting.new q n j ≡ (is_noted waiting.old q n j || (self.now.number == j && waits_at q n self.now))) }
+        ensures { OnOk result ((q : List ℕ) (n j : ℕ) → is_noted waiting.new q n j ≡ (is_noted waiting.old q n j || (self.now.number == j && awaits_phase q n self.now))) }
     {
         match &self.parts.condition {
             ListedCondition::Waiting(p, n) => {
@@ -509,7 +509,7 @@ impl ListedParticipant {
         beginning: &[u8],
     ) -> Result<(), NoMemory>
         ensures resting { OnOk result ((q : List ℕ) (n j : ℕ) → is_noted index.new.resting q n j ≡ (is_noted index.old.resting q n j || (self.now.number == j && rests_at q n (gone_by beginning.now self.now)))) }
-        ensures waiting { OnOk result ((q : List ℕ) (n j : ℕ) → is_noted index.new.waiting q n j ≡ (is_noted index.old.waiting q n j || (self.now.number == j && waits_at q n (gone_by beginning.now self.now)))) }
+        ensures waiting { OnOk result ((q : List ℕ) (n j : ℕ) → is_noted index.new.waiting q n j ≡ (is_noted index.old.waiting q n j || (self.now.number == j && awaits_phase q n (gone_by beginning.now self.now)))) }
     {
         let begins = self.parts.name.as_slice().starts_with(beginning);
         if begins {

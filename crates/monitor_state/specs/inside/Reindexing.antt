@@ -4,7 +4,7 @@ use Rattle.monitor_laws.specs.States.{Participant}
 use Rattle.monitor_laws.specs.Faults.{phase_on}
 use Rattle.monitor_members.specs.Noted.{is_noted}
 use Rattle.monitor_members.specs.declared.index.PhaserIndex.{PhaserIndex}
-use Rattle.monitor_state.specs.Indexes.{is_phase, rests_at, waits_at}
+use Rattle.monitor_state.specs.Indexes.{is_phase, rests_at, awaits_phase}
 use Rattle.monitor_state.specs.declared.member_index.MemberIndex.{MemberIndex}
 
 -- number k is noted just where the test passes
@@ -22,12 +22,12 @@ IsSameNoted old new = (q : List ℕ) (n j : ℕ) → is_noted new q n j ≡ is_n
 -- what is noted with its number is what it is
 pub record IsIndexed (index : MemberIndex) (u : Participant) : Type 0 where
   pub resting : IsNotedWhere index.resting u.number (λ q n. rests_at q n u)
-  pub waiting : IsNotedWhere index.waiting u.number (λ q n. waits_at q n u)
+  pub waiting : IsNotedWhere index.waiting u.number (λ q n. awaits_phase q n u)
 
 -- with its number is noted anew what it is
 pub record IsReindexed (old new : MemberIndex) (v : Participant) : Type 0 where
   pub resting : IsNotedAnew old.resting new.resting v.number (λ q n. rests_at q n v)
-  pub waiting : IsNotedAnew old.waiting new.waiting v.number (λ q n. waits_at q n v)
+  pub waiting : IsNotedAnew old.waiting new.waiting v.number (λ q n. awaits_phase q n v)
 
 -- with its number are noted anew all its phases, and no wait
 pub record RestsEverywhere (old new : MemberIndex) (u : Participant) : Type 0 where

@@ -1,7 +1,7 @@
 use Rattle.std.proofs.Common.{◌<◌, ◌≤◌, List, length, map, rules, subst}
 use Rattle.std.proofs.lemmas.List.{take_all}
 use Rattle.monitor_laws.specs.States.{Participant, gone_by}
-use Rattle.monitor_state.specs.Indexes.{IsIndexOf, rests_at, waits_at}
+use Rattle.monitor_state.specs.Indexes.{IsIndexOf, rests_at, awaits_phase}
 use Rattle.monitor_state.proofs.IndexChanges.{index_kept, one_more_gone}
 use Rattle.monitor_state.proofs.goes.index_of_gone.Goals as goal
 
@@ -13,7 +13,7 @@ loop-participant-preserved c =
     let within : i < length us = search rules in
     record {
       resting = λ q n j. one_more_gone (rests_at q n) c.args.beginning.now us i u within c.participant-item.is j _ _ (c.loop-participant.invariant.resting q n j) (c.in_ok-note_gone.ensures.resting q n j);
-      waiting = λ q n j. one_more_gone (waits_at q n) c.args.beginning.now us i u within c.participant-item.is j _ _ (c.loop-participant.invariant.waiting q n j) (c.in_ok-note_gone.ensures.waiting q n j);
+      waiting = λ q n j. one_more_gone (awaits_phase q n) c.args.beginning.now us i u within c.participant-item.is j _ _ (c.loop-participant.invariant.waiting q n j) (c.in_ok-note_gone.ensures.waiting q n j);
     }
 
 pub returns : goal.returns
