@@ -203,11 +203,7 @@ fn some_live_out(state: &MonitorState, tasks: &[u64], out: &HashSet<u64>) -> boo
 }
 
 // Whether who is in this condition is a wildcard of which one is out who may play it.
-fn is_played_out(
-    state: &MonitorState,
-    condition: &ListedCondition,
-    out: &HashSet<u64>,
-) -> bool
+fn is_played_out(state: &MonitorState, condition: &ListedCondition, out: &HashSet<u64>) -> bool
     ensures { result ≡ true → IsPlayedOut state.now.list (condition_value condition.now) (contains nat_eq out.now) }
 {
     match condition {
