@@ -1,5 +1,5 @@
 -- What the index of members tells of those who wait for somebody.
-use Rattle.std.proofs.Common.{◌≡◌, ◌==◌, ℕ, ◌<◌, ◌+◌, length, take, get_or, Bool, true, false, ◌&&◌, not, Option, Some, None, List, [], ◌∷◌, ◌++◌, cond, refl, sym, ◌∙◌, ap, subst, inl, inr, ◌⊎◌}
+use Rattle.std.proofs.Common.{◌≡◌, ◌==◌, ℕ, ◌<◌, ◌+◌, length, take, get_or, true, false, not, Some, List, [], ◌∷◌, ◌++◌, refl, sym, ◌∙◌, ap, subst, inl, inr, ◌⊎◌}
 use Rattle.std.specs.Prelude.{Contains, bytes_eq, nat_lt}
 use Rattle.std.specs.List.{list_any}
 use Rattle.std.specs.Map.{lookup}
@@ -9,10 +9,9 @@ use Rattle.std.proofs.lemmas.List.Elements.{Contains-append_cases}
 use Rattle.armus_base.proofs.Elements.{Contains-cons_cases, Contains-head, Contains-tail, nothing_in_nil}
 use Rattle.monitor_laws.specs.States.{Condition, Running, Waiting, Ended, AnyTask, OneOf, Participant, is_live_wildcard}
 use Rattle.monitor_laws.specs.Stuck.{has_phase_below, is_phase_below}
-use Rattle.monitor_laws.proofs.Filters.{any_from, any_is, none_passes}
-use Rattle.monitor_state.specs.Indexes.{is_running, is_wait_above, rests_below, waits_above}
+use Rattle.monitor_laws.proofs.Filters.{any_is, none_passes}
+use Rattle.monitor_state.specs.Indexes.{is_wait_above, waits_above}
 use Rattle.monitor_search.specs.Known.{has_stuck_number}
-use Rattle.monitor_search.specs.inside.Leaving.{is_freed, is_unfreed_below}
 use Rattle.monitor_search.specs.inside.Waits.{NobodyAwaits, needs_in, needs_other}
 
 -- the first of a list, where it has the name, and else the rest

@@ -1,7 +1,6 @@
 pub mod ByIndex
 pub mod Carried
 pub mod Filtered
-pub mod FreedWildcards
 pub mod Groups
 pub mod KeptByTable
 pub mod LeastPhases

@@ -11,12 +11,12 @@ use Rattle.monitor_laws.specs.Lawful.{AreAscending}
 use Rattle.monitor_laws.specs.States.{Participant}
 use Rattle.monitor_laws.proofs.Filters.{any_from, any_is}
 use Rattle.monitor_search.specs.Known.{has_stuck_number, known_task}
-use Rattle.monitor_search.specs.inside.Numbers.{HasNumberAt, IsFirstFrom, IsFirstListed, NeverFall}
+use Rattle.monitor_search.specs.inside.Numbers.{HasNumberAt, IsPlaceOfNumber, IsFirstListed, NeverFall}
 use Rattle.monitor_search.specs.inside.Partings.{referred}
 use Rattle.monitor_search.proofs.References.{in_referred}
 
 -- a number that somebody has stands at the first place from it on
-pub at_first : (known : List (ℕ × List ℕ)) (number at : ℕ) (t : ℕ × List ℕ) → NeverFall known → IsFirstFrom known number at → Contains known t → t.0 ≡ number → HasNumberAt known number at
+pub at_first : (known : List (ℕ × List ℕ)) (number at : ℕ) (t : ℕ × List ℕ) → NeverFall known → IsPlaceOfNumber known number at → Contains known t → t.0 ≡ number → HasNumberAt known number at
 at_first known number at t up bound (k, lt, e) same =
     let n : (get_or known k t).0 ≡ number = ap (λ (x : ℕ × List ℕ). x.0) e ∙ same in
     elim (cases_lt k at) [
@@ -29,7 +29,7 @@ at_first known number at t up bound (k, lt, e) same =
           (inside, λ x. ap (λ (y : ℕ × List ℕ). y.0) (get_or_default known at x t inside) ∙ here))
     ]
 
-pub number_told : (known : List (ℕ × List ℕ)) (number at : ℕ) (r : Bool) → NeverFall known → IsFirstFrom known number at →
+pub number_told : (known : List (ℕ × List ℕ)) (number at : ℕ) (r : Bool) → NeverFall known → IsPlaceOfNumber known number at →
     MatchBool r (HasNumberAt known number at) (HasNumberAt known number at → ⊥) → r ≡ has_stuck_number known number
 number_told known number at true up bound here =
     let t : ℕ × List ℕ = get_or known at (0, []) in

@@ -2,7 +2,7 @@
 ghost use Rattle.std.specs.Prelude.{◌≡◌, ◌≤◌, ◌++◌, ◌∷◌, [], ℕ, List, true, false, Contains, MatchBool, OnOk};
 ghost use Rattle.monitor_search.specs.Known.{has_stuck_number, known_task};
 ghost use Rattle.monitor_search.specs.inside.Leaving.{is_nobody};
-ghost use Rattle.monitor_search.specs.inside.Numbers.{HasNumberAt, IsFirstFrom, NeverFall};
+ghost use Rattle.monitor_search.specs.inside.Numbers.{HasNumberAt, IsPlaceOfNumber, NeverFall};
 
 use armus_base::NoMemory;
 use monitor_state::ListedParticipant;
@@ -67,7 +67,7 @@ fn are_same(these: &[StuckTask], others: &[StuckTask]) -> bool
 // The first place from which on no task has a lower number.
 fn first_from(tasks: &[StuckTask], number: u64) -> usize
     requires { NeverFall tasks.now }
-    ensures { IsFirstFrom tasks.now number result }
+    ensures { IsPlaceOfNumber tasks.now number result }
 {
     tasks.partition_point(|task| task.number() < number)
 }

@@ -8,7 +8,7 @@ abbrev pub NeverFall : List (ℕ × List ℕ) → Type 0
 NeverFall known = IsNonDecreasingBy (λ (t : ℕ × List ℕ). t.0) known
 
 -- the tasks ahead of this place have lower numbers, and those from it on have not
-pub record IsFirstFrom (known : List (ℕ × List ℕ)) (number at : ℕ) : Type 0 where
+pub record IsPlaceOfNumber (known : List (ℕ × List ℕ)) (number at : ℕ) : Type 0 where
   pub inside : at ≤ length known
   pub ahead : (k : ℕ) (t : ℕ × List ℕ) → k < at → (slice_index_or known k t).0 < number
   pub from : (k : ℕ) (t : ℕ × List ℕ) → at ≤ k → k < length known → number ≤ (slice_index_or known k t).0

@@ -1,5 +1,4 @@
 use Rattle.std.proofs.Common.{◌≡◌, ◌<◌, ℕ, false, length, List, get_or, sym, ◌∙◌, ap, rules}
-use Rattle.std.specs.Prelude.{Contains}
 use Rattle.std.specs.List.{list_any}
 use Rattle.monitor_state.specs.Indexes.{waits_above}
 use Rattle.monitor_search.proofs.ByIndex.{awaited_more}

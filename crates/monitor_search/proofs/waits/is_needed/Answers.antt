@@ -1,4 +1,4 @@
-use Rattle.std.proofs.Common.{◌≡◌, false, List, sym, ◌∙◌, ap}
+use Rattle.std.proofs.Common.{◌≡◌, false, sym, ◌∙◌, ap}
 use Rattle.std.specs.List.{list_any}
 use Rattle.monitor_laws.specs.States.{Participant, is_live_wildcard}
 use Rattle.monitor_search.proofs.ByIndex.{none_needs}
