@@ -47,17 +47,24 @@ fn is_one_name(names: &[u8]) -> bool
     !names.contains(&b' ')
 }
 
+/// The number of the task of a wildcard in this condition whose last line has one name; none of any other.
+pub(crate) fn lone_task(condition: &ListedCondition) -> &[u64]
+    ensures { result.now ≡ lone_task (condition_value condition.now) }
+{
+    match condition {
+        ListedCondition::OneOf(names, tasks) => { if is_one_name(names) { tasks } else { &[] } }
+        ListedCondition::Running => &[],
+        ListedCondition::Waiting(_, _) => &[],
+        ListedCondition::Ended => &[],
+        ListedCondition::AnyTask => &[],
+    }
+}
+
 // Whether the task with this number is the task of a wildcard in this condition, whose last line has one name.
 fn is_lone_task(condition: &ListedCondition, number: u64) -> bool
     ensures { result ≡ list_any (λ k. k == number) (lone_task (condition_value condition.now)) }
 {
-    match condition {
-        ListedCondition::OneOf(names, tasks) => is_one_name(names) && tasks.contains(&number),
-        ListedCondition::Running => false,
-        ListedCondition::Waiting(_, _) => false,
-        ListedCondition::Ended => false,
-        ListedCondition::AnyTask => false,
-    }
+    lone_task(condition).contains(&number)
 }
 
 /// Whether w is u, or a wildcard whose task u is.
