@@ -1,5 +1,5 @@
 -- Distances level by level.
-use Rattle.std.proofs.Common.{◌≡◌, ℕ, zero, suc, ◌<◌, ◌≤◌, ◌+◌, ◌-◌, ◌==◌, Bool, true, false, ◌&&◌, ◌||◌, Option, Some, None, List, [], length, refl, sym, ◌∙◌, ap, subst, inl, inr, arith, add-one}
+use Rattle.std.proofs.Common.{◌≡◌, ℕ, zero, suc, ◌<◌, ◌≤◌, ◌-◌, ◌==◌, Bool, true, false, ◌&&◌, ◌||◌, Option, Some, None, List, [], length, refl, sym, ◌∙◌, ap, subst, inl, inr, arith}
 use Rattle.std.specs.Prelude.{nat_lt}
 use Rattle.std.proofs.lemmas.Bool.{and_from, and_parts, cases_Bool, cases_lt, eqb-true, lt-ltb, ltb-true, or_cases, true≢false}
 use Rattle.std.proofs.Common.{eq-eqb}
@@ -9,7 +9,7 @@ use Rattle.monitor_words.specs.Stops.{stops}
 use Rattle.monitor_words.proofs.Circles.{leads}
 use Rattle.monitor_state.proofs.OnePassing.{first_place}
 use Rattle.monitor_reasons.specs.Found.{participant_at}
-use Rattle.monitor_reasons.specs.inside.Distances.{AreDistances, AreFilled, AreKnownDistances, IsChainDistance, IsKnownDistance, any_below, distance_at, filled, is_before, is_behind, leads_at, stops_at}
+use Rattle.monitor_reasons.specs.inside.Distances.{AreDistances, AreFilled, IsChainDistance, IsKnownDistance, any_below, distance_at, filled, is_before, is_behind, leads_at, stops_at}
 
 -- ---- tests
 
@@ -35,10 +35,7 @@ any_below_from p (suc n) u lt is = elim (cases_lt u n) [
   | inr not_less ↦ or_right (any_below p n) (p n) (let e : u ≡ n = omega arith in subst (λ k. p k ≡ true) e is)
 ]
 
-pub any_below_more : (p : ℕ → Bool) (n : ℕ) → any_below p (n + 1) ≡ (any_below p n || p n)
-any_below_more p n = ap (any_below p) (add-one n)
-
-before_is : (o : Option ℕ) (d : ℕ) → is_before o (suc d) ≡ true → o ≡ Some d
+pub before_is : (o : Option ℕ) (d : ℕ) → is_before o (suc d) ≡ true → o ≡ Some d
 before_is None d is = absurd (true≢false (sym is))
 before_is (Some n) d is =
     let parts = and_parts (nat_lt n (suc d)) (suc d - n == 1) is in
@@ -47,27 +44,15 @@ before_is (Some n) d is =
     let e : n ≡ d = omega arith in
     ap (λ (k : ℕ). Some k) e
 
-before_zero : (o : Option ℕ) → is_before o 0 ≡ true → ⊥
+pub before_zero : (o : Option ℕ) → is_before o 0 ≡ true → ⊥
 before_zero None is = true≢false (sym is)
 before_zero (Some n) is =
     let parts = and_parts (nat_lt n 0) (0 - n == 1) is in
     let b = ltb-true n 0 parts.0 in
     omega arith
 
-before_self : (d : ℕ) → is_before (Some d) d ≡ false
-before_self d = elim (cases_Bool (is_before (Some d) d)) [
-  | inl is ↦ absurd (let parts = and_parts (nat_lt d d) (d - d == 1) is in let b = ltb-true d d parts.0 in omega arith)
-  | inr off ↦ off
-]
-
-before_from : (d : ℕ) → is_before (Some d) (suc d) ≡ true
+pub before_from : (d : ℕ) → is_before (Some d) (suc d) ≡ true
 before_from d = and_from (nat_lt d (suc d)) (suc d - d == 1) (lt-ltb d (suc d) (omega arith)) (eq-eqb (suc d - d) 1 (omega arith))
-
--- a place that is filled with d is not before d
-pub before_filled : (o : Option ℕ) (passes : Bool) (d : ℕ) → is_before (filled o passes d) d ≡ is_before o d
-before_filled None true d = before_self d
-before_filled None false d = refl
-before_filled (Some n) passes d = refl
 
 -- ---- levels
 
@@ -139,24 +124,6 @@ module _ (s : TraceState) (stuck : ℕ → Bool) (f : ℕ) where
         let m = any_below_is (λ u. is_behind distances f d u && stops_at s stuck u t) bound some in
         let parts = and_parts (is_behind distances f d m.0) (stops_at s stuck m.0 t) m.2 in
         behind_leads d t m.0 known (let lt = m.1 in omega arith) parts.0 parts.1
-
-    part_of_level : (d t : ℕ) (o : Option ℕ) (passes : Bool) → IsChainDistance s stuck f d t o → (passes ≡ true → leads_at s stuck f d t ≡ true) →
-        IsKnownDistance s stuck f d t (filled o passes d)
-    part_of_level d t None true far on = (omega arith, on refl, far)
-    part_of_level d t None false far on = far
-    part_of_level d t (Some n) passes far on = ((let lt = far.0 in omega arith), far.1, far.2)
-
-    -- some of a level more are known
-    pub part_known : (d bound : ℕ) (new : List (Option ℕ)) → AreDistances s stuck f d distances → bound ≤ length s.list →
-        AreFilled distances new d (λ t. any_below (λ u. is_behind distances f d u && stops_at s stuck u t) bound) → AreKnownDistances s stuck f d new
-    part_known d bound new known within fills =
-        record {
-          long = fills.long ∙ known.long;
-          each = λ t listed.
-              subst (λ o. IsKnownDistance s stuck f d t o) (sym (fills.each t (let e = known.long in omega arith)))
-              (part_of_level d t (distance_at distances t) (any_below (λ u. is_behind distances f d u && stops_at s stuck u t) bound) (known.each t listed)
-              (λ some. some_lead d t bound known within some));
-        }
 
     -- one level more is known
     pub level_known : (d : ℕ) (new : List (Option ℕ)) → f < length s.list → AreDistances s stuck f d distances →

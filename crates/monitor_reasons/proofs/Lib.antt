@@ -3,6 +3,9 @@ pub mod FirstFound
 pub mod AtPlaces
 pub mod ShownCircles
 pub mod Levels
-pub mod Fills
+pub mod Filling
 pub mod FirstWalks
 pub mod Searched
+pub mod AtLevels
+pub mod Placing
+pub mod Passing

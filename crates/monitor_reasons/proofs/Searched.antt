@@ -1,37 +1,14 @@
--- Levels are filled place by place, until no circle can be missed.
-use Rattle.std.proofs.Common.{◌≡◌, ℕ, zero, suc, ◌<◌, ◌+◌, ◌==◌, Bool, true, false, ◌&&◌, ◌||◌, Option, Some, None, List, [], length, refl, sym, ◌∙◌, ap, subst, inl, inr, arith, eq-eqb}
+-- Levels are filled until no circle can be missed.
+use Rattle.std.proofs.Common.{◌≡◌, ℕ, zero, suc, ◌<◌, ◌==◌, Bool, true, false, ◌&&◌, Option, None, List, [], length, refl, sym, ◌∙◌, ap, subst, inl, inr, arith, eq-eqb}
 use Rattle.std.specs.Prelude.{is_some}
 use Rattle.std.proofs.lemmas.Bool.{and_from, cases_Bool, true≢false}
 use Rattle.std.proofs.lemmas.List.Elements.{Contains-get_or}
-use Rattle.monitor_laws.specs.States.{Participant, TraceState, new_participant}
+use Rattle.monitor_laws.specs.States.{TraceState, new_participant}
 use Rattle.monitor_words.specs.Reasons.{HasNoCircle}
 use Rattle.monitor_words.proofs.Circles.{chain_leads, circle_lt}
 use Rattle.monitor_reasons.specs.Found.{participant_at}
-use Rattle.monitor_reasons.specs.inside.Distances.{AreDistances, AreFilled, AreKnownDistances, AreLevelFilled, AreSearched, IsChainDistance, any_below, distance_at, is_before, is_behind, leads_at, stops_at}
-use Rattle.monitor_reasons.specs.inside.Listings.{listing}
-use Rattle.monitor_reasons.proofs.Fills.{fills_more}
-use Rattle.monitor_reasons.proofs.Levels.{any_below_from, any_below_more, before_filled, is_known, known_if_leads, level_known, or_left, or_right, part_known}
-
--- by one place more
-level_more : (old mid new : List (Option ℕ)) (f d u : ℕ) (p : ℕ → ℕ → Bool) → u < length old →
-    AreFilled old mid d (λ t. any_below (λ v. is_behind old f d v && p v t) u) → AreFilled mid new d (λ t. is_behind mid f d u && p u t) →
-    AreFilled old new d (λ t. any_below (λ v. is_behind old f d v && p v t) (u + 1))
-level_more old mid new f d u p lt before here =
-    let same : is_behind mid f d u ≡ is_behind old f d u =
-    ap (λ b. ((u == f) && (d == 0)) || b)
-    (ap (λ o. is_before o d) (before.each u lt) ∙ before_filled (distance_at old u) (any_below (λ v. is_behind old f d v && p v u) u) d) in
-    fills_more old mid new d (λ t. any_below (λ v. is_behind old f d v && p v t) u) (λ t. is_behind mid f d u && p u t)
-    (λ t. any_below (λ v. is_behind old f d v && p v t) (u + 1)) before here
-    (λ t within.
-    ap (λ b. any_below (λ v. is_behind old f d v && p v t) u || (b && p u t)) same ∙ sym (any_below_more (λ v. is_behind old f d v && p v t) u))
-
--- of the list of a state
-pub level_more_of : (s : TraceState) (stuck : ℕ → Bool) (us : List Participant) → us ≡ s.list → (old mid new : List (Option ℕ)) (f d u : ℕ) → u < length old →
-    AreFilled old mid d (λ t. any_below (λ v. is_behind old f d v && stops_at s stuck v t) u) → AreFilled mid new d (λ t. is_behind mid f d u && stops_at (listing us) stuck u t) →
-    AreFilled old new d (λ t. any_below (λ v. is_behind old f d v && stops_at s stuck v t) (u + 1))
-level_more_of s stuck us same old mid new f d u lt before here =
-    level_more old mid new f d u (λ v t. stops_at s stuck v t) lt before
-    (subst (λ (l : List Participant). AreFilled mid new d (λ t. is_behind mid f d u && stops_at (listing l) stuck u t)) same here)
+use Rattle.monitor_reasons.specs.inside.Distances.{AreDistances, AreKnownDistances, AreSearched, IsChainDistance, any_below, distance_at, is_before, is_behind, leads_at}
+use Rattle.monitor_reasons.proofs.Levels.{any_below_from, is_known, known_if_leads, or_left, or_right}
 
 module _ (s : TraceState) (stuck : ℕ → Bool) (f : ℕ) (distances : List (Option ℕ)) (listed : f < length s.list) where
   all_known : (d : ℕ) → AreDistances s stuck f d distances → AreKnownDistances s stuck f d distances
@@ -64,21 +41,5 @@ module _ (s : TraceState) (stuck : ℕ → Bool) (f : ℕ) (distances : List (Op
   searched_stop d known stops = record { bound = d; known = all_known d known; none = λ unknown. nobody_behind d known stops unknown }
 
   -- where f has a distance a circle of it is known
-  pub searched_found : (d : ℕ) (old : List (Option ℕ)) → AreDistances s stuck f d old → AreLevelFilled s stuck f d old distances → is_some (distance_at distances f) ≡ true →
-      AreSearched s stuck f distances
-  searched_found d old known level some = record {
-    bound = d;
-    known = part_known s stuck f old d level.bound distances known level.within level.fills;
-    none = λ unknown. absurd (true≢false (sym some ∙ ap is_some unknown));
-  }
-
-  none_from : (o : Option ℕ) → is_some o ≡ false → o ≡ None
-  none_from None none = refl
-  none_from (Some n) none = absurd (true≢false none)
-
-  -- and where it has none the whole level is known
-  pub level_is_known : (d : ℕ) (old : List (Option ℕ)) → AreDistances s stuck f d old → AreLevelFilled s stuck f d old distances → is_some (distance_at distances f) ≡ false →
-      AreDistances s stuck f (suc d) distances
-  level_is_known d old known level none =
-      level_known s stuck f old d distances listed known
-      (subst (λ k. AreFilled old distances d (λ t. any_below (λ u. is_behind old f d u && stops_at s stuck u t) k)) (level.whole (none_from (distance_at distances f) none)) level.fills)
+  pub searched_found : (d : ℕ) → AreDistances s stuck f d distances → is_some (distance_at distances f) ≡ true → AreSearched s stuck f distances
+  searched_found d known some = record { bound = d; known = all_known d known; none = λ unknown. absurd (true≢false (sym some ∙ ap is_some unknown)) }

@@ -8,6 +8,7 @@ ghost use Rattle.monitor_reasons.specs.inside.Listings.{listing};
 ghost use Rattle.monitor_reasons.specs.inside.Distances.{AreSearched, IsFoundCircle, IsFirstNext, IsCircleWalk, distance_at, is_distance, is_next};
 
 use crate::distances::distances_to;
+use crate::phaser_places::phaser_places;
 use crate::stopping::stops;
 use armus_base::NoMemory;
 use monitor_search::StuckTasks;
@@ -104,7 +105,8 @@ pub(crate) fn circle_of(
     requires { task < length state.now.list }
     ensures { IfOk result (IsFoundCircle state.now (has_stuck_number stuck.now) task) }
 {
-    let distances = distances_to(alloc, state, stuck, task)?;
+    let places = phaser_places(alloc, state.participants())?;
+    let distances = distances_to(alloc, state, &places, stuck, task)?;
     match distances[task] {
         None => Ok(None),
         Some(distance) => {

@@ -7,6 +7,8 @@
 mod circles;
 mod distances;
 mod found_reason;
+mod phaser_places;
+mod reaching;
 mod reasons;
 mod sentences;
 mod stopping;

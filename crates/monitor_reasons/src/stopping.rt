@@ -1,5 +1,5 @@
 // Who stops whom.
-ghost use Rattle.std.specs.Prelude.{◌≡◌, ◌&&◌, ◌==◌};
+ghost use Rattle.std.specs.Prelude.{◌≡◌, ◌&&◌, ◌==◌, Contains};
 ghost use Rattle.std.specs.List.{list_any};
 ghost use Rattle.monitor_laws.specs.Stuck.{has_phase_below};
 ghost use Rattle.monitor_words.specs.Stops.{impedes_wait, keeps_waiting, lone_task, stands_for, stops, waited_for};
@@ -47,17 +47,24 @@ fn is_one_name(names: &[u8]) -> bool
     !names.contains(&b' ')
 }
 
+/// The number of the task of a wildcard in this condition whose last line has one name; none of any other.
+pub(crate) fn lone_task(condition: &ListedCondition) -> &[u64]
+    ensures { result.now ≡ lone_task (condition_value condition.now) }
+{
+    match condition {
+        ListedCondition::OneOf(names, tasks) => { if is_one_name(names) { tasks } else { &[] } }
+        ListedCondition::Running => &[],
+        ListedCondition::Waiting(_, _) => &[],
+        ListedCondition::Ended => &[],
+        ListedCondition::AnyTask => &[],
+    }
+}
+
 // Whether the task with this number is the task of a wildcard in this condition, whose last line has one name.
 fn is_lone_task(condition: &ListedCondition, number: u64) -> bool
     ensures { result ≡ list_any (λ k. k == number) (lone_task (condition_value condition.now)) }
 {
-    match condition {
-        ListedCondition::OneOf(names, tasks) => is_one_name(names) && tasks.contains(&number),
-        ListedCondition::Running => false,
-        ListedCondition::Waiting(_, _) => false,
-        ListedCondition::Ended => false,
-        ListedCondition::AnyTask => false,
-    }
+    lone_task(condition).contains(&number)
 }
 
 /// Whether w is u, or a wildcard whose task u is.
@@ -74,20 +81,22 @@ fn keeps_for(w: &ListedParticipant, u: &ListedParticipant, t: &ListedParticipant
     stands_for(w, u) && keeps_waiting(w, t)
 }
 
-// Whether somebody of the list who stands for u keeps t waiting.
+// Whether somebody of the list who stands for u of it keeps t waiting; mostly u itself does.
 fn is_kept_for(list: &[ListedParticipant], u: &ListedParticipant, t: &ListedParticipant) -> bool
+    requires { Contains list.now u.now }
     ensures { result ≡ list_any (λ w. stands_for w u.now && keeps_waiting w t.now) list.now }
 {
-    list.iter().any(|w| keeps_for(w, u, t))
+    keeps_waiting(u, t) || list.iter().any(|w| keeps_for(w, u, t))
 }
 
-/// Whether task u stops t: it is stuck, and somebody of the list who stands for it keeps t waiting.
+/// Whether task u of the list stops t: it is stuck, and somebody of the list who stands for it keeps t waiting.
 pub(crate) fn stops(
     list: &[ListedParticipant],
     stuck: &StuckTasks,
     u: &ListedParticipant,
     t: &ListedParticipant,
 ) -> bool
+    requires { Contains list.now u.now }
     ensures { result ≡ stops (listing list.now) (has_stuck_number stuck.now) u.now t.now }
 {
     stuck.has_number(u.number()) && is_kept_for(list, u, t)

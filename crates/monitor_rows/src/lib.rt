@@ -7,6 +7,7 @@ mod conditions;
 mod counts;
 mod keepers;
 mod known_names;
+mod least_phases;
 mod listing;
 mod names;
 mod places;

@@ -12,9 +12,9 @@ ghost use Rattle.monitor_rows.specs.inside.Lent.{lent_ones};
 ghost use Rattle.monitor_rows.specs.inside.Turns.{turn_groups, turns_leave};
 
 use crate::keepers::{ShownKeepers, shown_keepers};
+use crate::least_phases::{is_kept_by_least, least_awaited_in};
 use crate::names::{add_name, count_left, no_names, own_name};
 use crate::places::own_place;
-use crate::standing::is_kept_in;
 use crate::waits::{wait_alike, waited_event};
 use armus_base::{List, NoMemory};
 use monitor_search::StuckTasks;
@@ -220,9 +220,10 @@ pub fn wait_rows_of(
 fn kept_waiting(alloc: Global, state: &MonitorState) -> Result<Vec<&ListedParticipant>, NoMemory>
     ensures { IfOk result (λ tasks. lent_ones tasks.items ≡ filter (is_kept_waiting state.now) state.now.list) }
 {
+    let least = least_awaited_in(alloc, state)?;
     let mut tasks = Vec::new(alloc);
     for t in state.participants() {
-        if is_kept_in(state, t) {
+        if is_kept_by_least(state, &least, t) {
             tasks.push(t)?;
         }
     }

@@ -1,15 +1,18 @@
 // How a waiting task stands.
-ghost use Rattle.std.specs.Prelude.{◌≡◌};
+ghost use Rattle.std.specs.Prelude.{◌≡◌, Contains};
 ghost use Rattle.std.specs.List.{list_any};
 ghost use Rattle.monitor_laws.specs.Stuck.{has_phase_below};
 ghost use Rattle.monitor_words.specs.Messages.{is_kept_waiting};
 ghost use Rattle.monitor_words.specs.Stops.{keeps_waiting};
 ghost use Rattle.monitor_words.specs.calls.Values.{wait_standing};
 ghost use Rattle.monitor_search.specs.Known.{has_stuck_number};
+ghost use Rattle.monitor_rows.specs.inside.LeastPhases.{AreLeastAwaited};
 
+use crate::least_phases::is_kept_by_least;
 use monitor_search::StuckTasks;
 use monitor_state::{ListedCondition, ListedParticipant, MonitorState};
 use monitor_words::WaitStanding;
+use std::collections::HashMap;
 
 // Whether it is a member of phaser p with a phase below n.
 fn has_phase_below(u: &ListedParticipant, p: &[u8], n: u32) -> bool
@@ -35,11 +38,11 @@ pub(crate) fn keeps_waiting(u: &ListedParticipant, t: &ListedParticipant) -> boo
 fn is_kept_by(list: &[ListedParticipant], t: &ListedParticipant) -> bool
     ensures { result ≡ list_any (λ u. keeps_waiting u t.now) list.now }
 {
-    list.iter().any(|u| keeps_waiting(u, t))
+    t.condition().waits() && list.iter().any(|u| keeps_waiting(u, t))
 }
 
-/// Whether somebody of the state keeps t waiting.
-pub(crate) fn is_kept_in(state: &MonitorState, t: &ListedParticipant) -> bool
+// Whether somebody of the state keeps t waiting.
+fn is_kept_in(state: &MonitorState, t: &ListedParticipant) -> bool
     ensures { result ≡ is_kept_waiting state.now t.now }
 {
     is_kept_by(state.participants(), t)
@@ -56,14 +59,17 @@ pub fn is_anybody_kept_waiting(state: &MonitorState) -> bool
 pub(crate) fn standing_in(
     state: &MonitorState,
     stuck: &StuckTasks,
+    least: &HashMap<&[u8], u32>,
     t: &ListedParticipant,
 ) -> WaitStanding
+    requires least { AreLeastAwaited state.now.list least.now }
+    requires listed { Contains state.now.list t.now }
     ensures { result ≡ wait_standing state.now (has_stuck_number stuck.now) t.now }
 {
     if stuck.has_number(t.number()) {
         return WaitStanding::Stuck;
     }
-    if is_kept_in(state, t) {
+    if is_kept_by_least(state, least, t) {
         return WaitStanding::Held;
     }
     WaitStanding::Free

@@ -85,13 +85,6 @@ IsCircleWalk s stuck distances zero t (u ∷ us) = ⊥
 IsCircleWalk s stuck distances (suc n) t [] = ⊥
 IsCircleWalk s stuck distances (suc n) t (u ∷ us) = IsFirstNext s stuck distances n t u × IsCircleWalk s stuck distances n u us
 
--- the distance d for those whom places behind the level stop: all such places, or some of them where f has a distance then
-pub record AreLevelFilled (s : TraceState) (stuck : ℕ → Bool) (f d : ℕ) (old new : List (Option ℕ)) : Type 0 where
-  pub bound : ℕ
-  pub within : bound ≤ length s.list
-  pub fills : AreFilled old new d (λ t. any_below (λ u. is_behind old f d u && stops_at s stuck u t) bound)
-  pub whole : distance_at new f ≡ None → bound ≡ length s.list
-
 -- distances are known as far as a circle of f needs them
 pub record AreSearched (s : TraceState) (stuck : ℕ → Bool) (f : ℕ) (distances : List (Option ℕ)) : Type 0 where
   pub bound : ℕ

@@ -1,47 +1,72 @@
-use Rattle.std.proofs.Common.{◌≡◌, ◌+◌, ℕ, Option, List, length, drop, take, ◌++◌, sym, ◌∙◌, ap, subst, arith, add-one}
-use Rattle.std.proofs.lemmas.List.{take_at}
+use Rattle.std.proofs.Common.{rules, ◌≡◌, ◌<◌, ◌==◌, ℕ, suc, List, Option, length, sym, ◌∙◌, ap, subst, arith, add-one}
+use Rattle.std.specs.Prelude.{All}
+use Rattle.std.specs.Global.{Vec}
+use Rattle.monitor_laws.specs.States.{Participant}
+use Rattle.monitor_state.specs.NumberedLists.{AreAscending}
 use Rattle.monitor_search.specs.Known.{has_stuck_number}
-use Rattle.monitor_reasons.specs.inside.Distances.{AreDistances, AreLevelFilled, AreSearched, any_below, is_behind}
-use Rattle.monitor_reasons.proofs.Searched.{level_is_known, searched_all, searched_found, searched_stop}
+use Rattle.monitor_reasons.specs.inside.Distances.{AreSearched}
+use Rattle.monitor_reasons.specs.inside.PhaserPlaces.{ArePlacesOf}
+use Rattle.monitor_reasons.specs.inside.Reaching.{ArePassed}
+use Rattle.monitor_reasons.proofs.AtLevels.{IsAtLevel, all_levels, all_within, begun_at, empty_is, level_found, next_level, nobody_left}
 use Rattle.monitor_reasons.proofs.distances.distances_to.Goals as goal
 
-pub returns-then-not-is_any_behind : goal.returns-then-not-is_any_behind
-returns-then-not-is_any_behind c =
-    searched_stop c.args.state.now (has_stuck_number c.args.stuck.now) c.args.task c.loop-d.distances.items c.requires c.loop-d.d c.loop-d.invariant
-    (ap (λ (l : List (Option ℕ)). any_below (λ u. is_behind l c.args.task c.loop-d.d u) (length l)) (sym c.deref.ensures.value)
-    ∙ sym c.is_any_behind.ensures ∙ c.if-not-is_any_behind.true)
+pub loop-d-init : goal.loop-d-init
+loop-d-init c =
+    begun_at c.args.state.now (has_stuck_number c.args.stuck.now) c.args.task _ _ _ c.requires.place (ap length c.participants-list.ensures.list)
+    c.in_ok-search.ensures.distances c.in_ok-search.ensures.fresh c.in_ok-search.ensures.passed (search rules)
 
-pub returns-then-fill_level : goal.returns-then-fill_level
-returns-then-fill_level c =
-    let s = c.args.state.now in
-    let stuck = has_stuck_number c.args.stuck.now in
-    let old = c.loop-d.distances.items in
-    let new = c.fill_level.new.distances in
-    let level =
-    subst (λ (l : List (Option ℕ)). AreLevelFilled s stuck c.args.task c.loop-d.d l new) c.deref_mut.ensures.value c.fill_level.ensures.filled in
-    let is : take c.loop-d.distances.len (new ++ drop (length new) old) ≡ new =
-    take_at new (drop (length new) old) c.loop-d.distances.len (omega (arith, level.fills.long, c.deref_mut.ensures.len)) in
-    subst (λ (l : List (Option ℕ)). AreSearched s stuck c.args.task l) (sym is)
-    (searched_found s stuck c.args.task new c.requires c.loop-d.d old c.loop-d.invariant level (sym c.fill_level.ensures.known ∙ c.if-fill_level.true))
+pub reach_level-requires-clause-long : goal.reach_level-requires-clause-long
+reach_level-requires-clause-long c = c.loop-d.invariant.known.long ∙ ap length (sym c.participants-list.ensures.list)
+
+pub reach_level-requires-clause-behind : goal.reach_level-requires-clause-behind
+reach_level-requires-clause-behind c =
+    subst (λ (l : List Participant). All (λ u. u < length l) c.deref.result.now) (sym c.participants-list.ensures.list)
+    (subst (λ (l : List ℕ). All (λ u. u < length c.args.state.now.list) l) (sym c.deref.ensures.value) (all_within (length c.args.state.now.list) c.loop-d.behind.items (λ u within. (c.loop-d.invariant.are u within).0)))
+
+pub reach_level-requires-clause-ascending : goal.reach_level-requires-clause-ascending
+reach_level-requires-clause-ascending c = subst AreAscending (sym c.participants-list.ensures.list) c.participants-list.ensures.ascending
+
+pub reach_level-requires-clause-places : goal.reach_level-requires-clause-places
+reach_level-requires-clause-places c = subst (λ (l : List Participant). ArePlacesOf l c.args.places.now) (sym c.participants-list.ensures.list) c.requires.places
+
+pub reach_level-requires-clause-passed : goal.reach_level-requires-clause-passed
+reach_level-requires-clause-passed c = subst (λ (l : List Participant). ArePassed l c.loop-d.search) (sym c.participants-list.ensures.list) c.loop-d.invariant.passed
 
 pub loop-d-preserved : goal.loop-d-preserved
 loop-d-preserved c =
     let s = c.args.state.now in
     let stuck = has_stuck_number c.args.stuck.now in
-    let old = c.loop-d.distances.items in
-    let new = c.fill_level.new.distances in
-    let level =
-    subst (λ (l : List (Option ℕ)). AreLevelFilled s stuck c.args.task c.loop-d.d l new) c.deref_mut.ensures.value c.fill_level.ensures.filled in
-    let is : take c.loop-d.distances.len (new ++ drop (length new) old) ≡ new =
-    take_at new (drop (length new) old) c.loop-d.distances.len (omega (arith, level.fills.long, c.deref_mut.ensures.len)) in
-    subst (λ (l : List (Option ℕ)). AreDistances s stuck c.args.task (c.loop-d.d + 1) l) (sym is)
-    (subst (λ k. AreDistances s stuck c.args.task k new) (sym (add-one c.loop-d.d))
-    (level_is_known s stuck c.args.task new c.requires c.loop-d.d old c.loop-d.invariant level (sym c.fill_level.ensures.known ∙ c.if-fill_level.false)))
+    let now = c.in_ok-reach_level.ensures in
+    let next =
+    next_level s stuck c.args.task c.loop-d.d c.participants-list.result.now c.participants-list.ensures.list c.loop-d.search c.reach_level.new.search _ c.loop-d.behind.items c.deref.ensures.value
+    c.loop-d.invariant c.requires.place now.fills now.reached c.take_fresh-behind.new.search c.take_fresh-behind.ensures.distances c.take_fresh-behind.ensures.passed c.take_fresh-behind.ensures.left now.passed in
+    subst (λ k. IsAtLevel s stuck c.args.task k c.take_fresh-behind.new.search c.take_fresh-behind.result.items) (sym (add-one c.loop-d.d))
+    (subst (λ (v : Vec ℕ). IsAtLevel s stuck c.args.task (suc c.loop-d.d) c.take_fresh-behind.new.search v.items) (sym c.take_fresh-behind.ensures.fresh) next)
+
+pub returns-then-is_empty : goal.returns-then-is_empty
+returns-then-is_empty c =
+    let s = c.args.state.now in
+    let stuck = has_stuck_number c.args.stuck.now in
+    subst (λ (v : Vec (Option ℕ)). AreSearched s stuck c.args.task v.items) (sym c.found_distances.ensures)
+    (nobody_left s stuck c.args.task c.loop-d.d c.loop-d.search c.loop-d.behind.items c.loop-d.invariant c.requires.place
+    (empty_is c.loop-d.behind.items (sym (c.is_empty.ensures ∙ ap (λ (l : List ℕ). length l == 0) c.as_slice.ensures.value) ∙ c.if-is_empty.true)))
+
+pub returns-then-has_distance : goal.returns-then-has_distance
+returns-then-has_distance c =
+    let s = c.args.state.now in
+    let stuck = has_stuck_number c.args.stuck.now in
+    let now = c.in_ok-reach_level.ensures in
+    subst (λ (v : Vec (Option ℕ)). AreSearched s stuck c.args.task v.items) (sym c.found_distances-then-has_distance.ensures)
+    (level_found s stuck c.args.task c.loop-d.d c.participants-list.result.now c.participants-list.ensures.list c.loop-d.search c.reach_level.new.search c.deref.result.now c.loop-d.behind.items c.deref.ensures.value
+    c.loop-d.invariant c.requires.place now.fills now.reached (sym c.has_distance.ensures ∙ c.if-has_distance.true))
 
 pub returns : goal.returns
 returns c =
     let s = c.args.state.now in
     let stuck = has_stuck_number c.args.stuck.now in
-    let all : c.loop-d.d ≡ length s.list = omega (arith, ap length c.participants-count.ensures.list) in
-    searched_all s stuck c.args.task c.loop-d.distances.items c.requires
-    (subst (λ k. AreDistances s stuck c.args.task k c.loop-d.distances.items) all c.loop-d.invariant)
+    let all : c.loop-d.d ≡ length s.list = omega (arith, ap length c.participants-list.ensures.list) in
+    subst (λ (v : Vec (Option ℕ)). AreSearched s stuck c.args.task v.items) (sym c.found_distances-2.ensures)
+    (all_levels s stuck c.args.task c.loop-d.d c.loop-d.search c.loop-d.behind.items c.loop-d.invariant c.requires.place all)
+
+pub has_distance-requires : goal.has_distance-requires
+has_distance-requires c = omega (arith, c.in_ok-reach_level.ensures.fills.long, c.loop-d.invariant.known.long, c.requires.place)
