@@ -76,6 +76,7 @@ final class Answers implements Runnable {
             recorder.off("no answer comes any more");
         } finally {
             waiting.remove(task);
+            hasRead();                                            // it may have been the one that was woken to read
         }
         if (interrupted) {
             Thread.currentThread().interrupt();

@@ -4,14 +4,6 @@ import java.io.FileDescriptor;
 import java.io.FileOutputStream;
 import java.io.IOException;
 import java.nio.charset.StandardCharsets;
-import java.util.ArrayList;
-import java.util.HashMap;
-import java.util.HashSet;
-import java.util.Iterator;
-import java.util.LinkedHashSet;
-import java.util.List;
-import java.util.Map;
-import java.util.Set;
 import java.util.concurrent.FutureTask;
 
 /** What the monitor has to know. Before a wait without a time limit its thread tells what has changed, and asks. Each object that is waited for is looked at then: a lock
@@ -20,8 +12,7 @@ import java.util.concurrent.FutureTask;
 final class Recorder {
     /** Nothing where there is no recorder, or it is off: then everybody may wait. */
     static volatile Recorder on;
-    private static final long LONGEST = 2000;    // so many milliseconds may pass until an answer comes
-    private static final int MOST_LOOKS = 50;    // so often is looked anew where somebody went on meanwhile
+    private static final long LONGEST = 5000;    // so many milliseconds may pass until an answer comes
     private static final int MOST_OPEN = 100;    // so many answers may be on their way before one who need not wait for his does
 
     private final Lines lines;
@@ -29,18 +20,17 @@ final class Recorder {
     private final Tasks tasks;
     private final Answers answers;
     private final Identities<Awaited> objects = new Identities<>();
-    private final List<Wait> waits = new ArrayList<>();
-    private final Set<Awaited> awaited = new LinkedHashSet<>();
-    private final Map<String, Integer> counts = new HashMap<>();
-    private final Set<String> used = new HashSet<>();
+    private final Waits waits;
+    private final Names names;
     private volatile boolean hasMeetings;
-    private volatile int fence;
 
     Recorder(Lines lines, Inside inside) throws IOException {
         this.lines = lines;
         this.inside = inside;
         tasks = new Tasks(lines, inside);
         answers = new Answers(this);
+        waits = new Waits(this, inside);
+        names = new Names(lines.process);
     }
 
     void begin() {
@@ -62,19 +52,7 @@ final class Recorder {
     }
 
     Part part(Task by) {
-        return new Part(lines.process + "/?part-" + counts.merge("part", 1, Integer::sum), by);
-    }
-
-    /** A name that no other object has as long as this one is there: end-of-NAME of a thread, and KIND-1, KIND-2 of others. */
-    private String named(String kind) {
-        String base = Tasks.named(kind);
-        boolean isThread = base.startsWith("end-of-");
-        int number = isThread ? 1 : counts.merge(base, 1, Integer::sum);
-        String name = isThread ? base : base + "-" + number;
-        while (!used.add(name)) {
-            name = base + "-" + ++number;
-        }
-        return lines.process + "/" + name;
+        return new Part(names.ofPart(), by);
     }
 
     /** A word of the recorder itself, which passes by what the program made of its own standard error. */
@@ -103,7 +81,7 @@ final class Recorder {
     synchronized void member(Thread thread, Object object) {
         Awaited known = objects.get(object);
         if (known == null) {
-            known = Meetings.of(object, named(Meetings.kind(object)), inside);
+            known = Meetings.of(object, names.of(Meetings.kind(object)), inside);
             objects.put(object, known);
         }
         if (known instanceof Meeting) {
@@ -187,7 +165,7 @@ final class Recorder {
         synchronized (this) {
             Awaited known = objects.get(object);
             if (known == null) {
-                known = Owners.of(object, named(Owners.kind(object)), inside);
+                known = Owners.of(object, names.of(Owners.kind(object)), inside);
                 objects.put(object, known);
             }
             wait = announce(known, object, mayBeInterrupted);
@@ -208,13 +186,11 @@ final class Recorder {
 
     private Wait announce(Awaited of, Object object, boolean mayBeInterrupted) {
         Task task = running();
-        of.comes();
-        awaited.add(of);
-        catchUp();
+        waits.expect(of);
+        waits.catchUp();
         lines.say(task.name + " wait " + of.name + " " + (of.turn() + 1) + " @" + Places.here());
         Wait wait = new Wait(task, of, object, mayBeInterrupted);
         tasks.asks();
-        task.wait = wait;
         waits.add(wait);
         handOver();
         return wait;
@@ -233,7 +209,7 @@ final class Recorder {
         if (sentence != null) {
             wait.refuse(sentence);
             synchronized (this) {
-                forget(wait);
+                waits.forget(wait);
                 handOver();
             }
         } else {
@@ -250,72 +226,7 @@ final class Recorder {
         }
     }
 
-    // ---- what the monitor knows
-
-    /** First who went on, then who did his part, then who has still to act, and then who had ended at the beginning of all this. */
-    private void catchUp() {
-        List<Task> dead = tasks.dead();
-        int looks = 0;
-        while (!isStill() && looks < MOST_LOOKS) {
-            looks++;
-        }
-        for (Awaited one : awaited) {
-            if (looks == MOST_LOOKS) {
-                one.lookAway();
-            }
-            one.settle(this);
-        }
-        for (Awaited one : awaited) {
-            one.keep(this);
-        }
-        tasks.end(dead);
-    }
-
-    /** Looks at all that is waited for. True where all who are said to wait have stood in their waits while it looked: so whatever one of them had then, it had all the time. */
-    private boolean isStill() {
-        goOn();
-        for (Awaited one : awaited) {
-            one.look();
-        }
-        fence++;                                                  // what is read behind this is not older than what was read before
-        boolean isStill = true;
-        for (Wait wait : waits) {
-            if (wait.awaited.isTakenBy(wait.task)) {
-                wait.over();
-            }
-            if (wait.task.isInterrupted(inside)) {
-                wait.interrupt();
-            }
-            isStill &= !wait.isOver();
-        }
-        return isStill;
-    }
-
-    private void goOn() {
-        for (Iterator<Wait> all = waits.iterator(); all.hasNext();) {
-            Wait wait = all.next();
-            if (wait.isOver() && wait.isGranted()) {
-                all.remove();
-                lines.say(wait.task.name + " go");
-                unlist(wait);
-            }
-        }
-    }
-
-    private void unlist(Wait wait) {
-        if (wait.task.wait == wait) {
-            wait.task.wait = null;
-        }
-        if (wait.awaited.goes()) {
-            awaited.remove(wait.awaited);
-            wait.awaited.release(this);
-        }
-    }
-
-    private void forget(Wait refused) {
-        waits.remove(refused);
-        unlist(refused);
-    }
+    // ---- lines
 
     private void handOver() {
         try {
@@ -327,9 +238,9 @@ final class Recorder {
 
     /** From time to time: what changed since anybody asked, and what is not needed any more. */
     synchronized void look() {
-        catchUp();
+        waits.catchUp();
         for (Awaited gone : objects.collected()) {
-            used.remove(gone.name.substring(lines.process.length() + 1));
+            names.free(gone.name);
             if (gone instanceof Meeting) {
                 ((Meeting) gone).end(this);
             }
