@@ -13,14 +13,14 @@ use Rattle.monitor_state.proofs.OnePassing.{first_place}
 use Rattle.monitor_reasons.specs.declared.reaching.DistanceSearch.{DistanceSearch}
 use Rattle.monitor_reasons.specs.inside.Distances.{AreDistances, AreSearched, IsChainDistance, any_below, distance_at, filled, is_before, is_behind, stops_at}
 use Rattle.monitor_reasons.specs.inside.Listings.{listing}
-use Rattle.monitor_reasons.specs.inside.Reaching.{ArePassed, IsFilling, IsReached, passed_on}
+use Rattle.monitor_reasons.specs.inside.Reaching.{HavePassedDistances, IsFilling, HasDistance, passed_on}
 use Rattle.monitor_reasons.proofs.Levels.{any_below_from, any_below_is, before_from, before_is, before_zero, level_known, or_left, or_right}
 use Rattle.monitor_reasons.proofs.Searched.{searched_all, searched_found, searched_stop}
 
 -- distances below d are known, and these are all whose distance is the one before d; none is fresh
 pub record IsAtLevel (s : TraceState) (stuck : ℕ → Bool) (f d : ℕ) (search : DistanceSearch) (behind : List ℕ) : Type 0 where
   pub known : AreDistances s stuck f d search.distances.items
-  pub passed : ArePassed s.list search
+  pub passed : HavePassedDistances s.list search
   pub all : (u : ℕ) → u < length s.list → is_behind search.distances.items f d u ≡ true → Contains behind u
   pub are : (u : ℕ) → Contains behind u → (u < length s.list) × (is_behind search.distances.items f d u ≡ true)
   pub none_fresh : search.fresh.items ≡ []
@@ -59,7 +59,7 @@ begun_at s stuck f count search behind listed many distances fresh passed is = r
 
 module _ (s : TraceState) (stuck : ℕ → Bool) (f d : ℕ) (old new : DistanceSearch) (behind : List ℕ) (at : IsAtLevel s stuck f d old behind) (listed : f < length s.list)
     (fills : IsFilling old new d (λ t. list_any (λ u. stops_at s stuck u t) behind))
-    (reached : (t u : ℕ) → t < length s.list → Contains behind u → stops_at s stuck u t ≡ true → IsReached new t) where
+    (reached : (t u : ℕ) → t < length s.list → Contains behind u → stops_at s stuck u t ≡ true → HasDistance new t) where
   abbrev level : ℕ → Bool
   level t = any_below (λ u. is_behind old.distances.items f d u && stops_at s stuck u t) (length s.list)
 
@@ -71,7 +71,7 @@ module _ (s : TraceState) (stuck : ℕ → Bool) (f d : ℕ) (old new : Distance
       any_below_from (λ u. is_behind old.distances.items f d u && stops_at s stuck u t) (length s.list) u is.0
       (and_from (is_behind old.distances.items f d u) (stops_at s stuck u t) is.1 (m.1.here 0))
 
-  from_level : (t : ℕ) → t < length s.list → level t ≡ true → IsReached new t
+  from_level : (t : ℕ) → t < length s.list → level t ≡ true → HasDistance new t
   from_level t within some =
       let m = any_below_is (λ u. is_behind old.distances.items f d u && stops_at s stuck u t) (length s.list) some in
       let parts = and_parts (is_behind old.distances.items f d m.0) (stops_at s stuck m.0 t) m.2 in
@@ -103,7 +103,7 @@ module _ (s : TraceState) (stuck : ℕ → Bool) (f d : ℕ) (old new : Distance
   has_none t within is = let far = subst (λ o. IsChainDistance s stuck f d t o) is (at.known.each t within) in let lt = far.0 in omega arith
 
   -- and those that are fresh are the next to go from
-  pub now_at : (next : DistanceSearch) → next.distances ≡ new.distances → next.passed ≡ new.passed → next.fresh.items ≡ [] → ArePassed s.list new → IsAtLevel s stuck f (suc d) next new.fresh.items
+  pub now_at : (next : DistanceSearch) → next.distances ≡ new.distances → next.passed ≡ new.passed → next.fresh.items ≡ [] → HavePassedDistances s.list new → IsAtLevel s stuck f (suc d) next new.fresh.items
   now_at next distances passed fresh are_passed = record {
     known = subst (λ v. AreDistances s stuck f (suc d) v.items) (sym distances) now_known;
     passed = λ t q n within waits below none.
@@ -143,20 +143,20 @@ nobody_left s stuck f d search behind at listed none =
 -- from a list that is that of the state, and places that are those to go from
 module _ (s : TraceState) (stuck : ℕ → Bool) (f d : ℕ) (us : List Participant) (same : us ≡ s.list) (old new : DistanceSearch) (b behind : List ℕ) (is : b ≡ behind)
     (at : IsAtLevel s stuck f d old behind) (listed : f < length s.list) (fills : IsFilling old new d (λ t. list_any (λ u. stops_at (listing us) stuck u t) b))
-    (reached : (t u : ℕ) → t < length us → Contains b u → stops_at (listing us) stuck u t ≡ true → IsReached new t) where
+    (reached : (t u : ℕ) → t < length us → Contains b u → stops_at (listing us) stuck u t ≡ true → HasDistance new t) where
   fills_so : IsFilling old new d (λ t. list_any (λ u. stops_at s stuck u t) behind)
   fills_so =
       subst (λ (l : List Participant). IsFilling old new d (λ t. list_any (λ u. stops_at (listing l) stuck u t) behind)) same
       (subst (λ (x : List ℕ). IsFilling old new d (λ t. list_any (λ u. stops_at (listing us) stuck u t) x)) is fills)
 
-  reached_so : (t u : ℕ) → t < length s.list → Contains behind u → stops_at s stuck u t ≡ true → IsReached new t
+  reached_so : (t u : ℕ) → t < length s.list → Contains behind u → stops_at s stuck u t ≡ true → HasDistance new t
   reached_so =
-      subst (λ (l : List Participant). (t u : ℕ) → t < length l → Contains behind u → stops_at (listing l) stuck u t ≡ true → IsReached new t) same
-      (subst (λ (x : List ℕ). (t u : ℕ) → t < length us → Contains x u → stops_at (listing us) stuck u t ≡ true → IsReached new t) is reached)
+      subst (λ (l : List Participant). (t u : ℕ) → t < length l → Contains behind u → stops_at (listing l) stuck u t ≡ true → HasDistance new t) same
+      (subst (λ (x : List ℕ). (t u : ℕ) → t < length us → Contains x u → stops_at (listing us) stuck u t ≡ true → HasDistance new t) is reached)
 
-  pub next_level : (next : DistanceSearch) → next.distances ≡ new.distances → next.passed ≡ new.passed → next.fresh.items ≡ [] → ArePassed us new → IsAtLevel s stuck f (suc d) next new.fresh.items
+  pub next_level : (next : DistanceSearch) → next.distances ≡ new.distances → next.passed ≡ new.passed → next.fresh.items ≡ [] → HavePassedDistances us new → IsAtLevel s stuck f (suc d) next new.fresh.items
   next_level next distances passed fresh are_passed =
-      now_at s stuck f d old new behind at listed fills_so reached_so next distances passed fresh (subst (λ (l : List Participant). ArePassed l new) same are_passed)
+      now_at s stuck f d old new behind at listed fills_so reached_so next distances passed fresh (subst (λ (l : List Participant). HavePassedDistances l new) same are_passed)
 
   pub level_found : is_some (distance_at new.distances.items f) ≡ true → AreSearched s stuck f new.distances.items
   level_found some = searched_found s stuck f new.distances.items listed (suc d) (now_known s stuck f d old new behind at listed fills_so reached_so) some

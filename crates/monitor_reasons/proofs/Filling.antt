@@ -3,7 +3,7 @@ use Rattle.std.proofs.Common.{◌≡◌, ℕ, ◌<◌, Bool, true, Some, None, O
 use Rattle.std.specs.Prelude.{Contains}
 use Rattle.monitor_reasons.specs.declared.reaching.DistanceSearch.{DistanceSearch}
 use Rattle.monitor_reasons.specs.inside.Distances.{distance_at}
-use Rattle.monitor_reasons.specs.inside.Reaching.{IsFilling, IsReached}
+use Rattle.monitor_reasons.specs.inside.Reaching.{IsFilling, HasDistance}
 
 pub some_known : (o : Option ℕ) (d : ℕ) → o ≡ Some d → o ≡ None → ⊥
 some_known o d some none = let e : Some d ≡ None = sym some ∙ none in cc
@@ -67,7 +67,7 @@ fills_more a b d p q more fills = record {
 }
 
 -- who has a distance keeps it
-pub reached_then : (a b : DistanceSearch) (d : ℕ) (p : ℕ → Bool) (t : ℕ) → IsFilling a b d p → IsReached a t → IsReached b t
+pub reached_then : (a b : DistanceSearch) (d : ℕ) (p : ℕ → Bool) (t : ℕ) → IsFilling a b d p → HasDistance a t → HasDistance b t
 reached_then a b d p t fills reached none = elim (fills.each t) [
   | inl same ↦ reached (sym same ∙ none)
   | inr now ↦ some_known (distance_at b.distances.items t) d now.1 none

@@ -18,7 +18,7 @@ use Rattle.monitor_laws.specs.States.{new_participant}
 use Rattle.monitor_reasons.specs.Found.{participant_at}
 use Rattle.monitor_reasons.specs.declared.reaching.DistanceSearch.{DistanceSearch}
 use Rattle.monitor_reasons.specs.inside.Distances.{distance_at}
-use Rattle.monitor_reasons.specs.inside.Reaching.{ArePassed, IsFilling, IsReached, passed_on}
+use Rattle.monitor_reasons.specs.inside.Reaching.{HavePassedDistances, IsFilling, HasDistance, passed_on}
 use Rattle.monitor_reasons.proofs.FirstWalks.{ascend_at}
 use Rattle.monitor_reasons.proofs.Filling.{fills_more, fills_then, reached_then}
 use Rattle.monitor_reasons.proofs.Levels.{or_left}
@@ -74,9 +74,9 @@ module _ (old new : DistanceSearch) (d place : ℕ) (p : ℕ → Bool) (within :
   }
 
 -- all who wait at a phaser for a phase above m have a distance
-pub passed_more : (us : List Participant) (mid new : DistanceSearch) (w : Participant) (p : List ℕ) (m : ℕ) → ArePassed us mid → new.distances ≡ mid.distances →
+pub passed_more : (us : List Participant) (mid new : DistanceSearch) (w : Participant) (p : List ℕ) (m : ℕ) → HavePassedDistances us mid → new.distances ≡ mid.distances →
     ((q : List ℕ) → passed_on new q ≡ (if bytes_eq p q then Some m else passed_on mid q)) → phase_on w p ≡ Some m →
-    ((t n : ℕ) → t < length us → (participant_at us t).condition ≡ Waiting p n → has_phase_below w p n ≡ true → IsReached mid t) → ArePassed us new
+    ((t n : ℕ) → t < length us → (participant_at us t).condition ≡ Waiting p n → has_phase_below w p n ≡ true → HasDistance mid t) → HavePassedDistances us new
 passed_more us mid new w p m before same notes phase reached t q n within waits below none =
     elim (cases_Bool (bytes_eq p q)) [
       | inl on ↦
@@ -135,10 +135,10 @@ module _ (us : List Participant) (place : ℕ) (listed : place < length us) (a b
       other
 
   pub reached_both : AreAscending us → IsFilling b c d kept_for →
-      ((t : ℕ) → t < length us → keeps_waiting (participant_at us place) (participant_at us t) ≡ true → IsReached b t) →
+      ((t : ℕ) → t < length us → keeps_waiting (participant_at us place) (participant_at us t) ≡ true → HasDistance b t) →
       ((t i : ℕ) → t < length us → i < length us → list_any (λ k. k == (participant_at us place).number) (lone_task (participant_at us i).condition) ≡ true →
-      keeps_waiting (participant_at us i) (participant_at us t) ≡ true → IsReached c t) →
-      (t : ℕ) → t < length us → kept_for t ≡ true → IsReached c t
+      keeps_waiting (participant_at us i) (participant_at us t) ≡ true → HasDistance c t) →
+      (t : ℕ) → t < length us → kept_for t ≡ true → HasDistance c t
   reached_both up fills own played t within some =
       let m = some_keeper us (participant_at us place) (participant_at us t) some in
       elim (stands_there us up m.0 place m.1 listed m.2) [

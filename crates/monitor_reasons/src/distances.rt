@@ -2,7 +2,7 @@
 ghost use Rattle.std.specs.Prelude.{◌≡◌, ◌<◌, [], ℕ, List, None, IfOk, is_some, length, replicate};
 ghost use Rattle.monitor_search.specs.Known.{has_stuck_number};
 ghost use Rattle.monitor_reasons.specs.inside.Distances.{AreSearched, distance_at};
-ghost use Rattle.monitor_reasons.specs.inside.PhaserPlaces.{ArePlacesOf};
+ghost use Rattle.monitor_reasons.specs.inside.PhaserPlaces.{ArePhaserPlaces};
 ghost use Rattle.monitor_reasons.specs.inside.Reaching.{passed_on};
 
 use crate::phaser_places::PhaserPlaces;
@@ -78,7 +78,7 @@ pub(crate) fn distances_to(
     task: usize,
 ) -> Result<Vec<Option<usize>>, NoMemory>
     requires place { task < length state.now.list }
-    requires places { ArePlacesOf state.now.list places.now }
+    requires places { ArePhaserPlaces state.now.list places.now }
     ensures { IfOk result (λ v. AreSearched state.now (has_stuck_number stuck.now) task v.items) }
 {
     let list = state.participants();

@@ -4,7 +4,7 @@ ghost use Rattle.std.specs.List.{list_any};
 ghost use Rattle.monitor_laws.specs.Faults.{phase_on};
 ghost use Rattle.monitor_laws.specs.States.{Waiting};
 ghost use Rattle.monitor_state.specs.Values.{condition_value};
-ghost use Rattle.monitor_reasons.specs.inside.PhaserPlaces.{ArePlacesOf, HaveMemberPlaces, HaveWaitingPlaces, HaveWildcardPlaces, places_named, places_numbered};
+ghost use Rattle.monitor_reasons.specs.inside.PhaserPlaces.{ArePhaserPlaces, HaveMemberPlaces, HaveWaitingPlaces, HaveWildcardPlaces, places_named, places_numbered};
 
 use crate::stopping::lone_task;
 use armus_base::NoMemory;
@@ -182,7 +182,7 @@ pub(crate) fn phaser_places(
     alloc: Global,
     list: &[ListedParticipant],
 ) -> Result<PhaserPlaces<'_>, NoMemory>
-    ensures { IfOk result (λ places. ArePlacesOf list.now places) }
+    ensures { IfOk result (λ places. ArePhaserPlaces list.now places) }
 {
     let members = member_places(alloc, list)?;
     let waiting = waiting_places(alloc, list)?;

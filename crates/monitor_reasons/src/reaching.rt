@@ -9,8 +9,8 @@ ghost use Rattle.monitor_search.specs.Known.{has_stuck_number};
 ghost use Rattle.monitor_reasons.specs.Found.{participant_at};
 ghost use Rattle.monitor_reasons.specs.inside.Distances.{distance_at, stops_at};
 ghost use Rattle.monitor_reasons.specs.inside.Listings.{listing};
-ghost use Rattle.monitor_reasons.specs.inside.PhaserPlaces.{ArePlacesOf, HaveWaitingPlaces, places_named};
-ghost use Rattle.monitor_reasons.specs.inside.Reaching.{ArePassed, IsFilling, IsReached, passed_on};
+ghost use Rattle.monitor_reasons.specs.inside.PhaserPlaces.{ArePhaserPlaces, HaveWaitingPlaces, places_named};
+ghost use Rattle.monitor_reasons.specs.inside.Reaching.{HavePassedDistances, IsFilling, HasDistance, passed_on};
 
 use crate::phaser_places::PhaserPlaces;
 use crate::stopping::{keeps_waiting, stands_for};
@@ -39,7 +39,7 @@ fn may_reach(
 ) -> bool
     requires long { length search.now.distances.items ≡ length list.now }
     ensures on { result ≡ true → (place < length list.now) × (distance_at search.now.distances.items place ≡ None) × (keeps_waiting w.now (participant_at list.now place) ≡ true) }
-    ensures off { result ≡ false → place < length list.now → keeps_waiting w.now (participant_at list.now place) ≡ true → IsReached search.now place }
+    ensures off { result ≡ false → place < length list.now → keeps_waiting w.now (participant_at list.now place) ≡ true → HasDistance search.now place }
 {
     if place >= list.len() {
         return false;
@@ -60,7 +60,7 @@ fn reach(
 ) -> Result<(), NoMemory>
     requires long { length search.old.distances.items ≡ length list.now }
     ensures fills { OnOk result (IsFilling search.old search.new d (λ t. keeps_waiting w.now (participant_at list.now t))) }
-    ensures reached { OnOk result (place < length list.now → keeps_waiting w.now (participant_at list.now place) ≡ true → IsReached search.new place) }
+    ensures reached { OnOk result (place < length list.now → keeps_waiting w.now (participant_at list.now place) ≡ true → HasDistance search.new place) }
     ensures passed { OnOk result (search.new.passed ≡ search.old.passed) }
 {
     if !may_reach(search, list, w, place) {
@@ -81,7 +81,7 @@ fn reach_all(
 ) -> Result<(), NoMemory>
     requires long { length search.old.distances.items ≡ length list.now }
     ensures fills { OnOk result (IsFilling search.old search.new d (λ t. keeps_waiting w.now (participant_at list.now t))) }
-    ensures reached { OnOk result ((t : ℕ) → Contains places.now t → t < length list.now → keeps_waiting w.now (participant_at list.now t) ≡ true → IsReached search.new t) }
+    ensures reached { OnOk result ((t : ℕ) → Contains places.now t → t < length list.now → keeps_waiting w.now (participant_at list.now t) ≡ true → HasDistance search.new t) }
     ensures passed { OnOk result (search.new.passed ≡ search.old.passed) }
 {
     for place in places {
@@ -122,7 +122,7 @@ fn reach_above<'a>(
     requires long { length search.old.distances.items ≡ length list.now }
     requires waiting { HaveWaitingPlaces list.now (places_named places.now.waiting) }
     ensures fills { OnOk result (IsFilling search.old search.new d (λ t. keeps_waiting w.now (participant_at list.now t))) }
-    ensures reached { OnOk result ((t : ℕ) (n : ℕ) → t < length list.now → (participant_at list.now t).condition ≡ Waiting p.now n → has_phase_below w.now p.now n ≡ true → IsReached search.new t) }
+    ensures reached { OnOk result ((t : ℕ) (n : ℕ) → t < length list.now → (participant_at list.now t).condition ≡ Waiting p.now n → has_phase_below w.now p.now n ≡ true → HasDistance search.new t) }
     ensures passed { OnOk result (search.new.passed ≡ search.old.passed) }
 {
     match places.waiting.get(p) {
@@ -145,10 +145,10 @@ fn reach_on<'a>(
 ) -> Result<(), NoMemory>
     requires long { length search.old.distances.items ≡ length list.now }
     requires waiting { HaveWaitingPlaces list.now (places_named places.now.waiting) }
-    requires passed { ArePassed list.now search.old }
+    requires passed { HavePassedDistances list.now search.old }
     ensures fills { OnOk result (IsFilling search.old search.new d (λ t. keeps_waiting w.now (participant_at list.now t))) }
-    ensures reached { OnOk result ((t : ℕ) (n : ℕ) → t < length list.now → (participant_at list.now t).condition ≡ Waiting p.now n → has_phase_below w.now p.now n ≡ true → IsReached search.new t) }
-    ensures passed { OnOk result (ArePassed list.now search.new) }
+    ensures reached { OnOk result ((t : ℕ) (n : ℕ) → t < length list.now → (participant_at list.now t).condition ≡ Waiting p.now n → has_phase_below w.now p.now n ≡ true → HasDistance search.new t) }
+    ensures passed { OnOk result (HavePassedDistances list.now search.new) }
 {
     match w.phase_on(p) {
         None => Ok(()),
@@ -173,10 +173,10 @@ fn reach_by<'a>(
 ) -> Result<(), NoMemory>
     requires long { length search.old.distances.items ≡ length list.now }
     requires waiting { HaveWaitingPlaces list.now (places_named places.now.waiting) }
-    requires passed { ArePassed list.now search.old }
+    requires passed { HavePassedDistances list.now search.old }
     ensures fills { OnOk result (IsFilling search.old search.new d (λ t. keeps_waiting w.now (participant_at list.now t))) }
-    ensures reached { OnOk result ((t : ℕ) → t < length list.now → keeps_waiting w.now (participant_at list.now t) ≡ true → IsReached search.new t) }
-    ensures passed { OnOk result (ArePassed list.now search.new) }
+    ensures reached { OnOk result ((t : ℕ) → t < length list.now → keeps_waiting w.now (participant_at list.now t) ≡ true → HasDistance search.new t) }
+    ensures passed { OnOk result (HavePassedDistances list.now search.new) }
 {
     for membership in w.memberships().as_slice() {
         reach_on(search, places, list, w, membership.phaser(), d)?;
@@ -195,10 +195,10 @@ fn reach_for<'a>(
 ) -> Result<(), NoMemory>
     requires long { length search.old.distances.items ≡ length list.now }
     requires waiting { HaveWaitingPlaces list.now (places_named places.now.waiting) }
-    requires passed { ArePassed list.now search.old }
+    requires passed { HavePassedDistances list.now search.old }
     ensures fills { OnOk result (IsFilling search.old search.new d (λ t. list_any (λ w. stands_for w u.now && keeps_waiting w (participant_at list.now t)) list.now)) }
-    ensures reached { OnOk result ((t : ℕ) → t < length list.now → place < length list.now → stands_for (participant_at list.now place) u.now ≡ true → keeps_waiting (participant_at list.now place) (participant_at list.now t) ≡ true → IsReached search.new t) }
-    ensures passed { OnOk result (ArePassed list.now search.new) }
+    ensures reached { OnOk result ((t : ℕ) → t < length list.now → place < length list.now → stands_for (participant_at list.now place) u.now ≡ true → keeps_waiting (participant_at list.now place) (participant_at list.now t) ≡ true → HasDistance search.new t) }
+    ensures passed { OnOk result (HavePassedDistances list.now search.new) }
 {
     if place >= list.len() {
         return Ok(());
@@ -221,10 +221,10 @@ fn reach_by_all<'a>(
 ) -> Result<(), NoMemory>
     requires long { length search.old.distances.items ≡ length list.now }
     requires waiting { HaveWaitingPlaces list.now (places_named places.now.waiting) }
-    requires passed { ArePassed list.now search.old }
+    requires passed { HavePassedDistances list.now search.old }
     ensures fills { OnOk result (IsFilling search.old search.new d (λ t. list_any (λ w. stands_for w u.now && keeps_waiting w (participant_at list.now t)) list.now)) }
-    ensures reached { OnOk result ((t i : ℕ) → t < length list.now → Contains these.now i → i < length list.now → stands_for (participant_at list.now i) u.now ≡ true → keeps_waiting (participant_at list.now i) (participant_at list.now t) ≡ true → IsReached search.new t) }
-    ensures passed { OnOk result (ArePassed list.now search.new) }
+    ensures reached { OnOk result ((t i : ℕ) → t < length list.now → Contains these.now i → i < length list.now → stands_for (participant_at list.now i) u.now ≡ true → keeps_waiting (participant_at list.now i) (participant_at list.now t) ≡ true → HasDistance search.new t) }
+    ensures passed { OnOk result (HavePassedDistances list.now search.new) }
 {
     for place in these {
         reach_for(search, places, list, u, *place, d)?;
@@ -241,11 +241,11 @@ fn reach_by_played<'a>(
     d: usize,
 ) -> Result<(), NoMemory>
     requires long { length search.old.distances.items ≡ length list.now }
-    requires places { ArePlacesOf list.now places.now }
-    requires passed { ArePassed list.now search.old }
+    requires places { ArePhaserPlaces list.now places.now }
+    requires passed { HavePassedDistances list.now search.old }
     ensures fills { OnOk result (IsFilling search.old search.new d (λ t. list_any (λ w. stands_for w u.now && keeps_waiting w (participant_at list.now t)) list.now)) }
-    ensures reached { OnOk result ((t i : ℕ) → t < length list.now → i < length list.now → list_any (λ k. k == u.now.number) (lone_task (participant_at list.now i).condition) ≡ true → keeps_waiting (participant_at list.now i) (participant_at list.now t) ≡ true → IsReached search.new t) }
-    ensures passed { OnOk result (ArePassed list.now search.new) }
+    ensures reached { OnOk result ((t i : ℕ) → t < length list.now → i < length list.now → list_any (λ k. k == u.now.number) (lone_task (participant_at list.now i).condition) ≡ true → keeps_waiting (participant_at list.now i) (participant_at list.now t) ≡ true → HasDistance search.new t) }
+    ensures passed { OnOk result (HavePassedDistances list.now search.new) }
 {
     match places.wildcards.get(&u.number()) {
         None => Ok(()),
@@ -267,11 +267,11 @@ fn reach_from<'a>(
     requires long { length search.old.distances.items ≡ length list.now }
     requires place { place < length list.now }
     requires ascending { AreAscending list.now }
-    requires places { ArePlacesOf list.now places.now }
-    requires passed { ArePassed list.now search.old }
+    requires places { ArePhaserPlaces list.now places.now }
+    requires passed { HavePassedDistances list.now search.old }
     ensures fills { OnOk result (IsFilling search.old search.new d (λ t. list_any (λ w. stands_for w (participant_at list.now place) && keeps_waiting w (participant_at list.now t)) list.now)) }
-    ensures reached { OnOk result ((t : ℕ) → t < length list.now → list_any (λ w. stands_for w (participant_at list.now place) && keeps_waiting w (participant_at list.now t)) list.now ≡ true → IsReached search.new t) }
-    ensures passed { OnOk result (ArePassed list.now search.new) }
+    ensures reached { OnOk result ((t : ℕ) → t < length list.now → list_any (λ w. stands_for w (participant_at list.now place) && keeps_waiting w (participant_at list.now t)) list.now ≡ true → HasDistance search.new t) }
+    ensures passed { OnOk result (HavePassedDistances list.now search.new) }
 {
     let u = &list[place];
     reach_by(search, places, list, u, d)?;
@@ -291,11 +291,11 @@ fn reach_stopped<'a>(
     requires long { length search.old.distances.items ≡ length list.now }
     requires place { u < length list.now }
     requires ascending { AreAscending list.now }
-    requires places { ArePlacesOf list.now places.now }
-    requires passed { ArePassed list.now search.old }
+    requires places { ArePhaserPlaces list.now places.now }
+    requires passed { HavePassedDistances list.now search.old }
     ensures fills { OnOk result (IsFilling search.old search.new d (stops_at (listing list.now) (has_stuck_number stuck.now) u)) }
-    ensures reached { OnOk result ((t : ℕ) → t < length list.now → stops_at (listing list.now) (has_stuck_number stuck.now) u t ≡ true → IsReached search.new t) }
-    ensures passed { OnOk result (ArePassed list.now search.new) }
+    ensures reached { OnOk result ((t : ℕ) → t < length list.now → stops_at (listing list.now) (has_stuck_number stuck.now) u t ≡ true → HasDistance search.new t) }
+    ensures passed { OnOk result (HavePassedDistances list.now search.new) }
 {
     if !stuck.has_number(list[u].number()) {
         return Ok(());
@@ -316,11 +316,11 @@ pub(crate) fn reach_level<'a>(
     requires long { length search.old.distances.items ≡ length list.now }
     requires behind { All (λ u. u < length list.now) behind.now }
     requires ascending { AreAscending list.now }
-    requires places { ArePlacesOf list.now places.now }
-    requires passed { ArePassed list.now search.old }
+    requires places { ArePhaserPlaces list.now places.now }
+    requires passed { HavePassedDistances list.now search.old }
     ensures fills { OnOk result (IsFilling search.old search.new d (λ t. list_any (λ u. stops_at (listing list.now) (has_stuck_number stuck.now) u t) behind.now)) }
-    ensures reached { OnOk result ((t u : ℕ) → t < length list.now → Contains behind.now u → stops_at (listing list.now) (has_stuck_number stuck.now) u t ≡ true → IsReached search.new t) }
-    ensures passed { OnOk result (ArePassed list.now search.new) }
+    ensures reached { OnOk result ((t u : ℕ) → t < length list.now → Contains behind.now u → stops_at (listing list.now) (has_stuck_number stuck.now) u t ≡ true → HasDistance search.new t) }
+    ensures passed { OnOk result (HavePassedDistances list.now search.new) }
 {
     for u in behind {
         reach_stopped(search, places, list, stuck, *u, d)?;

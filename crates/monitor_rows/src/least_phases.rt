@@ -4,7 +4,7 @@ ghost use Rattle.std.specs.List.{list_any};
 ghost use Rattle.monitor_laws.specs.Faults.{waits_now};
 ghost use Rattle.monitor_laws.specs.Stuck.{has_phase_below, is_phase_below};
 ghost use Rattle.monitor_words.specs.Messages.{is_kept_waiting};
-ghost use Rattle.monitor_rows.specs.inside.LeastPhases.{AreLeastAwaited, is_least_below};
+ghost use Rattle.monitor_rows.specs.inside.LeastPhases.{AreLeastAwaited, is_noted_below};
 
 use armus_base::NoMemory;
 use monitor_state::{ListedCondition, ListedParticipant, MonitorState};
@@ -23,7 +23,7 @@ fn lesser_phase(known: Option<u32>, m: u32) -> u32
 
 // Notes the phase m on phaser p.
 fn note_phase<'a>(least: &mut HashMap<&'a [u8], u32>, p: &'a [u8], m: u32) -> Result<(), NoMemory>
-    ensures { OnOk result ((q : List ℕ) (n : ℕ) → is_least_below least.new q n ≡ (is_least_below least.old q n || (bytes_eq q p.now && nat_lt m n))) }
+    ensures { OnOk result ((q : List ℕ) (n : ℕ) → is_noted_below least.new q n ≡ (is_noted_below least.old q n || (bytes_eq q p.now && nat_lt m n))) }
 {
     let known = least.get(p).copied();
     let lesser = lesser_phase(known, m);
@@ -37,7 +37,7 @@ fn note_own_phase<'a>(
     u: &'a ListedParticipant,
     p: &'a [u8],
 ) -> Result<(), NoMemory>
-    ensures { OnOk result ((q : List ℕ) (n : ℕ) → is_least_below least.new q n ≡ (is_least_below least.old q n || (bytes_eq q p.now && has_phase_below u.now q n))) }
+    ensures { OnOk result ((q : List ℕ) (n : ℕ) → is_noted_below least.new q n ≡ (is_noted_below least.old q n || (bytes_eq q p.now && has_phase_below u.now q n))) }
 {
     match u.phase_on(p) {
         None => Ok(()),
@@ -53,7 +53,7 @@ fn note_phases<'a>(
     least: &mut HashMap<&'a [u8], u32>,
     u: &'a ListedParticipant,
 ) -> Result<(), NoMemory>
-    ensures { OnOk result ((q : List ℕ) (n : ℕ) → is_least_below least.new q n ≡ (is_least_below least.old q n || has_phase_below u.now q n)) }
+    ensures { OnOk result ((q : List ℕ) (n : ℕ) → is_noted_below least.new q n ≡ (is_noted_below least.old q n || has_phase_below u.now q n)) }
 {
     for membership in u.memberships().as_slice() {
         note_own_phase(least, u, membership.phaser())?;
@@ -63,7 +63,7 @@ fn note_phases<'a>(
 
 // The least phases on all phasers.
 fn least_phases(alloc: Global, list: &[ListedParticipant]) -> Result<HashMap<&[u8], u32>, NoMemory>
-    ensures { IfOk result (λ least. (q : List ℕ) (n : ℕ) → is_least_below least q n ≡ list_any (λ u. has_phase_below u q n) list.now) }
+    ensures { IfOk result (λ least. (q : List ℕ) (n : ℕ) → is_noted_below least q n ≡ list_any (λ u. has_phase_below u q n) list.now) }
 {
     let mut least = HashMap::new(alloc);
     for u in list {

@@ -11,17 +11,17 @@ use Rattle.monitor_reasons.specs.Found.{participant_at}
 use Rattle.monitor_reasons.specs.declared.phaser_places.PhaserPlaces.{PhaserPlaces}
 
 -- the places of a group
-abbrev pub places_of : Option (Vec ℕ) → List ℕ
-places_of None = []
-places_of (Some group) = group.items
+abbrev pub places_in_group : Option (Vec ℕ) → List ℕ
+places_in_group None = []
+places_in_group (Some group) = group.items
 
 -- the places under a name
 abbrev pub places_named : {S : Type 0} → HashMap (Bor (List ℕ)) (Vec ℕ) S → List ℕ → List ℕ
-places_named groups q = places_of (get_by (λ k. bytes_eq q k.now) groups)
+places_named groups q = places_in_group (get_by (λ k. bytes_eq q k.now) groups)
 
 -- the places under a number
 abbrev pub places_numbered : {S : Type 0} → HashMap ℕ (Vec ℕ) S → ℕ → List ℕ
-places_numbered groups k = places_of (get_by (λ j. k == j) groups)
+places_numbered groups k = places_in_group (get_by (λ j. k == j) groups)
 
 -- each member of a phaser stands at a place under its name
 abbrev pub HaveMemberPlaces : List Participant → (List ℕ → List ℕ) → Type 0
@@ -36,7 +36,7 @@ abbrev pub HaveWildcardPlaces : List Participant → (ℕ → List ℕ) → Type
 HaveWildcardPlaces us group = (i k : ℕ) → i < length us → list_any (λ j. j == k) (lone_task (participant_at us i).condition) ≡ true → Contains (group k) i
 
 -- all of these
-pub record ArePlacesOf (us : List Participant) (places : PhaserPlaces) : Type 0 where
+pub record ArePhaserPlaces (us : List Participant) (places : PhaserPlaces) : Type 0 where
   pub members : HaveMemberPlaces us (places_named places.members)
   pub waiting : HaveWaitingPlaces us (places_named places.waiting)
   pub wildcards : HaveWildcardPlaces us (places_numbered places.wildcards)

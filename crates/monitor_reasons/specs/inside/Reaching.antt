@@ -17,14 +17,14 @@ pub record IsFilling (old new : DistanceSearch) (d : ℕ) (p : ℕ → Bool) : T
       ⊎ ((distance_at old.distances.items t ≡ None) × (distance_at new.distances.items t ≡ Some d) × Contains new.fresh.items t × (p t ≡ true))
 
 -- its distance is known
-abbrev pub IsReached : DistanceSearch → ℕ → Type 0
-IsReached search t = distance_at search.distances.items t ≡ None → ⊥
+abbrev pub HasDistance : DistanceSearch → ℕ → Type 0
+HasDistance search t = distance_at search.distances.items t ≡ None → ⊥
 
 -- the phase above which all who wait at a phaser have a distance, where one is noted
 abbrev pub passed_on : DistanceSearch → List ℕ → Option ℕ
 passed_on search q = get_by (λ k. bytes_eq q k.now) search.passed
 
 -- whoever waits for a phase above that has a distance
-abbrev pub ArePassed : List Participant → DistanceSearch → Type 0
-ArePassed us search =
-    (t : ℕ) (q : List ℕ) (n : ℕ) → t < length us → (participant_at us t).condition ≡ Waiting q n → is_phase_below (passed_on search q) n ≡ true → IsReached search t
+abbrev pub HavePassedDistances : List Participant → DistanceSearch → Type 0
+HavePassedDistances us search =
+    (t : ℕ) (q : List ℕ) (n : ℕ) → t < length us → (participant_at us t).condition ≡ Waiting q n → is_phase_below (passed_on search q) n ≡ true → HasDistance search t

@@ -5,8 +5,8 @@ use Rattle.monitor_laws.specs.States.{Participant}
 use Rattle.monitor_state.specs.NumberedLists.{AreAscending}
 use Rattle.monitor_search.specs.Known.{has_stuck_number}
 use Rattle.monitor_reasons.specs.inside.Distances.{AreSearched}
-use Rattle.monitor_reasons.specs.inside.PhaserPlaces.{ArePlacesOf}
-use Rattle.monitor_reasons.specs.inside.Reaching.{ArePassed}
+use Rattle.monitor_reasons.specs.inside.PhaserPlaces.{ArePhaserPlaces}
+use Rattle.monitor_reasons.specs.inside.Reaching.{HavePassedDistances}
 use Rattle.monitor_reasons.proofs.AtLevels.{IsAtLevel, all_levels, all_within, begun_at, empty_is, level_found, next_level, nobody_left}
 use Rattle.monitor_reasons.proofs.distances.distances_to.Goals as goal
 
@@ -27,10 +27,10 @@ pub reach_level-requires-clause-ascending : goal.reach_level-requires-clause-asc
 reach_level-requires-clause-ascending c = subst AreAscending (sym c.participants-list.ensures.list) c.participants-list.ensures.ascending
 
 pub reach_level-requires-clause-places : goal.reach_level-requires-clause-places
-reach_level-requires-clause-places c = subst (λ (l : List Participant). ArePlacesOf l c.args.places.now) (sym c.participants-list.ensures.list) c.requires.places
+reach_level-requires-clause-places c = subst (λ (l : List Participant). ArePhaserPlaces l c.args.places.now) (sym c.participants-list.ensures.list) c.requires.places
 
 pub reach_level-requires-clause-passed : goal.reach_level-requires-clause-passed
-reach_level-requires-clause-passed c = subst (λ (l : List Participant). ArePassed l c.loop-d.search) (sym c.participants-list.ensures.list) c.loop-d.invariant.passed
+reach_level-requires-clause-passed c = subst (λ (l : List Participant). HavePassedDistances l c.loop-d.search) (sym c.participants-list.ensures.list) c.loop-d.invariant.passed
 
 pub loop-d-preserved : goal.loop-d-preserved
 loop-d-preserved c =

@@ -4,7 +4,7 @@ use Rattle.std.proofs.lemmas.List.{take_all}
 use Rattle.armus_base.proofs.Elements.{nothing_in_nil}
 use Rattle.monitor_words.specs.Stops.{keeps_waiting}
 use Rattle.monitor_reasons.specs.Found.{participant_at}
-use Rattle.monitor_reasons.specs.inside.Reaching.{IsReached}
+use Rattle.monitor_reasons.specs.inside.Reaching.{HasDistance}
 use Rattle.monitor_reasons.proofs.Placing.{place_more}
 use Rattle.monitor_reasons.proofs.Filling.{fills_nothing, fills_then, reached_then}
 use Rattle.monitor_reasons.proofs.reaching.reach_all.Goals as goal
@@ -27,7 +27,7 @@ loop-place-preserved c =
       fills = fills_then c.args.search.now c.loop-place.search c.reach.new.search c.args.d p c.loop-place.invariant.fills now.fills;
       reached = λ t there. elim (place_more places i t within there) [
         | inl before ↦ λ listed keeps. reached_then c.loop-place.search c.reach.new.search c.args.d p t now.fills (c.loop-place.invariant.reached t before listed keeps)
-        | inr here ↦ subst (λ k. k < length c.args.list.now → keeps_waiting c.args.w.now (participant_at c.args.list.now k) ≡ true → IsReached c.reach.new.search k) here now.reached
+        | inr here ↦ subst (λ k. k < length c.args.list.now → keeps_waiting c.args.w.now (participant_at c.args.list.now k) ≡ true → HasDistance c.reach.new.search k) here now.reached
       ];
       passed = now.passed ∙ c.loop-place.invariant.passed;
     }

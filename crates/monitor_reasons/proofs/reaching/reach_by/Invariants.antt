@@ -5,7 +5,7 @@ use Rattle.monitor_laws.specs.States.{Waiting}
 use Rattle.monitor_laws.specs.Stuck.{has_phase_below}
 use Rattle.monitor_words.specs.Stops.{keeps_waiting}
 use Rattle.monitor_reasons.specs.Found.{participant_at}
-use Rattle.monitor_reasons.specs.inside.Reaching.{ArePassed, IsFilling, IsReached}
+use Rattle.monitor_reasons.specs.inside.Reaching.{HavePassedDistances, IsFilling, HasDistance}
 use Rattle.monitor_reasons.proofs.reaching.reach_by.Given as goal
 
 -- those who wait at the phasers so far
@@ -13,6 +13,6 @@ abbrev pub invariant-loop-membership : goal.invariant-loop-membership
 invariant-loop-membership l = record {
   fills : IsFilling l.fn.search l.search l.d (λ t. keeps_waiting l.w (participant_at l.list t));
   reached : (t : ℕ) (q : List ℕ) (n : ℕ) → t < length l.list → (participant_at l.list t).condition ≡ Waiting q n → is_some (lookup (bytes_eq q) (take l.membership-index l.w.phases)) ≡ true →
-      has_phase_below l.w q n ≡ true → IsReached l.search t;
-  passed : ArePassed l.list l.search;
+      has_phase_below l.w q n ≡ true → HasDistance l.search t;
+  passed : HavePassedDistances l.list l.search;
 }

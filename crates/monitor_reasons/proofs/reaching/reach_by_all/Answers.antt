@@ -5,7 +5,7 @@ use Rattle.std.proofs.lemmas.List.{take_all}
 use Rattle.armus_base.proofs.Elements.{nothing_in_nil}
 use Rattle.monitor_words.specs.Stops.{keeps_waiting, stands_for}
 use Rattle.monitor_reasons.specs.Found.{participant_at}
-use Rattle.monitor_reasons.specs.inside.Reaching.{IsReached}
+use Rattle.monitor_reasons.specs.inside.Reaching.{HasDistance}
 use Rattle.monitor_reasons.proofs.Filling.{fills_nothing, fills_then, reached_then}
 use Rattle.monitor_reasons.proofs.Placing.{place_more}
 use Rattle.monitor_reasons.proofs.reaching.reach_by_all.Goals as goal
@@ -31,7 +31,7 @@ loop-place-preserved c =
       reached = λ t j listed there. elim (place_more these i j within there) [
         | inl before ↦ λ inside stands keeps. reached_then c.loop-place.search c.reach_for.new.search c.args.d p t now.fills (c.loop-place.invariant.reached t j listed before inside stands keeps)
         | inr here ↦
-            subst (λ k. k < length list → stands_for (participant_at list k) u ≡ true → keeps_waiting (participant_at list k) (participant_at list t) ≡ true → IsReached c.reach_for.new.search t) here (now.reached t listed)
+            subst (λ k. k < length list → stands_for (participant_at list k) u ≡ true → keeps_waiting (participant_at list k) (participant_at list t) ≡ true → HasDistance c.reach_for.new.search t) here (now.reached t listed)
       ];
       passed = now.passed;
     }

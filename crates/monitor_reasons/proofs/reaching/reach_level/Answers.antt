@@ -7,7 +7,7 @@ use Rattle.armus_base.proofs.Elements.{nothing_in_nil}
 use Rattle.monitor_search.specs.Known.{has_stuck_number}
 use Rattle.monitor_reasons.specs.inside.Distances.{stops_at}
 use Rattle.monitor_reasons.specs.inside.Listings.{listing}
-use Rattle.monitor_reasons.specs.inside.Reaching.{IsReached}
+use Rattle.monitor_reasons.specs.inside.Reaching.{HasDistance}
 use Rattle.monitor_reasons.proofs.Filling.{fills_more, fills_nothing, fills_then, reached_then}
 use Rattle.monitor_reasons.proofs.Placing.{place_more}
 use Rattle.monitor_reasons.proofs.reaching.reach_level.Goals as goal
@@ -32,7 +32,7 @@ loop-u-preserved c =
       fills = fills_then c.args.search.now c.loop-u.search c.reach_stopped.new.search c.args.d p c.loop-u.invariant.fills fills;
       reached = λ t u listed there. elim (place_more behind i u within there) [
         | inl before ↦ λ goes. reached_then c.loop-u.search c.reach_stopped.new.search c.args.d p t fills (c.loop-u.invariant.reached t u listed before goes)
-        | inr here ↦ subst (λ k. stops k t ≡ true → IsReached c.reach_stopped.new.search t) here (now.reached t listed)
+        | inr here ↦ subst (λ k. stops k t ≡ true → HasDistance c.reach_stopped.new.search t) here (now.reached t listed)
       ];
       passed = now.passed;
     }

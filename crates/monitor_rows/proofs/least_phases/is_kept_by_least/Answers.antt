@@ -5,7 +5,7 @@ use Rattle.monitor_laws.specs.States.{Condition, Waiting}
 use Rattle.monitor_laws.specs.Stuck.{is_phase_below}
 use Rattle.monitor_words.specs.Stops.{impedes_wait, waited_for}
 use Rattle.monitor_state.specs.Values.{condition_value}
-use Rattle.monitor_rows.specs.inside.LeastPhases.{is_least_below}
+use Rattle.monitor_rows.specs.inside.LeastPhases.{is_noted_below}
 use Rattle.monitor_rows.proofs.LeastPhases.{not_kept}
 use Rattle.monitor_rows.proofs.least_phases.is_kept_by_least.Goals as goal
 
@@ -17,7 +17,7 @@ returns-in-Waiting c =
     let waits : c.args.t.now.condition ≡ Waiting p n = sym c.condition.ensures ∙ ap condition_value c.in-Waiting.is in
     c.is_below.ensures
     ∙ ap (λ o. is_phase_below o n) (c.copied.ensures ∙ c.get.ensures.value)
-    ∙ ap (λ (q : List ℕ). is_least_below c.args.least.now q n) c.as_slice.ensures.value
+    ∙ ap (λ (q : List ℕ). is_noted_below c.args.least.now q n) c.as_slice.ensures.value
     ∙ c.requires.least.known c.args.t.now p n c.requires.listed waits
     ∙ ap (λ (x : Condition). list_any (λ u. impedes_wait u (waited_for x)) list) (sym waits)
 
