@@ -61,7 +61,7 @@ pub prompt_piece : (options : MonitorOptions) (log writes : List Transfer) (byte
 prompt_piece options log writes bytes old so_far are =
     prompt_writes options writes (WereRead bytes ∷ log) are (prompt_read options log bytes so_far.prompt (so_far.no_end, calls_so_far options log old so_far))
 
-listens_on : (options : MonitorOptions) (log writes : List Transfer) (bytes : List ℕ) (old new : Heard) → HasListened options log old → AreWrites writes → HearsBytes old bytes (bytes_written writes) new → IsListening options (bytes_read (writes ++ WereRead bytes ∷ log)) (bytes_written (writes ++ WereRead bytes ∷ log)) new
+pub listens_on : (options : MonitorOptions) (log writes : List Transfer) (bytes : List ℕ) (old new : Heard) → HasListened options log old → AreWrites writes → HearsBytes old bytes (bytes_written writes) new → IsListening options (bytes_read (writes ++ WereRead bytes ∷ log)) (bytes_written (writes ++ WereRead bytes ∷ log)) new
 listens_on options log writes bytes old new so_far are hears =
     subst (λ read. IsListening options read (bytes_written (writes ++ WereRead bytes ∷ log)) new) (sym (read_then writes log bytes are))
     (subst (λ written. IsListening options (bytes_read log ++ bytes) written new) (sym (written_then writes log bytes))

@@ -5,3 +5,4 @@ pub mod Endings
 pub mod Calls
 pub mod Cuts
 pub mod OneOutput
+pub mod ReadWhole

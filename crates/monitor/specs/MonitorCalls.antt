@@ -1,5 +1,5 @@
 -- How a call of the monitor ends.
-use Rattle.std.specs.Prelude.{◌≡◌, ◌≢◌, ℕ, Bool, true, false, List, ◌∷◌, ◌++◌, ◌⊎◌}
+use Rattle.std.specs.Prelude.{◌≡◌, ◌≢◌, ℕ, ◌<◌, Bool, true, false, Option, Some, None, List, [], ◌∷◌, ◌++◌, ◌⊎◌}
 use Rattle.armus_base.specs.Causes.{counted}
 use Rattle.monitor_words.specs.Messages.{report_words}
 use Rattle.monitor_words.specs.Stops.{TellsStuck}
@@ -82,3 +82,19 @@ EndsAsked NoCommand log status = EndsTold monitor_usage_line 2 log status
 -- this status comes just where one fault was counted, and else none was
 abbrev pub HasFaultAt : ℕ → ℕ → ℕ → ℕ → Type 0
 HasFaultAt number before now status = (status ≡ number → now ≡ counted before) × (status ≢ number → now ≡ before)
+
+-- a status that says that the trace was read to its end: 0 and 1, and 3 where lines at fault are passed over
+abbrev pub SaysEnd : MonitorOptions → ℕ → Type 0
+SaysEnd options status = (status < 2) ⊎ ((options.keeps_going ≡ true) × (status ≡ 3))
+
+-- where it is known what was left to be read, nothing is left
+abbrev pub LeavesNothing : Option (List ℕ) → Option (List ℕ) → Type 0
+LeavesNothing None new = Unit {0}
+LeavesNothing (Some bytes) new = new ≡ Some []
+
+-- where this is asked, and the status says that the trace was read to its end, nothing of it is left
+abbrev pub IsReadWhole : MonitorRequest → ℕ → Option (List ℕ) → Option (List ℕ) → Type 0
+IsReadWhole (Monitors options file) status old new = SaysEnd options status → LeavesNothing old new
+IsReadWhole ShowsHelp status old new = Unit {0}
+IsReadWhole ShowsVersion status old new = Unit {0}
+IsReadWhole NoCommand status old new = Unit {0}

@@ -1,7 +1,7 @@
 // The top call.
 ghost use Rattle.std.specs.Prelude.{◌≡◌, ◌≢◌, ◌<◌, [], List, ℕ, map, string_bytes};
 ghost use Rattle.monitor_messages.specs.Runs.{MonitorOptions};
-ghost use Rattle.monitor.specs.MonitorCalls.{EndsAsked, EndsMonitored, EndsTold, HasFaultAt, IsPrompt};
+ghost use Rattle.monitor.specs.MonitorCalls.{EndsAsked, EndsMonitored, EndsTold, HasFaultAt, IsPrompt, IsReadWhole, LeavesNothing, SaysEnd};
 ghost use Rattle.monitor.specs.MonitorRequests.{monitor_asked};
 ghost use Rattle.monitor.specs.Transfers.{PassesThrough, Transfer};
 ghost use Rattle.monitor.specs.calls.Requested.{monitor_requested};
@@ -57,6 +57,7 @@ fn listen<P: Port>(
     requires out { out.old.items ≡ [] }
     ensures ends { (log : List Transfer) × PassesThrough (P.view port.old) (P.view port.new) log
         × ((options : MonitorOptions) → HasListened options [] listener.old → IsPrompt options log × EndsMonitored options log (number_of_monitor_status result)) }
+    ensures whole { (options : MonitorOptions) → HasListened options [] listener.old → SaysEnd options (number_of_monitor_status result) → LeavesNothing (P.view port.old).left (P.view port.new).left }
     ensures reading { HasFaultAt 4 (P.read_faults port.old) (P.read_faults port.new) (number_of_monitor_status result) }
     ensures writing { HasFaultAt 5 (P.write_faults port.old) (P.write_faults port.new) (number_of_monitor_status result) }
 {
@@ -87,6 +88,7 @@ fn monitor_trace<P: Port>(
 ) -> MonitorStatus
     ensures ends { (log : List Transfer) × PassesThrough (P.view port.old) (P.view port.new) log × IsPrompt (record { guards = guards; keeps_going = keeps_going }) log
         × EndsMonitored (record { guards = guards; keeps_going = keeps_going }) log (number_of_monitor_status result) }
+    ensures whole { SaysEnd (record { guards = guards; keeps_going = keeps_going }) (number_of_monitor_status result) → LeavesNothing (P.view port.old).left (P.view port.new).left }
     ensures reading { HasFaultAt 4 (P.read_faults port.old) (P.read_faults port.new) (number_of_monitor_status result) }
     ensures writing { HasFaultAt 5 (P.write_faults port.old) (P.write_faults port.new) (number_of_monitor_status result) }
 {
@@ -111,6 +113,7 @@ fn tell<P: Port>(port: &mut P, words: &str, status: MonitorStatus) -> MonitorSta
 // Does what the request asks for.
 fn answer_request<P: Port>(alloc: Global, request: &MonitorRequest, port: &mut P) -> MonitorStatus
     ensures ends { (log : List Transfer) × PassesThrough (P.view port.old) (P.view port.new) log × EndsAsked (monitor_requested request.now) log (number_of_monitor_status result) }
+    ensures whole { IsReadWhole (monitor_requested request.now) (number_of_monitor_status result) (P.view port.old).left (P.view port.new).left }
     ensures reading { HasFaultAt 4 (P.read_faults port.old) (P.read_faults port.new) (number_of_monitor_status result) }
     ensures writing { HasFaultAt 5 (P.write_faults port.old) (P.write_faults port.new) (number_of_monitor_status result) }
 {
@@ -130,9 +133,11 @@ fn answer_request<P: Port>(alloc: Global, request: &MonitorRequest, port: &mut P
 /// and writes to the port what each line calls for, before it reads on. At the end of the trace it writes the report, and answers 0 where nobody is kept waiting
 /// and nobody was told or refused, and 1 where somebody is or was. A line at fault ends it with 3, after the message on it; with `--keep-going` it is told and
 /// passed over, and 3 comes at the end in place of 0. It writes the lines of help or of the version and answers 0, where the words ask for them, and for all
-/// other words the line of usage, and answers 2; nothing is read then. It answers 4 and 5 where reading or writing failed, and 6 for want of memory.
+/// other words the line of usage, and answers 2; nothing is read then. It answers 4 and 5 where reading or writing failed, and 6 for want of memory. Where it
+/// answers 0 or 1 to a trace, or 3 with `--keep-going`, nothing of the trace is left to be read.
 pub fn monitor<P: Port>(alloc: Global, words: &[String], port: &mut P) -> u8
     ensures call { (log : List Transfer) × PassesThrough (P.view port.old) (P.view port.new) log × EndsAsked (monitor_asked (map string_bytes words.now)) log result }
+    ensures whole { IsReadWhole (monitor_asked (map string_bytes words.now)) result (P.view port.old).left (P.view port.new).left }
     ensures reading { HasFaultAt 4 (P.read_faults port.old) (P.read_faults port.new) result }
     ensures writing { HasFaultAt 5 (P.write_faults port.old) (P.write_faults port.new) result }
 {

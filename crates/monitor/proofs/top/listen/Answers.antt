@@ -1,9 +1,10 @@
 use Rattle.std.proofs.Common.{rules, ◌≡◌, ◌∷◌, ◌++◌, [], refl, sym, ◌∙◌, subst, take, length, arith, ◌<◌}
 use Rattle.std.proofs.lemmas.List.{length-take-le}
-use Rattle.monitor.specs.MonitorCalls.{EndsMonitored}
+use Rattle.monitor.specs.MonitorCalls.{EndsMonitored, SaysEnd}
 use Rattle.monitor.specs.Transfers.{PassesThrough, WereRead}
 use Rattle.monitor.proofs.Calls.{ends_at_end, ends_at_fault, ends_uncounted, ends_unread, goes_on_behind, prompt_piece, stopped_early}
 use Rattle.monitor.proofs.Logs.{passes_more, passes_nothing}
+use Rattle.monitor.proofs.ReadWhole.{fault_says_no_end, leaves_nothing, says_no_end, stop_says_no_end}
 use Rattle.monitor.proofs.top.listen.Goals as goal
 
 pub loop-init : goal.loop-init
@@ -89,3 +90,26 @@ returns-clause-ends g c =
           let so_far = log.2 options begins in
           (so_far.prompt, ends_uncounted options log.0 c.loop.listener so_far),
     )
+
+pub returns-in-Err-clause-whole : goal.returns-in-Err-clause-whole
+returns-in-Err-clause-whole g c = λ options begins says. absurd (says_no_end options 4 (omega arith) says)
+
+pub returns-in-Ok-eq0-clause-whole : goal.returns-in-Ok-eq0-clause-whole
+returns-in-Ok-eq0-clause-whole g c =
+    let log = c.loop.invariant.1 in
+    let writes = c.end_trace.ensures.ends in
+    λ options begins says. leaves_nothing _ _ _ (WereRead (take c.in-Ok-eq0.field-0 c.read.new.buf) ∷ log.0) writes.0 (passes_more _ _ _ log.0 _ log.1 c.in-Ok-eq0.ensures.passes) (c.in-Ok-eq0.ensures.end (search rules)) writes.1
+
+pub returns-in-Err-hear_piece-clause-whole : goal.returns-in-Err-hear_piece-clause-whole
+returns-in-Err-hear_piece-clause-whole g c =
+    λ options begins says. absurd (fault_says_no_end options c.in-Err-hear_piece.fault (subst (SaysEnd options) c.status_of_fault.ensures says))
+
+pub returns-then-is_stopped-clause-whole : goal.returns-then-is_stopped-clause-whole
+returns-then-is_stopped-clause-whole g c =
+    let log = c.loop.invariant.1 in
+    let writes = c.in_default.ensures.heard in
+    let piece = take c.in-Ok.count c.read.new.buf in
+    λ options begins says. absurd (stop_says_no_end options log.0 writes.0 piece c.loop.listener c.hear_piece.new.listener (log.2 options begins) writes.2 writes.3 (search rules) says)
+
+pub returns-clause-whole : goal.returns-clause-whole
+returns-clause-whole g c = λ options begins says. absurd (says_no_end options 6 (omega arith) says)
