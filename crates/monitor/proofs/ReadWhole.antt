@@ -6,7 +6,7 @@ use Rattle.monitor_laws.specs.Lines.{TraceLine}
 use Rattle.monitor_messages.specs.Runs.{IsHeard, IsMonitorRunOf, IsNextRun, MonitorOptions, MonitorRun}
 use Rattle.monitor_messages.proofs.RunsHaveTraces.{its_options}
 use Rattle.monitor.specs.HeardLines.{called_lines}
-use Rattle.monitor.specs.MonitorCalls.{LeavesNothing, SaysEnd}
+use Rattle.monitor.specs.MonitorCalls.{HasNothingLeft, SaysEnd}
 use Rattle.monitor.specs.Transfers.{AreWrites, PassesThrough, PortView, Transfer, WereRead, bytes_read, bytes_written}
 use Rattle.monitor.specs.inside.Ending.{HasListened}
 use Rattle.monitor.specs.inside.Listening.{Heard, HearsBytes, number_of_hear_fault}
@@ -19,13 +19,13 @@ behind_none [] ys e = sym e
 behind_none (x ∷ xs) ys e = absurd (cc)
 
 -- nothing is left where all was consumed up to the end, and nothing behind it
-left_none : (a b c : Option (List ℕ)) (bytes more : List ℕ) → Consumes a b bytes → IsAtEnd b → Consumes b c more → LeavesNothing a c
+left_none : (a b c : Option (List ℕ)) (bytes more : List ℕ) → Consumes a b bytes → IsAtEnd b → Consumes b c more → HasNothingLeft a c
 left_none None b c bytes more one end other = tt
 left_none (Some x) None c bytes more one end other = absurd one
 left_none (Some x) (Some y) None bytes more one end other = absurd other
 left_none (Some x) (Some y) (Some z) bytes more one end other = ap Some (behind_none more z (sym end ∙ other))
 
-pub leaves_nothing : (a b c : PortView) (log writes : List Transfer) → PassesThrough a b log → IsAtEnd b.left → PassesThrough b c writes → LeavesNothing a.left c.left
+pub leaves_nothing : (a b c : PortView) (log writes : List Transfer) → PassesThrough a b log → IsAtEnd b.left → PassesThrough b c writes → HasNothingLeft a.left c.left
 leaves_nothing a b c log writes one end other = left_none a.left b.left c.left (bytes_read log) (bytes_read writes) one.left end other.left
 
 -- a status above 3 says no end

@@ -88,13 +88,13 @@ abbrev pub SaysEnd : MonitorOptions → ℕ → Type 0
 SaysEnd options status = (status < 2) ⊎ ((options.keeps_going ≡ true) × (status ≡ 3))
 
 -- where it is known what was left to be read, nothing is left
-abbrev pub LeavesNothing : Option (List ℕ) → Option (List ℕ) → Type 0
-LeavesNothing None new = Unit {0}
-LeavesNothing (Some bytes) new = new ≡ Some []
+abbrev pub HasNothingLeft : Option (List ℕ) → Option (List ℕ) → Type 0
+HasNothingLeft None new = Unit {0}
+HasNothingLeft (Some bytes) new = new ≡ Some []
 
 -- where this is asked, and the status says that the trace was read to its end, nothing of it is left
 abbrev pub IsReadWhole : MonitorRequest → ℕ → Option (List ℕ) → Option (List ℕ) → Type 0
-IsReadWhole (Monitors options file) status old new = SaysEnd options status → LeavesNothing old new
+IsReadWhole (Monitors options file) status old new = SaysEnd options status → HasNothingLeft old new
 IsReadWhole ShowsHelp status old new = Unit {0}
 IsReadWhole ShowsVersion status old new = Unit {0}
 IsReadWhole NoCommand status old new = Unit {0}

@@ -1,7 +1,7 @@
 // The top call.
 ghost use Rattle.std.specs.Prelude.{◌≡◌, ◌≢◌, ◌<◌, [], List, ℕ, map, string_bytes};
 ghost use Rattle.monitor_messages.specs.Runs.{MonitorOptions};
-ghost use Rattle.monitor.specs.MonitorCalls.{EndsAsked, EndsMonitored, EndsTold, HasFaultAt, IsPrompt, IsReadWhole, LeavesNothing, SaysEnd};
+ghost use Rattle.monitor.specs.MonitorCalls.{EndsAsked, EndsMonitored, EndsTold, HasFaultAt, IsPrompt, IsReadWhole, HasNothingLeft, SaysEnd};
 ghost use Rattle.monitor.specs.MonitorRequests.{monitor_asked};
 ghost use Rattle.monitor.specs.Transfers.{PassesThrough, Transfer};
 ghost use Rattle.monitor.specs.calls.Requested.{monitor_requested};
@@ -57,7 +57,7 @@ fn listen<P: Port>(
     requires out { out.old.items ≡ [] }
     ensures ends { (log : List Transfer) × PassesThrough (P.view port.old) (P.view port.new) log
         × ((options : MonitorOptions) → HasListened options [] listener.old → IsPrompt options log × EndsMonitored options log (number_of_monitor_status result)) }
-    ensures whole { (options : MonitorOptions) → HasListened options [] listener.old → SaysEnd options (number_of_monitor_status result) → LeavesNothing (P.view port.old).left (P.view port.new).left }
+    ensures whole { (options : MonitorOptions) → HasListened options [] listener.old → SaysEnd options (number_of_monitor_status result) → HasNothingLeft (P.view port.old).left (P.view port.new).left }
     ensures reading { HasFaultAt 4 (P.read_faults port.old) (P.read_faults port.new) (number_of_monitor_status result) }
     ensures writing { HasFaultAt 5 (P.write_faults port.old) (P.write_faults port.new) (number_of_monitor_status result) }
 {
@@ -88,7 +88,7 @@ fn monitor_trace<P: Port>(
 ) -> MonitorStatus
     ensures ends { (log : List Transfer) × PassesThrough (P.view port.old) (P.view port.new) log × IsPrompt (record { guards = guards; keeps_going = keeps_going }) log
         × EndsMonitored (record { guards = guards; keeps_going = keeps_going }) log (number_of_monitor_status result) }
-    ensures whole { SaysEnd (record { guards = guards; keeps_going = keeps_going }) (number_of_monitor_status result) → LeavesNothing (P.view port.old).left (P.view port.new).left }
+    ensures whole { SaysEnd (record { guards = guards; keeps_going = keeps_going }) (number_of_monitor_status result) → HasNothingLeft (P.view port.old).left (P.view port.new).left }
     ensures reading { HasFaultAt 4 (P.read_faults port.old) (P.read_faults port.new) (number_of_monitor_status result) }
     ensures writing { HasFaultAt 5 (P.write_faults port.old) (P.write_faults port.new) (number_of_monitor_status result) }
 {
