@@ -33,8 +33,8 @@
 #include <time.h>
 #include <unistd.h>
 
-enum kind { BARRIER, JOIN, MUTEX, RWLOCK, CONDITION, SEMAPHORE, CRITICAL, OMP_LOCK, TEAM, TEAM_END, TASKS, IDLE, ADDRESS, KINDS };
-static const char *const kind_names[KINDS] = {"barrier", "end-of", "mutex", "rwlock", "condition", "semaphore", "critical", "lock", "team", "team-end", "tasks", "idle", "address"};
+enum kind { BARRIER, JOIN, MUTEX, RWLOCK, CONDITION, SEMAPHORE, CRITICAL, OMP_LOCK, TEAM, TEAM_END, TASKS, ORDERED, IDLE, ADDRESS, KINDS };
+static const char *const kind_names[KINDS] = {"barrier", "end-of", "mutex", "rwlock", "condition", "semaphore", "critical", "lock", "team", "team-end", "tasks", "ordered", "idle", "address"};
 enum state { FREE, LIVE, ENDING };
 enum { CHUNK = 256, CHUNKS = 256, OBJECTS = 4096, LINE = 512, NAME = 40, MILLISECOND = 1000000, PERIOD = 50, LONGEST = 1000 };
 
@@ -84,6 +84,7 @@ static struct stat out_stat;
 static pid_t process, watcher_tid;
 
 /* ---- the functions of the libraries behind this one */
+#define UNBRACKETED(...) __VA_ARGS__
 #define REAL(result, name, ...) \
     static result (*_Atomic real_##name##_found)(__VA_ARGS__); \
     static inline result (*real_##name(void))(__VA_ARGS__) { \
@@ -274,7 +275,8 @@ static const char *base_name(const char *path) {
 static bool is_library_of_threads(const char *path) {
     const char *base = base_name(path);
     return strncmp(base, "libstdc++", 9) == 0 || strncmp(base, "libgomp", 7) == 0 || strncmp(base, "libc.so", 7) == 0 || strncmp(base, "libc++", 6) == 0
-        || strncmp(base, "libpthread", 10) == 0 || strncmp(base, "libarmus", 8) == 0 || strncmp(base, "libgcc", 6) == 0 || strncmp(base, "ld-linux", 8) == 0;
+        || strncmp(base, "libpthread", 10) == 0 || strncmp(base, "libarmus", 8) == 0 || strncmp(base, "libgcc", 6) == 0 || strncmp(base, "ld-linux", 8) == 0
+        || strncmp(base, "libomp", 6) == 0 || strncmp(base, "libiomp", 7) == 0;
 }
 
 /* The addresses of the program's own calls: the one from which it waits, or, where that is a library of threads, the words of the stack that stand behind a call in
@@ -374,15 +376,31 @@ static bool is_shared(unsigned long address) {
     return shared;
 }
 
-/* Whether the thread sleeps without a limit in a futex call, and, but at OpenMP's objects, at an address of the object. */
+/* Whether this is code of GCC's OpenMP, which on x86-64 makes its futex calls itself. A thread that waits in it may run a task meanwhile, and sleep elsewhere. */
+static bool is_of_openmp(unsigned long code) {
+#ifdef __x86_64__
+    static unsigned long known;
+    Dl_info info;
+    if (code != known) {
+        if (dladdr((const void *)code, &info) == 0 || info.dli_fname == NULL || strncmp(base_name(info.dli_fname), "libgomp", 7) != 0) {
+            return false;
+        }
+        known = code;
+    }
+#endif
+    return true;
+}
+
+/* Whether the thread sleeps without a limit in a futex call at an address of the object; of OpenMP's objects, whose addresses are not known, in its own code. */
 static bool sleeps(const struct slot *s) {
     static const size_t sizes[KINDS] = {[BARRIER] = sizeof(pthread_barrier_t), [JOIN] = 4096, [MUTEX] = sizeof(pthread_mutex_t), [RWLOCK] = sizeof(pthread_rwlock_t),
         [CONDITION] = sizeof(pthread_cond_t), [SEMAPHORE] = sizeof(sem_t), [ADDRESS] = 8};
     char line[256];
-    unsigned long words[4];
+    unsigned long words[6], stack, code;
     long number;
     if (!proc_text("/proc/self/task/%d/syscall", atomic_load(&s->tid), line, sizeof line)
-        || sscanf(line, "%ld %lx %lx %lx %lx", &number, &words[0], &words[1], &words[2], &words[3]) != 5 || number != SYS_futex) {
+        || sscanf(line, "%ld %lx %lx %lx %lx %lx %lx %lx %lx", &number, &words[0], &words[1], &words[2], &words[3], &words[4], &words[5], &stack, &code) != 9
+        || number != SYS_futex) {
         return false;
     }
     int call = (int)words[1] & FUTEX_CMD_MASK;
@@ -392,7 +410,7 @@ static bool sleeps(const struct slot *s) {
     if (s->kind != JOIN && !(words[1] & FUTEX_PRIVATE_FLAG) && is_shared(words[0])) {
         return false;                                          /* another process may come */
     }
-    return sizes[s->kind] == 0 || words[0] - (uintptr_t)s->object < sizes[s->kind];
+    return sizes[s->kind] == 0 ? is_of_openmp(code) : words[0] - (uintptr_t)s->object < sizes[s->kind];
 }
 
 /* Whether a signal's handler may act: one is installed, and not only for a fault of the program itself. */
@@ -1114,18 +1132,43 @@ TEAM_WAIT(bool, GOMP_barrier_cancel)
 TEAM_WAIT(bool, GOMP_loop_end_cancel)
 TEAM_WAIT(bool, GOMP_sections_end_cancel)
 
-/* The tasks that a task waits for: whoever of the team finds them runs them, so any thread may act. The thread itself runs tasks meanwhile, in which it may wait for
- * something else; then it counts as one that runs, until the outer wait is over. */
-#define TASKS_WAIT(name) \
-    REAL(void, name, void) \
-    void name(void) { \
+/* Whoever comes first through a single region with copyprivate goes on, and comes to the barrier of the others at its end. */
+REAL(void *, GOMP_single_copy_start, void)
+void *GOMP_single_copy_start(void) {
+    struct slot *s = team_wait_begins(HERE);
+    void *copied = real_GOMP_single_copy_start()();
+    if (s != NULL && copied == NULL) {
+        atomic_fetch_sub(&s->team.barriers, 1);
+    }
+    wait_ends(s);
+    return copied;
+}
+
+REAL(void, GOMP_single_copy_end, void *)
+void GOMP_single_copy_end(void *data) {
+    struct slot *s = team_wait_begins(HERE);
+    real_GOMP_single_copy_end()(data);
+    wait_ends(s);
+}
+
+/* The tasks that a task waits for: whoever of the team finds them runs them, so any thread may act; and the turns of an ordered loop. The thread itself runs tasks
+ * meanwhile, in which it may wait for something else; then it counts as one that runs, until the outer wait is over. */
+#define ANY_WAIT(kind, name, parameters, words) \
+    REAL(void, name, UNBRACKETED parameters) \
+    void name parameters { \
         struct slot *s = own_slot(); \
-        wait_begins(s, TASKS, s, HERE); \
-        real_##name()(); \
+        wait_begins(s, kind, s, HERE); \
+        real_##name() words; \
         wait_ends(s); \
     }
-TASKS_WAIT(GOMP_taskwait)
-TASKS_WAIT(GOMP_taskgroup_end)
+ANY_WAIT(TASKS, GOMP_taskwait, (void), ())
+ANY_WAIT(TASKS, GOMP_taskwait_depend, (void **depend), (depend))
+ANY_WAIT(TASKS, GOMP_taskgroup_end, (void), ())
+ANY_WAIT(TASKS, GOMP_taskloop, (void (*function)(void *), void *data, void (*copy)(void *, void *), long size, long align, unsigned flags, unsigned long tasks, int priority, long from,
+    long to, long step), (function, data, copy, size, align, flags, tasks, priority, from, to, step))
+ANY_WAIT(TASKS, GOMP_taskloop_ull, (void (*function)(void *), void *data, void (*copy)(void *, void *), long size, long align, unsigned flags, unsigned long tasks, int priority,
+    unsigned long long from, unsigned long long to, unsigned long long step), (function, data, copy, size, align, flags, tasks, priority, from, to, step))
+ANY_WAIT(ORDERED, GOMP_ordered_start, (void), ())
 
 /* What a thread that takes a lock of OpenMP does, and one that gives it back. */
 #define TAKES(kind, name, object, parameters, words) TAKES_BEHIND(false, kind, name, object, parameters, words)
@@ -1157,7 +1200,6 @@ TASKS_WAIT(GOMP_taskgroup_end)
         } \
         return taken; \
     }
-#define UNBRACKETED(...) __VA_ARGS__
 TRIES(omp_test_lock, (void *lock), (lock))
 TRIES(omp_test_lock_, (void *lock), (lock))
 TAKES(CRITICAL, GOMP_critical_start, &unnamed_critical, (void), ())

@@ -111,7 +111,7 @@ static pthread_t watcher;
 static _Atomic(bool) stopping;
 
 /* ---- the guard */
-enum { ANSWER_IN = 5000, COUNTED = 2 };             /* milliseconds */
+enum { ANSWER_IN = 10000, COUNTED = 2 };             /* milliseconds */
 static bool guard, has_threads;                     /* it asks; several threads call MPI, and it asks no more */
 static __thread bool may_fail;                      /* the call that begins is one of C, which gives an error */
 static __thread _Atomic(unsigned) *counted[COUNTED];  /* what it counted already, and takes back where it is refused */
@@ -653,7 +653,7 @@ static void take_answer(struct slot *s) {
         long left = ANSWER_IN - (now.tv_sec - begun.tv_sec) * 1000 - (now.tv_nsec - begun.tv_nsec) / 1000000;
         struct pollfd reached = {.fd = out, .events = POLLIN};
         if (left <= 0 || have == sizeof kept) {
-            turns_off("no answer came in 5 seconds");
+            turns_off("no answer came in 10 seconds");
         } else if (poll(&reached, 1, (int)left) > 0) {
             ssize_t got = recv(out, kept + have, sizeof kept - have, MSG_DONTWAIT);
             have += got > 0 ? (size_t)got : 0;
@@ -1667,11 +1667,16 @@ int MPI_Test(MPI_Request *q, int *flag, MPI_Status *status) {
 }
 
 /* One that is given up is not counted, whether it was taken or not. */
+static void is_given_up(MPI_Request handle) {
+    pthread_mutex_lock(&request_lock);
+    struct request *r = entry_of(handle);
+    r->there = r->there && r->handle != handle;
+    pthread_mutex_unlock(&request_lock);
+}
+
 #define GIVES_UP(name) \
     int MPI_##name(MPI_Request *q) { \
-        pthread_mutex_lock(&request_lock); \
-        entry_of(*q)->there = false; \
-        pthread_mutex_unlock(&request_lock); \
+        is_given_up(*q); \
         return PMPI_##name(q); \
     }
 GIVES_UP(Request_free)
@@ -1795,12 +1800,71 @@ FORTRAN_SEND(mpi_rsend)
 FORTRAN(mpi_recv, (void *a, F n, F t, F from, F g, F h, F st, F e), (a, n, t, from, g, h, st, e),
     struct communicator *c = counts() ? known(PMPI_Comm_f2c(*h)) : NULL; struct slot *s = receives((int)*from, c, HERE),
     if (s != NULL && succeeded(e) && world_rank(c, (int)*from) >= 0) { atomic_fetch_add(&taken[world_rank(c, (int)*from)], 1); } ends(s))
+#define FORTRAN_BEGINS_SEND(name) \
+    FORTRAN(name, (void *a, F n, F t, F to, F g, F h, F q, F e), (a, n, t, to, g, h, q, e), \
+        int peer = counts() ? world_rank(known(PMPI_Comm_f2c(*h)), (int)*to) : -1; unsigned needs = sends_to(peer); struct slot *s = begins(NONE, NULL, peer, needs, HERE), \
+        if (s != NULL && peer >= 0 && succeeded(e)) { remember((struct request){.handle = PMPI_Request_f2c(*q), .kind = SEND, .peer = peer, .needs = needs}); } ends(s))
+FORTRAN_BEGINS_SEND(mpi_isend)
+FORTRAN_BEGINS_SEND(mpi_issend)
+FORTRAN_BEGINS_SEND(mpi_ibsend)
+FORTRAN_BEGINS_SEND(mpi_irsend)
+
+static struct slot *begins_receive(int from, struct communicator *c, const void *at) {
+    receives_from(world_rank(c, from));
+    if (from == MPI_ANY_SOURCE && c != NULL) {
+        atomic_fetch_add(&begun_any, 1);
+    }
+    return begins(NONE, NULL, -1, 0, at);
+}
+
+static void has_begun_receive(int from, struct communicator *c, MPI_Request handle) {
+    int peer = world_rank(c, from);
+    if (c != NULL && (peer >= 0 || from == MPI_ANY_SOURCE)) {
+        remember((struct request){.handle = handle, .kind = peer >= 0 ? RECEIVE : ANY, .peer = peer, .needs = 1, .of = c});
+    }
+}
+
+FORTRAN(mpi_irecv, (void *a, F n, F t, F from, F g, F h, F q, F e), (a, n, t, from, g, h, q, e),
+    struct communicator *c = counts() ? known(PMPI_Comm_f2c(*h)) : NULL; struct slot *s = begins_receive((int)*from, c, HERE),
+    if (s != NULL && succeeded(e)) { has_begun_receive((int)*from, c, PMPI_Request_f2c(*q)); } ends(s))
+
+static struct before before_of_fortran(int n, F q) {
+    struct before b = {0, NULL, NULL};
+    MPI_Request *handles = counts() && n > 0 ? malloc((size_t)n * sizeof *handles) : NULL;
+    for (int i = 0; handles != NULL && i < n; i++) {
+        handles[i] = PMPI_Request_f2c(q[i]);
+    }
+    if (handles != NULL) {
+        b = before_of(n, handles);
+    }
+    free(handles);
+    return b;
+}
+
+/* Of a receive from anybody it is not told from whom it came, so it counts as taken from nobody: a later receive waits for less than it needs, and never for more. */
+static void numbered_are_done(const struct before *b, int done, F which) {
+    for (int i = 0; i < done; i++) {
+        one_is_done(b, (int)which[i] - 1, NULL);
+    }
+}
+
+#define FORTRAN_OF_REQUESTS(name, beginning, count, parameters, words, behind) \
+    FORTRAN(name, parameters, words, struct before b = before_of_fortran(count, q); struct slot *s = beginning, \
+        if (s != NULL && succeeded(e)) { behind; } free_before(b); ends(s))
+#define WAITS_FOR(all) waits(b.n, b.handles, b.known_ones, all, HERE)
+#define LOOKS begins(NONE, NULL, 0, 0, HERE)
+FORTRAN_OF_REQUESTS(mpi_wait, WAITS_FOR(true), 1, (F q, F st, F e), (q, st, e), all_are_done(&b, MPI_STATUSES_IGNORE))
+FORTRAN_OF_REQUESTS(mpi_waitall, WAITS_FOR(true), (int)*n, (F n, F q, F st, F e), (n, q, st, e), all_are_done(&b, MPI_STATUSES_IGNORE))
+FORTRAN_OF_REQUESTS(mpi_waitany, WAITS_FOR(false), (int)*n, (F n, F q, F which, F st, F e), (n, q, which, st, e), numbered_are_done(&b, 1, which))
+FORTRAN_OF_REQUESTS(mpi_waitsome, WAITS_FOR(false), (int)*n, (F n, F q, F done, F which, F st, F e), (n, q, done, which, st, e), numbered_are_done(&b, (int)*done, which))
+FORTRAN_OF_REQUESTS(mpi_test, LOOKS, 1, (F q, F flag, F st, F e), (q, flag, st, e), if (*flag) { all_are_done(&b, MPI_STATUSES_IGNORE); })
+FORTRAN_OF_REQUESTS(mpi_testall, LOOKS, (int)*n, (F n, F q, F flag, F st, F e), (n, q, flag, st, e), if (*flag) { all_are_done(&b, MPI_STATUSES_IGNORE); })
+FORTRAN_OF_REQUESTS(mpi_testany, LOOKS, (int)*n, (F n, F q, F which, F flag, F st, F e), (n, q, which, flag, st, e), if (*flag) { numbered_are_done(&b, 1, which); })
+FORTRAN_OF_REQUESTS(mpi_testsome, LOOKS, (int)*n, (F n, F q, F done, F which, F st, F e), (n, q, done, which, st, e), numbered_are_done(&b, (int)*done, which))
+
+FORTRAN(mpi_request_free, (F q, F e), (q, e), is_given_up(PMPI_Request_f2c(*q)), )
+FORTRAN(mpi_cancel, (F q, F e), (q, e), is_given_up(PMPI_Request_f2c(*q)), )
 #define FORTRAN_UNCOUNTED(name, flag, parameters, words) FORTRAN(name, parameters, words, atomic_store(&flag, true), )
-FORTRAN_UNCOUNTED(mpi_isend, sends_uncounted, (void *a, F n, F t, F to, F g, F h, F q, F e), (a, n, t, to, g, h, q, e))
-FORTRAN_UNCOUNTED(mpi_issend, sends_uncounted, (void *a, F n, F t, F to, F g, F h, F q, F e), (a, n, t, to, g, h, q, e))
-FORTRAN_UNCOUNTED(mpi_ibsend, sends_uncounted, (void *a, F n, F t, F to, F g, F h, F q, F e), (a, n, t, to, g, h, q, e))
-FORTRAN_UNCOUNTED(mpi_irsend, sends_uncounted, (void *a, F n, F t, F to, F g, F h, F q, F e), (a, n, t, to, g, h, q, e))
-FORTRAN_UNCOUNTED(mpi_irecv, receives_uncounted, (void *a, F n, F t, F from, F g, F h, F q, F e), (a, n, t, from, g, h, q, e))
 FORTRAN_UNCOUNTED(mpi_send_init, sends_uncounted, (void *a, F n, F t, F to, F g, F h, F q, F e), (a, n, t, to, g, h, q, e))
 FORTRAN_UNCOUNTED(mpi_ssend_init, sends_uncounted, (void *a, F n, F t, F to, F g, F h, F q, F e), (a, n, t, to, g, h, q, e))
 FORTRAN_UNCOUNTED(mpi_bsend_init, sends_uncounted, (void *a, F n, F t, F to, F g, F h, F q, F e), (a, n, t, to, g, h, q, e))

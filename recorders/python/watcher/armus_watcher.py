@@ -197,6 +197,7 @@ class Text:
     def tried(self, one, two):
         """lock.acquire(), and then try .. finally lock.release()"""
         call = one.value if isinstance(one, ast.Expr) else None
+        call = call.value if isinstance(call, ast.Await) else call
         if isinstance(call, ast.Call) and isinstance(call.func, ast.Attribute) and call.func.attr == 'acquire' and not call.args and isinstance(two, ast.Try):
             for last in two.finalbody:
                 end = last.value if isinstance(last, ast.Expr) else None
@@ -667,21 +668,35 @@ class Watcher:
             return None
         if id(waiter) in keys:
             return Wait('end-of', waiter, [[keys[id(waiter)]]], place, f'end-of-{named(waiter.get_name())}', ends=True)
-        children = [child for child in getattr(waiter, '_children', ()) if not child.done()]
+        kind, children = self.children_of(waiter, frames[key])
         if children:
-            return Wait('gather', waiter, [[keys[id(child)]] for child in children], place, ends=True) if all(id(child) in keys for child in children) else None
+            known = all(id(child) in keys for child in children)
+            return Wait(kind, waiter, [[keys[id(child)] for child in children] if known else None], place, ends=True)
         this = None
         for frame in frames[key]:
             if os.path.basename(os.path.dirname(frame.f_code.co_filename)) != 'asyncio' or os.path.basename(frame.f_code.co_filename) not in ('locks.py', 'queues.py', 'mixins.py'):
                 break
             this = frame.f_locals.get('self', this)
         if this is None:
-            return None
+            return Wait('Future', waiter, [None], place)
         kind = type(this).__name__
         if isinstance(this, sys.modules['asyncio.locks'].Lock):
             holders = [k for k in tasks if self.holds_among(frames[k], this, k == key)]
             return Wait(kind, this, [holders if len(holders) == 1 and this.locked() else None], place)
         return Wait(kind, this, [None], place)
+
+    @staticmethod
+    def children_of(waiter, frames):
+        """The futures for which gather, asyncio.wait or the end of a TaskGroup waits. Any of them may let it go, by its end or by what it raises."""
+        found, kind = getattr(waiter, '_children', ()), 'gather'
+        code = frames[0].f_code if frames else None
+        if code is not None and os.path.basename(os.path.dirname(code.co_filename)) == 'asyncio':
+            values, file = frames[0].f_locals, os.path.basename(code.co_filename)
+            if file == 'tasks.py' and code.co_name == '_wait':
+                found, kind = values.get('fs', ()), 'wait'
+            elif file == 'taskgroups.py' and code.co_name in ('__aexit__', '_aexit'):
+                found, kind = getattr(values.get('self'), '_tasks', ()), 'TaskGroup'
+        return kind, [child for child in found if not child.done()]
 
     # ---- locks
     def lock_at(self, address, candidates):

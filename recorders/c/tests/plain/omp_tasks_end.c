@@ -1,4 +1,5 @@
-/* Comes to its end: tasks that wait for their own tasks and for groups of them, and a lock that each thread takes twice. */
+/* Comes to its end: tasks that wait for their own tasks, for groups of them and for loops, a lock that each thread takes twice, ordered loops, and values that are
+ * handed to all. */
 #include <omp.h>
 #include <stdio.h>
 #include <unistd.h>
@@ -33,7 +34,7 @@ static long leaves(int depth) {
 
 int main(void) {
     omp_init_nest_lock(&twice);
-    long counted = 0;
+    long counted = 0, in_order = 0, handed = 0;
 #pragma omp parallel num_threads(4)
     {
         for (int turn = 0; turn < 20; turn++) {
@@ -48,7 +49,27 @@ int main(void) {
                     adds(16);
                 }
             }
+#pragma omp single
+#pragma omp taskloop grainsize(1)
+            for (int i = 0; i < 8; i++) {
+                usleep(500);
+                adds(16);
+            }
+#pragma omp for ordered schedule(static, 1)
+            for (int i = 0; i < 8; i++) {
+                usleep((unsigned)(8 - i) * 100);
+#pragma omp ordered
+                in_order = in_order * 3 % 1000003 + i;
+            }
+            long value = 0;
+#pragma omp single copyprivate(value)
+            {
+                usleep(1000);
+                value = turn;
+            }
+#pragma omp atomic
+            handed += value;
         }
     }
-    printf("%ld %ld\n", counted, sum);
+    printf("%ld %ld %ld %ld\n", counted, sum, in_order, handed);
 }

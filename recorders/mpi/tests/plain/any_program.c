@@ -1,4 +1,4 @@
-/* A program that a number decides: the ranks come to barriers of one communicator, sums over a second, broadcasts over a third, and send and receive as it says. Each of
+/* A program that a number decides: the ranks come to barriers of one communicator, sums over a second, gather over a third, and send and receive as it says. Each of
  * these is left out by some rank at times. Each rank says when it has ended. */
 #include <mpi.h>
 #include <stdio.h>
@@ -6,9 +6,9 @@
 #include <unistd.h>
 
 enum { STEPS = 8 };
-enum verb { MEETS, SUMS, SHARES, PASSES };
+enum verb { MEETS, SUMS, GATHERS, PASSES };
 
-static MPI_Comm meeting, summing, sharing;
+static MPI_Comm meeting, summing, gathering;
 
 static void say(int me, const char *verb) {
     char line[40];
@@ -29,7 +29,7 @@ static void passes(int me, int size, int from, int far) {
 }
 
 static void acts(int me, int size, enum verb verb, int number) {
-    int sum = 0;
+    int sum = 0, all[16];
     switch (verb) {
     case MEETS:
         MPI_Barrier(meeting);
@@ -37,8 +37,8 @@ static void acts(int me, int size, enum verb verb, int number) {
     case SUMS:
         MPI_Allreduce(&number, &sum, 1, MPI_INT, MPI_SUM, summing);
         break;
-    case SHARES:
-        MPI_Bcast(&number, 1, MPI_INT, 0, sharing);
+    case GATHERS:
+        MPI_Allgather(&number, 1, MPI_INT, all, 1, MPI_INT, gathering);
         break;
     default:
         passes(me, size, number % size, 1 + number / size % 2);
@@ -52,7 +52,7 @@ int main(int count, char **words) {
     MPI_Comm_size(MPI_COMM_WORLD, &size);
     MPI_Comm_dup(MPI_COMM_WORLD, &meeting);
     MPI_Comm_dup(MPI_COMM_WORLD, &summing);
-    MPI_Comm_dup(MPI_COMM_WORLD, &sharing);
+    MPI_Comm_dup(MPI_COMM_WORLD, &gathering);
     say(me, "begins");
     srand(count > 1 ? (unsigned)atoi(words[1]) : 0);
     for (int step = 0; step < STEPS; step++) {
