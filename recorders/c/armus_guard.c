@@ -33,7 +33,7 @@
 #include <time.h>
 #include <unistd.h>
 
-enum { TASKS = 65536, KEEPERS = 1024, BARRIERS = 1024, OF_TASK = 16, LINE = 512, PLACE = 260, SECONDS = 2 };
+enum { TASKS = 65536, KEEPERS = 1024, BARRIERS = 1024, OF_TASK = 16, LINE = 512, PLACE = 260, SECONDS = 10 };
 
 /* A thread, as the monitor knows it. */
 struct task {
@@ -344,7 +344,7 @@ static bool may_wait(struct task *t) {
             left = (struct timespec){left.tv_sec - 1, left.tv_nsec + 1000000000L};
         }
         if (left.tv_sec < 0) {
-            turns_off("no answer came in 2 seconds");
+            turns_off("no answer came in 10 seconds");
             break;
         }
         unsigned answered = atomic_load(&t->answered);

@@ -111,7 +111,7 @@ static pthread_t watcher;
 static _Atomic(bool) stopping;
 
 /* ---- the guard */
-enum { ANSWER_IN = 5000, COUNTED = 2 };             /* milliseconds */
+enum { ANSWER_IN = 10000, COUNTED = 2 };             /* milliseconds */
 static bool guard, has_threads;                     /* it asks; several threads call MPI, and it asks no more */
 static __thread bool may_fail;                      /* the call that begins is one of C, which gives an error */
 static __thread _Atomic(unsigned) *counted[COUNTED];  /* what it counted already, and takes back where it is refused */
@@ -653,7 +653,7 @@ static void take_answer(struct slot *s) {
         long left = ANSWER_IN - (now.tv_sec - begun.tv_sec) * 1000 - (now.tv_nsec - begun.tv_nsec) / 1000000;
         struct pollfd reached = {.fd = out, .events = POLLIN};
         if (left <= 0 || have == sizeof kept) {
-            turns_off("no answer came in 5 seconds");
+            turns_off("no answer came in 10 seconds");
         } else if (poll(&reached, 1, (int)left) > 0) {
             ssize_t got = recv(out, kept + have, sizeof kept - have, MSG_DONTWAIT);
             have += got > 0 ? (size_t)got : 0;

@@ -13,7 +13,7 @@ import struct
 import sys
 import threading
 
-LIMIT = 2.0                 # so many seconds an answer may take
+LIMIT = 10.0                # so many seconds an answer may take, and the writing of a line
 STANDARD = os.path.dirname(os.__file__) + os.sep
 ADDED = (os.path.join(STANDARD, 'site-packages'), os.path.join(STANDARD, 'dist-packages'))
 real_lock, start_thread = _thread.allocate_lock, _thread.start_new_thread
