@@ -1,5 +1,5 @@
 -- A call that says that the trace was read to its end.
-use Rattle.std.proofs.Common.{◌≡◌, ℕ, ◌<◌, true, false, not, Some, None, Option, List, [], ◌∷◌, ◌++◌, refl, sym, ◌∙◌, ap, subst, inl, inr, arith}
+use Rattle.std.proofs.Common.{◌≡◌, ℕ, ◌<◌, true, false, not, Some, None, Option, List, [], ◌∷◌, ◌++◌, sym, ◌∙◌, ap, inl, inr, arith}
 use Rattle.std.specs.Io.KnownBytes.{Consumes, IsAtEnd}
 use Rattle.monitor_laws.specs.Faults.{LineFault, first_fault}
 use Rattle.monitor_laws.specs.Lines.{TraceLine}

@@ -5,7 +5,7 @@ use Rattle.std.specs.BTreeSet.{BTreeSet, IsLowerBound, IsUpperBound, Updates, co
 use Rattle.std.specs.Cmp.{tied_then}
 use Rattle.std.specs.List.{list_any}
 use Rattle.std.specs.Ordering.{is_eq, is_gt, is_lt, nat_cmp, ordering_then}
-use Rattle.std.proofs.lemmas.Bool.{cases_Bool, ltb-false, ltb-true}
+use Rattle.std.proofs.lemmas.Bool.{cases_Bool, ltb-false}
 use Rattle.std.proofs.lemmas.Bool.Decides.{nat_tests}
 use Rattle.monitor_members.specs.Noted.{has_pair}
 

@@ -70,8 +70,8 @@ impl PhaserIndex {
         }
     }
 
-    /// The pairs of a phase and a number that are noted at phaser p, in their order; none where nobody is noted there.
-    pub fn at(&self, p: &[u8]) -> Option<&BTreeSet<(u32, u64)>>
+    // The pairs of a phase and a number that are noted at phaser p, in their order; none where nobody is noted there.
+    fn at(&self, p: &[u8]) -> Option<&BTreeSet<(u32, u64)>>
         ensures { pairs_of (option_copied result) ≡ pairs_at self.now.by_phaser p.now }
     {
         self.by_phaser.get(p)

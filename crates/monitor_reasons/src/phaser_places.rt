@@ -1,10 +1,9 @@
-// Where the members of phasers stand in the list, and those who wait there; and the wildcards that one task plays.
-ghost use Rattle.std.specs.Prelude.{◌≡◌, ◌==◌, ◌++◌, ◌∷◌, [], ℕ, Contains, List, true, false, IfOk, OnOk, bytes_eq, is_some};
+// Where those stand in the list who wait at phasers, and the wildcards that one task plays.
+ghost use Rattle.std.specs.Prelude.{◌≡◌, ◌==◌, ◌++◌, ◌∷◌, [], ℕ, Contains, List, true, false, IfOk, OnOk, bytes_eq};
 ghost use Rattle.std.specs.List.{list_any};
-ghost use Rattle.monitor_laws.specs.Faults.{phase_on};
 ghost use Rattle.monitor_laws.specs.States.{Waiting};
 ghost use Rattle.monitor_state.specs.Values.{condition_value};
-ghost use Rattle.monitor_reasons.specs.inside.PhaserPlaces.{ArePhaserPlaces, HaveMemberPlaces, HaveWaitingPlaces, HaveWildcardPlaces, places_named, places_numbered};
+ghost use Rattle.monitor_reasons.specs.inside.PhaserPlaces.{ArePhaserPlaces, HaveWaitingPlaces, HaveWildcardPlaces, places_named, places_numbered};
 
 use crate::stopping::lone_task;
 use armus_base::NoMemory;
@@ -15,8 +14,6 @@ use std::collections::HashMap;
 /// Places of the list.
 #[derive(Drop)]
 pub(crate) struct PhaserPlaces<'a> {
-    /// Where the members of each phaser stand.
-    pub(crate) members: HashMap<&'a [u8], Vec<usize>>,
     /// Where those stand who wait at each phaser.
     pub(crate) waiting: HashMap<&'a [u8], Vec<usize>>,
     /// Where the wildcards stand that one task alone may play, by its number.
@@ -52,36 +49,6 @@ fn add_named<'a>(
     group.push(place)?;
     groups.insert(name, group)?;
     Ok(())
-}
-
-// Adds the place of u under the names of the phasers of which it is a member.
-fn add_member<'a>(
-    groups: &mut HashMap<&'a [u8], Vec<usize>>,
-    alloc: Global,
-    u: &'a ListedParticipant,
-    place: usize,
-) -> Result<(), NoMemory>
-    ensures own { OnOk result ((q : List ℕ) → is_some (phase_on u.now q) ≡ true → Contains (places_named groups.new q) place) }
-    ensures others { OnOk result ((q : List ℕ) (i : ℕ) → Contains (places_named groups.old q) i → Contains (places_named groups.new q) i) }
-{
-    for membership in u.memberships().as_slice() {
-        add_named(groups, alloc, membership.phaser(), place)?;
-    }
-    Ok(())
-}
-
-// Where the members of all phasers stand.
-fn member_places(
-    alloc: Global,
-    list: &[ListedParticipant],
-) -> Result<HashMap<&[u8], Vec<usize>>, NoMemory>
-    ensures { IfOk result (λ groups. HaveMemberPlaces list.now (places_named groups)) }
-{
-    let mut groups = HashMap::new(alloc);
-    for (place, u) in list.iter().enumerate() {
-        add_member(&mut groups, alloc, u, place)?;
-    }
-    Ok(groups)
 }
 
 // Adds the place of who is in this condition under the name of the phaser at which it waits, if it does.
@@ -184,12 +151,7 @@ pub(crate) fn phaser_places(
 ) -> Result<PhaserPlaces<'_>, NoMemory>
     ensures { IfOk result (λ places. ArePhaserPlaces list.now places) }
 {
-    let members = member_places(alloc, list)?;
     let waiting = waiting_places(alloc, list)?;
     let wildcards = wildcard_places(alloc, list)?;
-    Ok(PhaserPlaces {
-        members,
-        waiting,
-        wildcards,
-    })
+    Ok(PhaserPlaces { waiting, wildcards })
 }

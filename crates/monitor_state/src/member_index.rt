@@ -39,18 +39,4 @@ impl MemberIndex {
     {
         self.waiting.has_above(p, n)
     }
-
-    /// Those who do not run, by their phases.
-    pub fn resting(&self) -> &PhaserIndex
-        ensures { result.now ≡ self.now.resting }
-    {
-        &self.resting
-    }
-
-    /// Those who wait, by the phases for which they wait.
-    pub fn waiting(&self) -> &PhaserIndex
-        ensures { result.now ≡ self.now.waiting }
-    {
-        &self.waiting
-    }
 }

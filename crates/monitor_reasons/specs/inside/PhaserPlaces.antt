@@ -1,11 +1,10 @@
--- Where the members of phasers stand in the list, and those who wait there; and the wildcards that one task plays.
-use Rattle.std.specs.Prelude.{◌≡◌, ℕ, ◌<◌, ◌==◌, true, Option, Some, None, List, [], Contains, bytes_eq, is_some, length}
+-- Where those stand in the list who wait at phasers, and the wildcards that one task plays.
+use Rattle.std.specs.Prelude.{◌≡◌, ℕ, ◌<◌, ◌==◌, true, Option, Some, None, List, [], Contains, bytes_eq, length}
 use Rattle.std.specs.Borrow.{Bor}
 use Rattle.std.specs.Global.{Vec}
 use Rattle.std.specs.HashMap.{HashMap, get_by}
 use Rattle.std.specs.List.{list_any}
 use Rattle.monitor_laws.specs.States.{Participant, Waiting}
-use Rattle.monitor_laws.specs.Faults.{phase_on}
 use Rattle.monitor_words.specs.Stops.{lone_task}
 use Rattle.monitor_reasons.specs.Found.{participant_at}
 use Rattle.monitor_reasons.specs.declared.phaser_places.PhaserPlaces.{PhaserPlaces}
@@ -23,10 +22,6 @@ places_named groups q = places_in_group (get_by (λ k. bytes_eq q k.now) groups)
 abbrev pub places_numbered : {S : Type 0} → HashMap ℕ (Vec ℕ) S → ℕ → List ℕ
 places_numbered groups k = places_in_group (get_by (λ j. k == j) groups)
 
--- each member of a phaser stands at a place under its name
-abbrev pub HaveMemberPlaces : List Participant → (List ℕ → List ℕ) → Type 0
-HaveMemberPlaces us group = (i : ℕ) (q : List ℕ) → i < length us → is_some (phase_on (participant_at us i) q) ≡ true → Contains (group q) i
-
 -- whoever waits at a phaser stands at a place under its name
 abbrev pub HaveWaitingPlaces : List Participant → (List ℕ → List ℕ) → Type 0
 HaveWaitingPlaces us group = (i : ℕ) (q : List ℕ) (n : ℕ) → i < length us → (participant_at us i).condition ≡ Waiting q n → Contains (group q) i
@@ -35,8 +30,7 @@ HaveWaitingPlaces us group = (i : ℕ) (q : List ℕ) (n : ℕ) → i < length u
 abbrev pub HaveWildcardPlaces : List Participant → (ℕ → List ℕ) → Type 0
 HaveWildcardPlaces us group = (i k : ℕ) → i < length us → list_any (λ j. j == k) (lone_task (participant_at us i).condition) ≡ true → Contains (group k) i
 
--- all of these
+-- both of these
 pub record ArePhaserPlaces (us : List Participant) (places : PhaserPlaces) : Type 0 where
-  pub members : HaveMemberPlaces us (places_named places.members)
   pub waiting : HaveWaitingPlaces us (places_named places.waiting)
   pub wildcards : HaveWildcardPlaces us (places_numbered places.wildcards)

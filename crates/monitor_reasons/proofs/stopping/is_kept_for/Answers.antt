@@ -1,4 +1,4 @@
-use Rattle.std.proofs.Common.{◌≡◌, ◌==◌, ◌&&◌, sym, ◌∙◌, refl, eq-eqb}
+use Rattle.std.proofs.Common.{◌==◌, ◌&&◌, sym, ◌∙◌, refl, eq-eqb}
 use Rattle.std.specs.List.{list_any}
 use Rattle.std.proofs.lemmas.Bool.{and_from}
 use Rattle.monitor_laws.proofs.Filters.{any_from}
