@@ -1,11 +1,13 @@
 -- When a task would not be dead: its event is impeded by no published task, or it impedes no event on which one is published.
-use Rattle.std.proofs.Common.{◌≡◌, ◌≢◌, ℕ, ◌<◌, Bool, true, false, ◌==◌, if◌then◌else◌, Some, arith, sym, ◌∙◌, subst, refl}
+use Rattle.std.proofs.Common.{◌≡◌, ◌≢◌, ℕ, ◌<◌, ◌≤◌, ◌+◌, Bool, true, false, ◌==◌, if◌then◌else◌, Some, arith, sym, ◌∙◌, subst, refl, inl, inr}
+use Rattle.std.proofs.lemmas.Bool.{cases_eq, cases_lt}
 use Rattle.std.proofs.lemmas.Bool.Decides.{nat_tests}
 use Rattle.armus_base.specs.declared.event.Event.{Event}
 use Rattle.armus_base.specs.Deadlocks.{IsAtPhase, IsImpededWithin, IsPublishedOn, NobodyDead, WouldBeDead}
 use Rattle.armus_base.specs.States.{IsReached, State, if_published}
 use Rattle.armus_base.proofs.Steps.{updated_other, updated_same}
 use Rattle.pl_core.specs.calls.HighestPhases.{ImpedesNobody, IsPublishedImpeder}
+use Rattle.avoider.specs.inside.GoingOn.{ImpedersGoOn}
 
 -- a set without one task
 without_in : (u t : ℕ) (x : Bool) → u ≢ t → x ≡ true → (if u == t then false else x) ≡ true
@@ -22,18 +24,23 @@ module _ (s : State) (t : ℕ) (e : Event) where
   own_event : (f : Event) → supposed.published t ≡ Some f → e ≡ f
   own_event f waits = (let own : Some e ≡ Some f = sym (updated_same s.published t t (Some e) refl) ∙ waits in cc)
 
-  pub lives_unimpeded : ((u : ℕ) → IsPublishedImpeder supposed e u → ⊥) → WouldBeDead s t e → ⊥
-  lives_unimpeded nobody would =
+  -- each published impeder of its event waits on one that is reached
+  pub lives_behind : ((u : ℕ) → IsPublishedImpeder supposed e u → (f : Event) → supposed.published u ≡ Some f → IsReached s f) → WouldBeDead s t e → ⊥
+  lives_behind free would =
       let link = would.deadlocked.each t would.inside in
       let back = sym (own_event link.event link.waits) in
       let next = would.deadlocked.each link.by link.inside in
-      nobody link.by (
+      let impedes : IsPublishedImpeder supposed e link.by = (
         next.event,
         next.waits,
         link.phase,
         subst (λ v. supposed.phases link.by v.p.0 ≡ Some link.phase) back link.impedes,
         subst (λ v. link.phase < v.n) back link.below,
-      )
+      ) in
+      absurd (let least = free link.by impedes next.event next.waits next.by next.phase next.impedes in let low = next.below in omega arith)
+
+  pub lives_unimpeded : ((u : ℕ) → IsPublishedImpeder supposed e u → ⊥) → WouldBeDead s t e → ⊥
+  lives_unimpeded nobody = lives_behind (λ u impedes. absurd (nobody u impedes))
 
   pub lives_reached : IsReached s e → WouldBeDead s t e → ⊥
   lives_reached reached = lives_unimpeded (λ u impedes. let low = impedes.4 in let least = reached u impedes.2 impedes.3 in omega arith)
@@ -75,3 +82,25 @@ module _ (s : State) (t : ℕ) (e : Event) where
         in let low = link.below in omega arith) in
         let inside = in_rest link.by other link.inside in
         nobody link.by (record { tasks = rest; inside = inside; deadlocked = record { some = (link.by, inside); each = still } })
+
+-- an impeder below the number of the tasks, and one more
+pub impeders_more :
+    (s : State) (t : ℕ) (e : Event) (k u : ℕ) → ImpedersGoOn s t e k → ((v : ℕ) → k ≤ v → v < u → IsPublishedImpeder (if_published s t e) e v → ⊥) → u ≢ t →
+    ((f : Event) → s.published u ≡ Some f → IsReached s f) → ImpedersGoOn s t e (u + 1)
+impeders_more s t e k u before none other goes v l impedes f waits =
+    elim (cases_eq v u) [
+      | inl same ↦ goes f (sym (updated_other s.published t u (Some e) other) ∙ subst (λ x. (if_published s t e).published x ≡ Some f) same waits)
+      | inr apart ↦
+          elim (cases_lt v k) [
+            | inl early ↦ before v early impedes f waits
+            | inr late ↦ absurd (none v late (omega (arith, apart)) impedes)
+          ]
+    ]
+
+pub impeders_all :
+    (s : State) (t : ℕ) (e : Event) (k n : ℕ) → ImpedersGoOn s t e k → ((v : ℕ) → k ≤ v → IsPublishedImpeder (if_published s t e) e v → ⊥) → ImpedersGoOn s t e n
+impeders_all s t e k n before none v l impedes f waits =
+    elim (cases_lt v k) [
+      | inl early ↦ before v early impedes f waits
+      | inr late ↦ absurd (none v late impedes)
+    ]

@@ -3,3 +3,4 @@ pub mod Concluded
 pub mod Followings
 pub mod Waiting
 pub mod Walks
+pub mod GoingOn

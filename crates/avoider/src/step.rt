@@ -1,13 +1,15 @@
 // The step of a task that stands at an await, in a world where nobody is dead.
-ghost use Rattle.std.specs.Prelude.{◌≡◌, ◌<◌, length, IfOk, IsTrue, MatchOption, OnErr};
+ghost use Rattle.std.specs.Prelude.{◌≡◌, ◌≢◌, ℕ, ◌<◌, Some, length, IfOk, IsTrue, MatchOption, OnErr};
 ghost use Rattle.armus_base.specs.CheckedPlans.{IsCheckedPlan};
 ghost use Rattle.armus_base.specs.Deadlocks.{NobodyDead, WouldBeDead};
 ghost use Rattle.armus_base.specs.Runs.{IsReachable};
+ghost use Rattle.armus_base.specs.States.{IsReached};
 ghost use Rattle.armus_base.specs.calls.Statuses.{IsInOrder};
 ghost use Rattle.armus_base.specs.declared.event.Event.{Event};
 ghost use Rattle.pl_core.specs.calls.Stands.{IsAtAwaitOf};
 ghost use Rattle.pl_core.specs.calls.Worlds.{places_of, state_of};
 ghost use Rattle.avoider.specs.calls.Decisions.{IsBeforeStep, IsDecision, IsOutcome, IsPublished, supposed_statuses};
+ghost use Rattle.avoider.specs.inside.GoingOn.{ImpedersGoOn};
 ghost use Rattle.avoider.specs.declared.decision.Decision.TheVariants.{Published, Refused};
 
 use crate::Decision;
@@ -83,7 +85,7 @@ fn death_if(
 }
 
 // Whether a look at the phasers shows that the task, were it published on the event, would lie on no cycle: its event is reached, or it impedes
-// no event that a task awaits, or no published task impedes its event. Where nobody is dead, a dead task would lie on a cycle through itself.
+// no event that a task awaits, or each published task that impedes its event may go on. Where nobody is dead, a dead task would lie on a cycle through itself.
 fn is_on_no_cycle(world: &World, t: TaskId, event: Event) -> bool
     requires task { t.0 < length world.now.plan.parents }
     requires phaser { event.p.0 < length world.now.plan.makers }
@@ -96,9 +98,38 @@ fn is_on_no_cycle(world: &World, t: TaskId, event: Event) -> bool
     if world.impedes_nobody(t, event) {
         return true;
     }
-    match world.published_impeder(t, event) {
-        None => true,
-        Some(_) => false,
+    impeders_go_on(world, t, event)
+}
+
+// Whether each published task that impedes the event, with task `t` counted as published on it, waits on an event that is reached.
+fn impeders_go_on(world: &World, t: TaskId, event: Event) -> bool
+    requires task { t.0 < length world.now.plan.parents }
+    requires phaser { event.p.0 < length world.now.plan.makers }
+    ensures { IsTrue result → (n : ℕ) → ImpedersGoOn (state_of world.now) t.0 event n }
+{
+    // the plan is checked
+    let _plan = world.plan();
+    let mut next = 0;
+    'impeders: while let Some(u) = world.next_impeder(event, TaskId(next), t, event) {
+        if !goes_on(world, u, t) {
+            return false;
+        }
+        next = u.0 + 1;
+    }
+    true
+}
+
+// Whether task `u`, which is not task `t`, waits on an event that is reached.
+fn goes_on(world: &World, u: TaskId, t: TaskId) -> bool
+    requires task { u.0 < length world.now.plan.parents }
+    ensures { IsTrue result → (u.0 ≢ t.0) × ((f : Event) → (state_of world.now).published u.0 ≡ Some f → IsReached (state_of world.now) f) }
+{
+    if u == t {
+        return false;
+    }
+    match world.published(u) {
+        Some(event) => world.is_reached(event),
+        None => false,
     }
 }
 

@@ -14,3 +14,4 @@ pub mod DeadOrNot
 pub mod NextWorlds
 pub mod SerialExists
 pub mod AvoidedRests
+pub mod HasMoved

@@ -1,10 +1,17 @@
 -- Rounds of turns in a world: where none made a step nobody may go on.
-use Rattle.std.proofs.Common.{◌≡◌, ℕ, zero, suc, ◌<◌, ◌⊎◌, Bool, true, false, length, arith, sym, ◌∙◌, subst, refl, inl, inr}
+use Rattle.std.proofs.Common.{◌≡◌, ℕ, zero, suc, ◌<◌, ◌≤◌, ◌+◌, ◌-◌, ◌⊎◌, Bool, true, false, Option, Some, None, length, arith, sym, ◌∙◌, subst, refl, inl, inr}
 use Rattle.std.proofs.lemmas.Bool.{cases_eq, false≢true}
+use Rattle.std.specs.Prelude.{IfSome, MatchOption}
+use Rattle.armus_base.specs.declared.ids.TaskId.{TaskId}
+use Rattle.armus_base.specs.CheckedPlans.{IsCheckedPlan}
+use Rattle.armus_base.specs.Runs.{IsReachable}
 use Rattle.armus_base.proofs.Stepping.{acting_forked}
 use Rattle.pl_core.specs.calls.Stands.{IsEnabled}
-use Rattle.pl_core.specs.calls.Worlds.{WorldValue, state_of}
-use Rattle.world_runs.specs.inside.WorldRounds.{GoesBy, HasTurnIf, HaveTurns, IsRoundBy, LeavesLess, stays, steps}
+use Rattle.pl_core.specs.calls.Worlds.{WorldValue, places_of, state_of}
+use Rattle.world_runs.specs.inside.WorldRounds.{GoesBy, HasTurnIf, HaveTurns, IsNextTurn, IsRoundBy, LeavesLess, stays, steps}
+use Rattle.run_queue.specs.declared.run_queue.RunQueue.{RunQueue}
+use Rattle.run_queue.specs.calls.RunQueues.{HasTurnLeft, IsRunQueue}
+use Rattle.run_queue.proofs.Queued.{no_turn}
 use Rattle.world_runs.proofs.Left.{left_at_most}
 
 -- who may go on is forked
@@ -71,3 +78,43 @@ module _ (makes : WorldValue → WorldValue → ℕ → Type 0) where
       HasTurnIf makes k has mid new acted → (both ≡ false → (before ≡ false) × (acted ≡ false)) → HaveTurns makes first (suc k) new both
   turns_more first mid new k has before acted both forked early turn none =
       (mid, before, acted, early, subst (λ b. HasTurnIf makes k b mid new acted) (sym forked) turn, none)
+
+  -- a task that may not act, or was not forked, has no part in a round
+  turn_none : (first mid : WorldValue) (u : ℕ) → ((state_of first).forked u ≡ true → IsEnabled mid u → ⊥) → HasTurnIf makes u ((state_of first).forked u) mid mid false
+  turn_none first mid u rests = by ((state_of first).forked u) refl
+    where
+      by : (b : Bool) → (state_of first).forked u ≡ b → HasTurnIf makes u b mid mid false
+      by true is = record { goes = stays; ended = rests is }
+      by false is = (refl, refl)
+
+  skip_by :
+      (first mid : WorldValue) (k d : ℕ) (moved : Bool) → HaveTurns makes first k mid moved →
+      ((u : ℕ) → k ≤ u → u < k + d → (state_of first).forked u ≡ true → IsEnabled mid u → ⊥) → HaveTurns makes first (k + d) mid moved
+  skip_by first mid k zero moved turns rest = subst (λ n. HaveTurns makes first n mid moved) (let e : k ≡ k + 0 = omega arith in e) turns
+  skip_by first mid k (suc d) moved turns rest =
+      let before = skip_by first mid k d moved turns (λ u a b. rest u a (omega arith)) in
+      subst (λ n. HaveTurns makes first n mid moved) (let e : suc (k + d) ≡ k + suc d = omega arith in e)
+      (turns_more first mid mid (k + d) ((state_of first).forked (k + d)) moved false moved refl before
+      (turn_none first mid (k + d) (rest (k + d) (omega arith) (omega arith))) (λ e. (e, refl)))
+
+  -- those up to place n are passed over
+  pub skip_turns :
+      (first mid : WorldValue) (k n : ℕ) (moved : Bool) → k ≤ n → HaveTurns makes first k mid moved →
+      ((u : ℕ) → k ≤ u → u < n → (state_of first).forked u ≡ true → IsEnabled mid u → ⊥) → HaveTurns makes first n mid moved
+  skip_turns first mid k n moved l turns rest =
+      let e : k + (n - k) ≡ n = omega arith in
+      subst (λ m. HaveTurns makes first m mid moved) e (skip_by first mid k (n - k) moved turns (λ u a b. rest u a (omega (arith, e))))
+
+-- what the search for the next turn tells
+pub next_turn_is :
+    (first w : WorldValue) (q : RunQueue) (k : ℕ) → IsCheckedPlan w.plan → IsReachable w.plan (places_of w) → IsRunQueue first w q → (found : Option TaskId) →
+    MatchOption found ((t : ℕ) → k ≤ t → HasTurnLeft q t → ⊥) (λ t. (k ≤ t.0) × HasTurnLeft q t.0 × ((u : ℕ) → k ≤ u → u < t.0 → HasTurnLeft q u → ⊥)) →
+    IfSome found (λ t. t.0 < length w.plan.parents) → IsNextTurn first w q k found
+next_turn_is first w q k checked reach h None none inside = record {
+  ready = tt;
+  passed = λ u a l b f. no_turn first w q checked reach h u l f (none u a);
+}
+next_turn_is first w q k checked reach h (Some t) some inside = record {
+  ready = (some.0, inside, some.1, h.turns t.0 some.1);
+  passed = λ u a l b f. no_turn first w q checked reach h u l f (some.2 u a (b t refl));
+}

@@ -15,6 +15,7 @@ use crate::world_round::round;
 use armus_base::{Final, Gate, NoMemory, Plan, Still};
 use avoider::{Judge, Judging};
 use pl_core::{Place, World};
+use run_queue::RunQueue;
 use std::alloc::Global;
 
 /// The world in which a run ends, and the value of its state.
@@ -111,9 +112,8 @@ fn end_by<'p, S: NextStep, G: Gate>(
     requires keeps { S.keeps world }
     ensures end { IfOk result (HasEndedBy S.makes S.keeps world.entry) }
 {
-    let count = world.plan().tasks() as usize;
-    let mut forked = vec![in alloc; false; count]?;
-    'rounds: while round(alloc, &mut world, &mut forked, step, gate)? {}
+    let mut queue = RunQueue::start(alloc, &world)?;
+    'rounds: while round(alloc, &mut world, &mut queue, step, gate)? {}
     let end = world.finish(alloc)?;
     Ok(WorldEnd { world, end })
 }

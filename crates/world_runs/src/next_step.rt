@@ -4,6 +4,7 @@ ghost use Rattle.armus_base.specs.CheckedPlans.{IsCheckedPlan};
 ghost use Rattle.armus_base.specs.Runs.{IsReachable};
 ghost use Rattle.pl_core.specs.calls.Stands.{IsEnabled};
 ghost use Rattle.pl_core.specs.calls.Worlds.{places_of};
+ghost use Rattle.run_queue.specs.calls.StepKinds.{HasMoved};
 ghost use Rattle.world_runs.specs.inside.WorldRounds.{LeavesLess};
 
 use armus_base::{NoMemory, TaskId};
@@ -29,6 +30,7 @@ pub(crate) trait NextStep {
         requires reachable { IsReachable world.old.plan (places_of world.old) }
         requires keeps { keeps world.old }
         ensures made { OnOk result (makes world.old world.new t.0) }
+        ensures moved { OnOk result (HasMoved world.old world.new t.0) }
         ensures left { OnOk result (LeavesLess keeps world.old world.new true) };
 }
 

@@ -1,82 +1,77 @@
 // Rounds of turns in a world.
-ghost use Rattle.std.specs.Prelude.{◌≡◌, ◌<◌, ◌↔◌, IfOk, IsTrue, length};
+ghost use Rattle.std.specs.Prelude.{◌≡◌, ◌<◌, ℕ, IfOk, MatchOption, OnOk, length};
 ghost use Rattle.armus_base.specs.CheckedPlans.{IsCheckedPlan};
 ghost use Rattle.armus_base.specs.Runs.{IsReachable};
-ghost use Rattle.pl_core.specs.calls.Worlds.{places_of, state_of};
 ghost use Rattle.pl_core.specs.calls.Stands.{IsEnabled};
-ghost use Rattle.world_runs.specs.inside.Turns.{TellsForked};
-ghost use Rattle.world_runs.specs.inside.WorldRounds.{HasTurnIf, IsRoundBy, LeavesLess};
+ghost use Rattle.pl_core.specs.calls.Worlds.{WorldValue, places_of};
+ghost use Rattle.run_queue.specs.calls.RunQueues.{HasTurnLeft, IsRunQueue};
+ghost use Rattle.run_queue.specs.calls.StepKinds.{IsOfKind};
+ghost use Rattle.world_runs.specs.inside.WorldRounds.{IsNextTurn, IsRoundBy, IsTurnBy, LeavesLess};
 
 use crate::next_step::NextStep;
 use armus_base::{Gate, NoMemory, Point, TaskId};
-use pl_core::{Stand, World};
+use pl_core::World;
+use run_queue::{RunQueue, StepKind, step_kind};
 use std::alloc::Global;
 
-/// One turn of each task that is forked now, in order of number, by such steps; answers whether one was made. The gate is called before each op.
+/// One turn of each task that is forked now, in order of number, by such steps; answers whether one was made. The gate is called before each op. It looks at
+/// no task that may not act.
 pub(crate) fn round<S: NextStep, G: Gate>(
     alloc: Global,
     world: &mut World,
-    forked: &mut [bool],
+    queue: &mut RunQueue,
     step: &mut S,
     gate: &G,
 ) -> Result<bool, NoMemory>
-    requires forked_len { length forked.old ≡ length world.old.plan.parents }
     requires keeps { S.keeps world.old }
+    requires queue { IsRunQueue world.old world.old queue.old }
     ensures left { IfOk result (LeavesLess S.keeps world.old world.new) }
     ensures round { IfOk result (IsRoundBy S.makes world.old world.new) }
+    ensures queue { OnOk result (IsRunQueue world.new world.new queue.new) }
 {
-    mark_forked(world, forked);
-    turns(alloc, world, forked, step, gate)
+    let moved = turns(alloc, world, queue, step, gate)?;
+    queue.round_ended();
+    Ok(moved)
 }
 
-// Notes which tasks are forked.
-fn mark_forked(world: &World, forked: &mut [bool])
-    requires len { length forked.old ≡ length world.now.plan.parents }
-    ensures forked { TellsForked world.now forked.new }
-{
-    for t in 0..world.plan().tasks() {
-        forked[t as usize] = is_forked(world, TaskId(t));
-    }
-}
-
-// Whether a task is forked.
-fn is_forked(world: &World, t: TaskId) -> bool
-    requires task { t.0 < length world.now.plan.parents }
-    ensures { (state_of world.now).forked t.0 ≡ result }
-{
-    match world.stand(t) {
-        Stand::Unforked => false,
-        _ => true,
-    }
-}
-
-// One turn of each noted task, in order of number; answers whether a step was made.
+// One turn of each task that has one, in order of number; answers whether a step was made.
 fn turns<S: NextStep, G: Gate>(
     alloc: Global,
     world: &mut World,
-    forked: &[bool],
+    queue: &mut RunQueue,
     step: &mut S,
     gate: &G,
 ) -> Result<bool, NoMemory>
-    requires forked { TellsForked world.old forked.now }
-    requires forked_len { length forked.now ≡ length world.old.plan.parents }
     requires keeps { S.keeps world.old }
+    requires queue { IsRunQueue world.old world.old queue.old }
     ensures left { IfOk result (LeavesLess S.keeps world.old world.new) }
     ensures round { IfOk result (IsRoundBy S.makes world.old world.new) }
+    ensures queue { OnOk result (IsRunQueue world.old world.new queue.new) }
 {
     let mut moved = false;
-    for t in 0..world.plan().tasks() {
-        let acted = turn(forked[t as usize], alloc, world, TaskId(t), step, gate)?;
+    let mut from = 0;
+    'turns: while let Some(t) = next_turn(world, queue, from) {
+        let acted = turn(alloc, world, queue, t, step, gate)?;
         moved = moved || acted;
+        from = t.0 + 1;
     }
     Ok(moved)
 }
 
-// The turn of a task, if it was forked before the round: it goes on until it may not; answers whether a step was made.
+// The first task from this number on that has a turn; who was forked when the round began and is passed over may not act.
+fn next_turn(world: &World, queue: &RunQueue, from: u32) -> Option<TaskId>
+    ensures next { (first : WorldValue) → IsRunQueue first world.now queue.now → IsNextTurn first world.now queue.now from result }
+{
+    // the plan is checked
+    let _plan = world.plan();
+    queue.next(from)
+}
+
+// The turn of a task: it goes on until it may not; answers whether a step was made.
 fn turn<S: NextStep, G: Gate>(
-    forked: bool,
     alloc: Global,
     world: &mut World,
+    queue: &mut RunQueue,
     t: TaskId,
     step: &mut S,
     gate: &G,
@@ -84,32 +79,30 @@ fn turn<S: NextStep, G: Gate>(
     requires task { t.0 < length world.old.plan.parents }
     requires keeps { S.keeps world.old }
     ensures left { IfOk result (LeavesLess S.keeps world.old world.new) }
-    ensures turn { IfOk result (HasTurnIf S.makes t.0 forked world.old world.new) }
+    ensures turn { IfOk result (IsTurnBy S.makes t.0 world.old world.new) }
+    ensures queue { OnOk result ((first : WorldValue) → HasTurnLeft queue.old t.0 → IsRunQueue first world.old queue.old → IsRunQueue first world.new queue.new) }
 {
-    if !forked {
-        return Ok(false);
-    }
     let mut moved = false;
-    'turn: while may_go_on(world, t, gate) {
+    'turn: while let Some(kind) = next_kind(world, t, gate) {
         step.make(alloc, world, t)?;
+        queue.step_made(world, t, kind)?;
         moved = true;
     }
+    queue.turn_ended(world, t)?;
     Ok(moved)
 }
 
-// Whether the task may go on; before an op it calls the gate.
-fn may_go_on<G: Gate>(world: &World, t: TaskId, gate: &G) -> bool
+// Of what kind the next step of a task is, if it may go on; before an op it calls the gate.
+fn next_kind<G: Gate>(world: &World, t: TaskId, gate: &G) -> Option<StepKind>
     requires task { t.0 < length world.now.plan.parents }
-    ensures enabled { IsTrue result ↔ IsEnabled world.now t.0 }
+    ensures kind { MatchOption result (IsEnabled world.now t.0 → ⊥) (λ kind. IsEnabled world.now t.0 × IsOfKind world.now t.0 kind) }
     ensures checked { IsCheckedPlan world.now.plan }
     ensures reachable { IsReachable world.now.plan (places_of world.now) }
 {
-    match world.stand(t) {
-        Stand::Ready | Stand::Await(_) => {
-            gate.at(Point::Op { t, k: world.op(t) });
-            true
-        }
-        Stand::Waits(event) => world.is_reached(event),
-        Stand::Unforked | Stand::Done | Stand::Refused(_) => false,
+    let kind = step_kind(world, t);
+    match kind {
+        None | Some(StepKind::Passes) => {}
+        Some(_) => gate.at(Point::Op { t, k: world.op(t) }),
     }
+    kind
 }

@@ -1,5 +1,6 @@
+use Rattle.std.proofs.Common.{◌+◌, arith}
 use Rattle.pl_core.specs.calls.Worlds.{state_of}
-use Rattle.avoider.proofs.OnNoCycle.{lives_impeding_nobody, lives_reached, lives_unimpeded}
+use Rattle.avoider.proofs.OnNoCycle.{lives_behind, lives_impeding_nobody, lives_reached}
 use Rattle.avoider.proofs.step.is_on_no_cycle.Goals as goal
 
 pub returns-then-is_reached : goal.returns-then-is_reached
@@ -9,5 +10,6 @@ pub returns-then-impedes_nobody : goal.returns-then-impedes_nobody
 returns-then-impedes_nobody c = λ _. λ would.
     lives_impeding_nobody (state_of c.args.world.now) c.args.t.0 c.args.event c.requires.nobody (c.impedes_nobody.ensures c.if-impedes_nobody.true) would
 
-pub returns-in-None : goal.returns-in-None
-returns-in-None c = λ _. lives_unimpeded (state_of c.args.world.now) c.args.t.0 c.args.event c.in-None.ensures
+pub returns : goal.returns
+returns c = λ goes.
+    lives_behind (state_of c.args.world.now) c.args.t.0 c.args.event (λ u impedes f waits. c.impeders_go_on.ensures goes (u + 1) u (omega arith) impedes f waits)

@@ -1,4 +1,4 @@
-use Rattle.world_runs.proofs.ForkedTasks.{forked_by_stand}
+use Rattle.run_queue.proofs.Forked.{forked_by_stand}
 use Rattle.explain_avoid.proofs.avoiding.is_forked.Goals as goal
 
 pub returns-in_default : goal.returns-in_default

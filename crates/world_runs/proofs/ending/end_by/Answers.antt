@@ -1,6 +1,4 @@
-use Rattle.std.proofs.Common.{◌∙◌, ap, arith, false, length, refl}
-use Rattle.std.proofs.lemmas.Grind.{common_steps}
-use Rattle.std.proofs.lemmas.List.{length-replicate}
+use Rattle.std.proofs.Common.{◌∙◌, false, length, refl}
 use Rattle.world_runs.specs.inside.WorldRounds.{begun, round}
 use Rattle.world_runs.proofs.WorldRounds.{last_round, nobody_goes_on}
 use Rattle.world_runs.proofs.ending.end_by.Goals as goal
@@ -10,8 +8,7 @@ rounds-init g c =
     record {
       plan = refl;
       keeps = c.requires.keeps;
-      forked = ap length (c.in_ok-forked.ensures.items_if_clones_equal (λ y e. e)) ∙ length-replicate c.tasks-count.result false ∙ c.tasks-count.ensures.counted
-          ∙ ap (λ p. length p.parents) c.plan.ensures.plan;
+      queue = c.in_ok-queue.ensures;
       rounds = begun;
     }
 
@@ -22,7 +19,7 @@ rounds-preserved g c =
     record {
       plan = made.left.plan ∙ inv.plan;
       keeps = made.left.kept;
-      forked = grind (arith, common_steps);
+      queue = made.queue;
       rounds = round c.in_ok-round.field-0 inv.rounds made.round;
     }
 

@@ -1,4 +1,5 @@
-use Rattle.std.proofs.Common.{◌≡◌, length}
+use Rattle.std.proofs.Common.{◌≡◌}
+use Rattle.run_queue.specs.calls.RunQueues.{IsRunQueue}
 use Rattle.world_runs.specs.inside.Turns.{left_in}
 use Rattle.world_runs.specs.inside.WorldRounds.{GoesByRounds}
 use Rattle.world_runs.proofs.ending.end_by.Given as goal
@@ -8,7 +9,7 @@ invariant-rounds g l =
     record {
       plan : l.world.plan ≡ l.initial.world.plan;
       keeps : g.S.NextStep.keeps l.world;
-      forked : length l.forked.items ≡ length l.initial.world.plan.parents;
+      queue : IsRunQueue l.world l.world l.queue;
       rounds : GoesByRounds g.S.NextStep.makes l.initial.world l.world;
     }
 

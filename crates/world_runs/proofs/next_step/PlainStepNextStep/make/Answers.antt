@@ -1,4 +1,4 @@
-use Rattle.std.proofs.Common.{sym}
+use Rattle.std.proofs.Common.{inl, sym}
 use Rattle.std.proofs.lemmas.Bool.{false≢true}
 use Rattle.world_runs.proofs.Left.{step_leaves_less_left}
 use Rattle.world_runs.proofs.PlainWorlds.{step_keeps_plain}
@@ -13,3 +13,6 @@ returns-clause-left c =
       less = λ _. step_leaves_less_left c.args.world.now c.step.new.self c.args.t.0 step;
       still = λ e. absurd (false≢true (sym e));
     }
+
+pub returns-clause-moved : goal.returns-clause-moved
+returns-clause-moved c = inl c.step.ensures

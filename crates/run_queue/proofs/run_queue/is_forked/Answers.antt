@@ -1,5 +1,5 @@
-use Rattle.world_runs.proofs.ForkedTasks.{forked_by_stand}
-use Rattle.world_runs.proofs.world_round.is_forked.Goals as goal
+use Rattle.run_queue.proofs.Forked.{forked_by_stand}
+use Rattle.run_queue.proofs.run_queue.is_forked.Goals as goal
 
 pub returns-in_default : goal.returns-in_default
 returns-in_default c =

@@ -1,0 +1,10 @@
+-- Impeders that may go on.
+use Rattle.std.specs.Prelude.{◌≡◌, ℕ, ◌<◌, Some}
+use Rattle.armus_base.specs.declared.event.Event.{Event}
+use Rattle.armus_base.specs.States.{State, IsReached, if_published}
+use Rattle.pl_core.specs.calls.HighestPhases.{IsPublishedImpeder}
+
+-- were task t published on the event, each published task below n that impedes the event would wait on an event that is reached
+abbrev pub ImpedersGoOn : State → ℕ → Event → ℕ → Type 0
+ImpedersGoOn s t e n =
+    (u : ℕ) → u < n → IsPublishedImpeder (if_published s t e) e u → (f : Event) → (if_published s t e).published u ≡ Some f → IsReached s f

@@ -1,0 +1,5 @@
+pub mod Forked
+pub mod Waiters
+pub mod Waking
+pub mod Moved
+pub mod Queued

@@ -1,0 +1,4 @@
+-- How the program does it: private contracts alone cite these.
+pub mod inside
+-- Words of contracts further down, which no promise of a program needs.
+pub mod calls

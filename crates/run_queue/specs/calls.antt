@@ -1,0 +1,2 @@
+pub mod RunQueues
+pub mod StepKinds

@@ -1,0 +1,3 @@
+pub mod ReadyTasks
+pub mod WaitQueues
+pub mod Waking
