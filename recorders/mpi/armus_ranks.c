@@ -75,6 +75,7 @@ struct communicator {
     unsigned made, windows;                         /* communicators and windows made from it */
     struct epochs *epochs;                          /* of a window; else nothing */
     _Atomic(struct channel *) channels[BUCKETS];
+    _Atomic(bool) has_channels;
     unsigned *said_wild;                            /* the watcher's: of each rank of world, the receives that name no tag */
     bool abroad;                                    /* with ranks of a world that this one spawned, or of the one that spawned it */
     struct communicator *next;
@@ -398,6 +399,7 @@ static struct channel *channel_of(struct communicator *c, int peer, int tag) {
         k->tag = tag;
         k->next = atomic_load(bucket);
         atomic_store_explicit(bucket, k, memory_order_release);
+        atomic_store(&of->has_channels, true);
     }
     pthread_mutex_unlock(&channel_lock);
     if (k == NULL) {
@@ -498,9 +500,9 @@ static bool say_messages(void) {
     }
     if (size <= RANKS && !(left_sends && left_receives)) {
         for (struct communicator *c = atomic_load(&all); c != NULL && lines < COUNTS_IN_A_LOOK; c = c->next) {
-            lines += c->named && c->epochs == NULL ? say_channels(c) : 0;
+            lines += atomic_load(&c->has_channels) ? say_channels(c) : 0;
         }
-        lines += lines < COUNTS_IN_A_LOOK ? say_channels(&unnamed) : 0;
+        lines += lines < COUNTS_IN_A_LOOK && atomic_load(&unnamed.has_channels) ? say_channels(&unnamed) : 0;
     }
     unsigned sent = atomic_load(&sent_abroad), taken = atomic_load(&taken_abroad);
     if (sent != said_sent_abroad || taken != said_taken_abroad) {
@@ -1550,7 +1552,7 @@ static bool is_in_order(struct channel *k) {
     if (!atomic_compare_exchange_strong(&k->user, &before, own) && before != own) {
         atomic_store(&k->has_users, true);
     }
-    return k->tag < EXACT_TAGS && !atomic_load(&k->has_users);
+    return k->tag < EXACT_TAGS && k->of != &unnamed && !atomic_load(&k->has_users);
 }
 
 /* Which message of its channel is sent now. */
