@@ -41,7 +41,7 @@ turns-preserved g c =
       | else-moved w ↦ λ e. inr (sym w.moved-is ∙ e)
     ] in
     let skipped = skip_turns g.S.NextStep.makes first mid c.turns.from t before found.ready.0 inv.turns
-        (λ u a l. found.passed u a (let b = found.ready.1 in omega arith) (λ d is. (let one = is in omega arith))) in
+    (λ u a l. found.passed u a (let b = found.ready.1 in omega arith) (λ d is. (let one = is in omega arith))) in
     record {
       within = (let b = found.ready.1 in omega arith);
       left = leaves_on g.S.NextStep.keeps first mid new before acted both inv.left turn.left some none;
