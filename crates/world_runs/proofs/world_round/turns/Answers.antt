@@ -15,13 +15,13 @@ turns-init g c = record {
 }
 
 pub turn-requires-clause-task : goal.turn-requires-clause-task
-turn-requires-clause-task g c = (c.in-Some.ensures c.args.world.now c.turns.invariant.queue).ready.1
+turn-requires-clause-task g c κs within = (c.in-Some.ensures c.args.world.now c.turns.invariant.queue).1
 
 pub overflow_add-from : goal.overflow_add-from
 overflow_add-from g c =
     let inv = c.turns.invariant in
     let found = c.in-Some.ensures c.args.world.now inv.queue in
-    let within = found.ready.1 in
+    let within = found.1 in
     let parents = ap (λ (p : Plan). length p.parents) inv.left.plan in
     let few = c.plan-plan.ensures.checked.limits.few_tasks in
     omega (arith, within, parents, few)
@@ -47,14 +47,13 @@ turns-preserved g c =
       | then-moved w ↦ λ e. inl w.if-moved.true
       | else-moved w ↦ λ e. inr (sym w.moved-is ∙ e)
     ] in
-    let skipped = skip_turns g.S.NextStep.makes first mid c.turns.from t before found.ready.0 inv.turns
-    (λ u a l. found.passed u a (let b = found.ready.1 in omega arith) (λ d is. (let one = is in omega arith))) in
+    let skipped = skip_turns g.S.NextStep.makes first mid c.turns.from t before found.0 inv.turns found.4 in
     record {
-      within = (let b = found.ready.1 in omega arith);
+      within = (let b = found.1 in omega (arith, parents));
       left = leaves_on g.S.NextStep.keeps first mid new before acted both inv.left turn.left some none;
       turns = subst (λ n. HaveTurns g.S.NextStep.makes first n new both) (sym (add-one t))
-          (turns_more g.S.NextStep.makes first mid new t true before acted both found.ready.3 skipped turn.turn none);
-      queue = turn.queue first found.ready.2 inv.queue;
+          (turns_more g.S.NextStep.makes first mid new t true before acted both found.3 skipped turn.turn none);
+      queue = turn.queue first found.2 inv.queue;
     }
 
 pub returns-clause-round : goal.returns-clause-round
@@ -64,4 +63,4 @@ returns-clause-round g c =
     let found = c.in_default.ensures first inv.queue in
     let parents = ap (λ (p : Plan). length p.parents) inv.left.plan in
     skip_turns g.S.NextStep.makes first c.turns.world c.turns.from (length first.plan.parents) c.turns.moved inv.within inv.turns
-    (λ u a l. found.passed u a (omega (arith, l, parents)) (λ d is. absurd (c.in_default.not-Some d is)))
+    (λ u a l. found u a (omega (arith, l, parents)))

@@ -1,9 +1,9 @@
-use Rattle.std.proofs.Common.{◌≡◌, ◌<◌, ◌≤◌, ◌⊎◌, ◌∙◌, ℕ, ap, arith, false, inl, inr, length, subst, sym, true}
+use Rattle.std.proofs.Common.{◌≡◌, ◌⊎◌, ◌∙◌, ap, arith, false, inl, inr, length, subst, sym, true}
 use Rattle.std.specs.Prelude.{option_copied}
 use Rattle.std.proofs.lemmas.Bool.{cases_lt, false≢true}
 use Rattle.armus_base.specs.Plans.{Plan}
 use Rattle.pl_core.specs.calls.Stands.{IsEnabled}
-use Rattle.pl_core.specs.calls.Worlds.{WorldValue, state_of}
+use Rattle.pl_core.specs.calls.Worlds.{WorldValue}
 use Rattle.explain_facts.specs.calls.Known.{kept_layout}
 use Rattle.world_runs.proofs.WorldRounds.{leaves_none, leaves_on}
 use Rattle.explain_avoid.specs.inside.SoFar.{NobodyDeadIn}
@@ -21,7 +21,7 @@ turns-init c = record {
 }
 
 pub turn-requires-clause-task : goal.turn-requires-clause-task
-turn-requires-clause-task c = (c.in-Some.ensures c.args.self.now.world c.turns.invariant.queue).ready.1
+turn-requires-clause-task c = (c.in-Some.ensures c.args.self.now.world c.turns.invariant.queue).1
 
 pub turn-requires-clause-nobody : goal.turn-requires-clause-nobody
 turn-requires-clause-nobody c = c.turns.invariant.left.kept
@@ -50,13 +50,11 @@ turns-preserved c =
       | then-moved w ↦ λ e. inl w.if-moved.true
       | else-moved w ↦ λ e. inr (sym w.moved-is ∙ e)
     ] in
-    let passed : (u : ℕ) → c.turns.from ≤ u → u < t → (state_of first.world).forked u ≡ true → IsEnabled mid.world u → ⊥ =
-    λ u a b. found.passed u a (let within = found.ready.1 in omega (arith, b)) (λ d is. let one = is in omega (arith, b)) in
-    let skipped = skip_turns file l p first mid before c.plan-plan.ensures.checked inv.left.plan c.turns.from t found.ready.0 inv.round passed in
+    let skipped = skip_turns file l p first mid before c.plan-plan.ensures.checked inv.left.plan c.turns.from t found.0 inv.round found.4 in
     record {
-      within = (let within = found.ready.1 in omega arith);
+      within = (let within = found.1 in omega (arith, parents));
       left = leaves_on NobodyDeadIn first.world mid.world new.world before acted both inv.left turn.left some none;
-      round = round_more file l p first mid new t true before acted both c.plan-plan.ensures.checked inv.left.plan turn.left.plan found.ready.3 skipped none
+      round = round_more file l p first mid new t true before acted both c.plan-plan.ensures.checked inv.left.plan turn.left.plan found.3 skipped none
           (turn.goes, turn.ended);
       quiet = λ e u lt.
           let was : mid.world ≡ first.world = inv.left.still (none e).0 in
@@ -66,11 +64,41 @@ turns-preserved c =
                 subst (λ (w : WorldValue). IsEnabled w u → ⊥) (sym is)
                 (elim (cases_lt u c.turns.from) [
                   | inl early ↦ inv.quiet (none e).0 u early
-                  | inr late ↦ passed_rests first.world mid.world u was (passed u late less)
+                  | inr late ↦ passed_rests first.world mid.world u was (found.4 u late less)
                 ])
             | inr more ↦
                 let same : u ≡ t = omega (arith, lt, more) in
                 subst (λ v. IsEnabled new.world v → ⊥) (sym same) turn.ended
           ];
-      queue = turn.queue first.world found.ready.2 inv.queue;
+      queue = turn.queue first.world found.2 inv.queue;
     }
+
+pub overflow_add-from : goal.overflow_add-from
+overflow_add-from c =
+    let inv = c.turns.invariant in
+    let found = c.in-Some.ensures c.args.self.now.world inv.queue in
+    let within = found.1 in
+    let parents = ap (λ (q : Plan). length q.parents) inv.left.plan in
+    let few = c.plan-plan.ensures.checked.limits.few_tasks in
+    omega (arith, within, parents, few)
+
+pub returns-clause-round : goal.returns-clause-round
+returns-clause-round c =
+    let inv = c.turns.invariant in
+    let first = c.args.self.now in
+    let found = c.in_default.ensures first.world inv.queue in
+    let parents = ap (λ (q : Plan). length q.parents) inv.left.plan in
+    skip_turns (option_copied c.args.text.now.file) (kept_layout c.args.text.now.facts) c.args.text.now.facts.program.now first c.turns.self c.turns.moved
+    c.plan-plan.ensures.checked inv.left.plan c.turns.from (length first.world.plan.parents) inv.within inv.round
+    (λ u a l. found u a (omega (arith, l, parents)))
+
+pub returns-clause-quiet : goal.returns-clause-quiet
+returns-clause-quiet c = λ e u lt.
+    let inv = c.turns.invariant in
+    let first = c.args.self.now in
+    let found = c.in_default.ensures first.world inv.queue in
+    let parents = ap (λ (q : Plan). length q.parents) inv.left.plan in
+    elim (cases_lt u c.turns.from) [
+      | inl early ↦ inv.quiet e u early
+      | inr late ↦ passed_rests first.world c.turns.self.world u (inv.left.still e) (found u late (omega (arith, lt, parents)))
+    ]
