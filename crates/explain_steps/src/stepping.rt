@@ -1,14 +1,15 @@
 // A run, step by step.
-ghost use Rattle.std.specs.Prelude.{◌≡◌, ◌∷◌, ◌+◌, ◌-◌, ◌<◌, ◌≤◌, ◌^◌, ◌++◌, ℕ, List as Seq, IfOk, IfSome, OnOk, MatchOption, Ok, length, true, false};
+ghost use Rattle.std.specs.Prelude.{◌≡◌, ◌∷◌, ◌+◌, ◌-◌, ◌<◌, ◌≤◌, ◌^◌, ◌++◌, ℕ, List as Seq, IfOk, IfSome, OnOk, Ok, length, true, false};
 ghost use Rattle.armus_base.specs.States.{Step};
+ghost use Rattle.pl_core.specs.calls.Moves.{IsWorldStep};
 ghost use Rattle.pl_core.specs.calls.Stands.{IsEnabled};
 ghost use Rattle.pl_plan.specs.Forks.{fork_statements};
 ghost use Rattle.pl_syntax.specs.Grammar.{IsText};
 ghost use Rattle.pl_syntax.specs.Tree.{count};
 ghost use Rattle.run_queue.specs.calls.RunQueues.{HasTurnLeft, IsRunQueue};
-ghost use Rattle.run_queue.specs.calls.StepKinds.{IsOfKind};
 ghost use Rattle.explain_steps.specs.ShownSteps.{most_shown, more_steps_line};
 ghost use Rattle.explain_steps.specs.calls.SteppedRuns.{HasNextLine, IsRunBy, IsSteppedRun};
+ghost use Rattle.explain_steps.specs.inside.LeastEnabled.{IsLeastEnabled};
 ghost use Rattle.explain_steps.specs.inside.SoFar.{IsSoFar};
 
 use crate::telling::TellsSteps;
@@ -16,7 +17,7 @@ use armus_base::{Final, List, NoMemory, Plan, TaskId};
 use explain_facts::{TextFacts, put_number, put_words};
 use pl_core::World;
 use pl_syntax::Program;
-use run_queue::{RunQueue, StepKind, step_kind};
+use run_queue::{RunQueue, step_kind};
 use source_map::TextPlaces;
 use std::alloc::Global;
 
@@ -34,29 +35,44 @@ pub struct SteppedRun<'p> {
     pub end: Final,
 }
 
-// The task with the least number that may go on, and of what kind its next step is: none where no task may. Those that may not, and had a turn, have none then.
-fn least_enabled(
-    world: &World<'_>,
-    queue: &mut RunQueue,
-) -> Result<Option<(TaskId, StepKind)>, NoMemory>
+// The task with the least number that may go on: none where no task may. Those that may not, and had a turn, have none then.
+fn least_enabled(world: &World<'_>, queue: &mut RunQueue) -> Result<Option<TaskId>, NoMemory>
     requires queue { IsRunQueue world.now world.now queue.old }
-    ensures least { IfOk result (λ found. MatchOption found
-        ((t : ℕ) → t < length world.now.plan.parents → IsEnabled world.now t → ⊥)
-        (λ next. (next.0.0 < length world.now.plan.parents) × IsEnabled world.now next.0.0 × ((u : ℕ) → u < next.0.0 → IsEnabled world.now u → ⊥))) }
-    ensures kind { IfOk result (λ found. IfSome found (λ next. HasTurnLeft queue.new next.0.0 × IsOfKind world.now next.0.0 next.1)) }
+    ensures least { IfOk result (IsLeastEnabled world.now) }
+    ensures turn { IfOk result (λ found. IfSome found (λ t. HasTurnLeft queue.new t.0)) }
     ensures queue { OnOk result (IsRunQueue world.now world.now queue.new) }
 {
     // the plan is checked
     let _plan = world.plan();
     let mut from = 0;
     'ready: while let Some(t) = queue.next(from) {
-        if let Some(kind) = step_kind(world, t) {
-            return Ok(Some((t, kind)));
+        if world.enabled(t) {
+            return Ok(Some(t));
         }
         queue.turn_ended(world, t)?;
         from = t.0 + 1;
     }
     Ok(None)
+}
+
+// Makes the next step of a task that may go on and has a turn; whoever may go on by that has a turn.
+fn step_on(world: &mut World<'_>, queue: &mut RunQueue, t: TaskId) -> Result<(), NoMemory>
+    requires task { t.0 < length world.old.plan.parents }
+    requires enabled { IsEnabled world.old t.0 }
+    requires turn { HasTurnLeft queue.old t.0 }
+    requires queue { IsRunQueue world.old world.old queue.old }
+    ensures step { OnOk result (IsWorldStep world.old world.new t.0) }
+    ensures queue { OnOk result (IsRunQueue world.new world.new queue.new) }
+{
+    match step_kind(world, t) {
+        Some(kind) => {
+            world.step(t);
+            queue.step_made(world, t, kind)?;
+            queue.round_ended();
+            Ok(())
+        }
+        None => unreachable!(),
+    }
 }
 
 // Appends the line of a task's next step, behind so many, if it is shown.
@@ -115,13 +131,12 @@ impl<'p> Stepping<'p> {
         ensures quiet { IfOk result (λ moved. moved ≡ false → (t : ℕ) → t < length self.new.world.plan.parents → IsEnabled self.new.world t → ⊥) }
         ensures queue { OnOk result (IsRunQueue self.new.world self.new.world queue.new) }
     {
-        match least_enabled(&self.world, queue)? {
-            Some((t, kind)) => {
+        let found = least_enabled(&self.world, queue)?;
+        match found {
+            Some(t) => {
                 show(text, &mut self.lines, &self.world, t, self.steps)?;
-                self.world.step(t);
+                step_on(&mut self.world, queue, t)?;
                 self.steps += 1;
-                queue.step_made(&self.world, t, kind)?;
-                queue.round_ended();
                 Ok(true)
             }
             None => Ok(false),
