@@ -1,5 +1,5 @@
 -- The turns of a round.
-use Rattle.std.proofs.Common.{◌≡◌, ◌∙◌, ℕ, suc, ◌+◌, Bool, true, false, List, [], ◌++◌, Option, add-one, append_assoc, ap, refl, subst, sym}
+use Rattle.std.proofs.Common.{◌≡◌, ◌∙◌, ℕ, zero, suc, ◌+◌, ◌-◌, ◌<◌, ◌≤◌, Bool, true, false, List, [], ◌++◌, Option, add-one, append_assoc, ap, arith, refl, subst, sym}
 use Rattle.std.specs.Prelude.{MatchBool}
 use Rattle.std.proofs.lemmas.Bool.{false≢true}
 use Rattle.armus_base.specs.CheckedPlans.{IsCheckedPlan}
@@ -17,10 +17,6 @@ use Rattle.world_runs.proofs.AvoidedSteps.{leads_state, goes_append}
 use Rattle.world_runs.proofs.ForkedTasks.{forked_in_round, forked_later}
 use Rattle.explain_avoid.specs.declared.avoiding.Avoiding.{Avoiding}
 use Rattle.explain_avoid.specs.inside.SoFar.{RoundsGoTo, HasTurn, AreRefusalsSoFar, RoundTo}
-
--- who may go on is forked
-pub unforked_stays : (w : WorldValue) (t : ℕ) → (state_of w).forked t ≡ false → IsEnabled w t → ⊥
-unforked_stays w t unforked enabled = absurd (false≢true (sym unforked ∙ acting_forked w.plan (state_of w) t enabled.0 enabled.2))
 
 module _ (file : Option (List ℕ)) (l : Layout) (p : Program) where
   -- no step yet
@@ -104,10 +100,36 @@ module _ (file : Option (List ℕ)) (l : Layout) (p : Program) where
       subst (λ n. RoundTo file l p n first new both) (sym (add-one k))
       (turn_none first mid new k false before acted both checked plan same forked round none turn.0 refl)
 
-  -- who has had its turn, or was not forked, may not go on where nothing has changed
-  pub turn_quiet :
-      (first mid new : Avoiding) (k : ℕ) (has acted : Bool) → (state_of first.world).forked k ≡ has → mid.world ≡ first.world → new.world ≡ mid.world →
-      HasTurn file l p k has mid new acted → IsEnabled new.world k → ⊥
-  turn_quiet first mid new k true acted forked was is turn = turn.1
-  turn_quiet first mid new k false acted forked was is turn =
-      subst (λ (w : WorldValue). IsEnabled w k → ⊥) (sym (is ∙ was)) (unforked_stays first.world k forked)
+  -- a task that may not act, or was not forked, has no part in a round
+  turn_passed :
+      (first mid : Avoiding) (u : ℕ) → ((state_of first.world).forked u ≡ true → IsEnabled mid.world u → ⊥) →
+      HasTurn file l p u ((state_of first.world).forked u) mid mid false
+  turn_passed first mid u rests = by ((state_of first.world).forked u) refl
+    where
+      by : (b : Bool) → (state_of first.world).forked u ≡ b → HasTurn file l p u b mid mid false
+      by true is = (goes_none u mid, rests is)
+      by false is = (refl, refl)
+
+  module _ (first mid : Avoiding) (moved : Bool) (checked : IsCheckedPlan first.world.plan) (plan : mid.world.plan ≡ first.world.plan) where
+    skip_by :
+        (k d : ℕ) → RoundTo file l p k first mid moved → ((u : ℕ) → k ≤ u → u < k + d → (state_of first.world).forked u ≡ true → IsEnabled mid.world u → ⊥) →
+        RoundTo file l p (k + d) first mid moved
+    skip_by k zero round rest = subst (λ n. RoundTo file l p n first mid moved) (let e : k ≡ k + 0 = omega arith in e) round
+    skip_by k (suc d) round rest =
+        let before = skip_by k d round (λ u a b. rest u a (omega (arith, b))) in
+        subst (λ n. RoundTo file l p n first mid moved) (let e : k + d + 1 ≡ k + suc d = omega arith in e)
+        (round_more first mid mid (k + d) ((state_of first.world).forked (k + d)) moved false moved checked plan refl refl before (λ e. (e, refl))
+        (turn_passed first mid (k + d) (rest (k + d) (omega arith) (omega arith))))
+
+    -- those up to place n are passed over
+    pub skip_turns :
+        (k n : ℕ) → k ≤ n → RoundTo file l p k first mid moved → ((u : ℕ) → k ≤ u → u < n → (state_of first.world).forked u ≡ true → IsEnabled mid.world u → ⊥) →
+        RoundTo file l p n first mid moved
+    skip_turns k n within round rest =
+        let e : k + (n - k) ≡ n = omega (arith, within) in
+        subst (λ m. RoundTo file l p m first mid moved) e (skip_by k (n - k) round (λ u a b. rest u a (omega (arith, e, b))))
+
+-- who was passed over may not go on where nothing has changed
+pub passed_rests : (first mid : WorldValue) (u : ℕ) → mid ≡ first → ((state_of first).forked u ≡ true → IsEnabled mid u → ⊥) → IsEnabled mid u → ⊥
+passed_rests first mid u same rests enabled =
+    rests (subst (λ (w : WorldValue). (state_of w).forked u ≡ true) same (acting_forked mid.plan (state_of mid) u enabled.0 enabled.2)) enabled

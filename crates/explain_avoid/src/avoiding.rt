@@ -2,15 +2,16 @@
 ghost use Rattle.std.specs.Prelude.{◌≡◌, ◌+◌, ◌<◌, ◌^◌, ℕ, IfOk, OnOk, false, length, option_copied, true};
 ghost use Rattle.avoider.specs.calls.Decisions.{IsBeforeStep};
 ghost use Rattle.pl_core.specs.calls.Stands.{IsAtAwaitOf, IsEnabled};
-ghost use Rattle.pl_core.specs.calls.Worlds.{state_of};
+ghost use Rattle.pl_core.specs.calls.Worlds.{WorldValue};
 ghost use Rattle.pl_plan.specs.Forks.{fork_statements};
 ghost use Rattle.pl_syntax.specs.Grammar.{IsText};
 ghost use Rattle.pl_syntax.specs.Tree.{count};
+ghost use Rattle.run_queue.specs.calls.RunQueues.{HasTurnLeft, IsRunQueue};
+ghost use Rattle.run_queue.specs.calls.StepKinds.{HasMoved};
 ghost use Rattle.explain_facts.specs.calls.Known.{AreKnownFacts, kept_layout};
-ghost use Rattle.world_runs.specs.inside.Turns.{TellsForked};
 ghost use Rattle.world_runs.specs.inside.WorldRounds.{LeavesLess};
 ghost use Rattle.explain_avoid.specs.calls.AvoidedRuns.{IsRunWithRefusals};
-ghost use Rattle.explain_avoid.specs.inside.SoFar.{RoundsGoTo, HasDecided, HasEndedSo, HasTurn, NobodyDeadIn, RoundTo};
+ghost use Rattle.explain_avoid.specs.inside.SoFar.{RoundsGoTo, HasDecided, HasEndedSo, NobodyDeadIn, RoundTo};
 
 use crate::known_text::KnownText;
 use crate::refusal::{pending_of, put_freed, put_refusal};
@@ -19,8 +20,10 @@ use avoider::{Decision, Judge, Judging};
 use explain_facts::TextFacts;
 use pl_core::{Stand, World};
 use pl_syntax::Program;
+use run_queue::{RunQueue, step_kind};
 use source_map::TextPlaces;
 use std::alloc::Global;
+use world_runs::next_turn;
 
 /// The serial avoided run of a text.
 #[derive(Drop)]
@@ -79,6 +82,7 @@ impl<'p> Avoiding<'p> {
         requires nobody { NobodyDeadIn self.old.world }
         ensures left { OnOk result (LeavesLess NobodyDeadIn self.old.world self.new.world true) }
         ensures goes { OnOk result (RoundsGoTo (option_copied text.now.file) (kept_layout text.now.facts) text.now.facts.program.now t.0 self.old self.new true) }
+        ensures moved { OnOk result (HasMoved self.old.world self.new.world t.0) }
     {
         match self.world.stand(t) {
             Stand::Await(event) => {
@@ -93,87 +97,65 @@ impl<'p> Avoiding<'p> {
     }
 
     // The turn of a task: it goes on until it may not; answers whether a step was made.
-    fn turn(&mut self, text: &KnownText<'_>, t: TaskId) -> Result<bool, NoMemory>
+    fn turn(
+        &mut self,
+        queue: &mut RunQueue,
+        text: &KnownText<'_>,
+        t: TaskId,
+    ) -> Result<bool, NoMemory>
         requires known { AreKnownFacts text.now.facts }
         requires task { t.0 < length self.old.world.plan.parents }
         requires nobody { NobodyDeadIn self.old.world }
         ensures left { IfOk result (LeavesLess NobodyDeadIn self.old.world self.new.world) }
         ensures goes { IfOk result (RoundsGoTo (option_copied text.now.file) (kept_layout text.now.facts) text.now.facts.program.now t.0 self.old self.new) }
         ensures ended { OnOk result (IsEnabled self.new.world t.0 → ⊥) }
+        ensures queue { OnOk result ((first : WorldValue) → HasTurnLeft queue.old t.0 → IsRunQueue first self.old.world queue.old → IsRunQueue first self.new.world queue.new) }
     {
         let mut moved = false;
-        'turn: while self.world.enabled(t) {
+        'turn: while let Some(kind) = step_kind(&self.world, t) {
             self.go_on(text, t)?;
+            queue.step_made(&self.world, t, kind)?;
             moved = true;
         }
+        queue.turn_ended(&self.world, t)?;
         Ok(moved)
     }
 
-    // The turn of a task, if it was forked before the round; answers whether a step was made.
-    fn turn_if(&mut self, text: &KnownText<'_>, forked: bool, t: TaskId) -> Result<bool, NoMemory>
+    // One turn of each task that has one, in order of number; answers whether a step was made.
+    fn turns(&mut self, queue: &mut RunQueue, text: &KnownText<'_>) -> Result<bool, NoMemory>
         requires known { AreKnownFacts text.now.facts }
-        requires task { t.0 < length self.old.world.plan.parents }
         requires nobody { NobodyDeadIn self.old.world }
-        ensures left { IfOk result (LeavesLess NobodyDeadIn self.old.world self.new.world) }
-        ensures turn { IfOk result (HasTurn (option_copied text.now.file) (kept_layout text.now.facts) text.now.facts.program.now t.0 forked self.old self.new) }
-    {
-        if forked {
-            self.turn(text, t)
-        } else {
-            Ok(false)
-        }
-    }
-
-    // One turn of each of these tasks, in order of number; answers whether a step was made.
-    fn turns(&mut self, text: &KnownText<'_>, forked: &[bool]) -> Result<bool, NoMemory>
-        requires known { AreKnownFacts text.now.facts }
-        requires forked { TellsForked self.old.world forked.now }
-        requires forked_len { length forked.now ≡ length self.old.world.plan.parents }
-        requires nobody { NobodyDeadIn self.old.world }
+        requires queue { IsRunQueue self.old.world self.old.world queue.old }
         ensures left { IfOk result (LeavesLess NobodyDeadIn self.old.world self.new.world) }
         ensures round { IfOk result (RoundTo (option_copied text.now.file) (kept_layout text.now.facts) text.now.facts.program.now (length self.old.world.plan.parents) self.old self.new) }
         ensures quiet { IfOk result (λ moved. moved ≡ false → (t : ℕ) → t < length self.old.world.plan.parents → IsEnabled self.new.world t → ⊥) }
+        ensures queue { OnOk result (IsRunQueue self.old.world self.new.world queue.new) }
     {
+        // the plan is checked
+        let _plan = self.world.plan();
         let mut moved = false;
-        for t in 0..self.world.plan().tasks() {
-            let acted = self.turn_if(text, forked[t as usize], TaskId(t))?;
+        let mut from = 0;
+        'turns: while let Some(t) = next_turn(&self.world, queue, from) {
+            let acted = self.turn(queue, text, t)?;
             moved = moved || acted;
+            from = t.0 + 1;
         }
         Ok(moved)
     }
 
     // One turn of each task that is forked now; answers whether a step was made.
-    fn round(&mut self, text: &KnownText<'_>, forked: &mut [bool]) -> Result<bool, NoMemory>
+    fn round(&mut self, queue: &mut RunQueue, text: &KnownText<'_>) -> Result<bool, NoMemory>
         requires known { AreKnownFacts text.now.facts }
-        requires forked_len { length forked.old ≡ length self.old.world.plan.parents }
         requires nobody { NobodyDeadIn self.old.world }
+        requires queue { IsRunQueue self.old.world self.old.world queue.old }
         ensures left { IfOk result (LeavesLess NobodyDeadIn self.old.world self.new.world) }
         ensures round { IfOk result (RoundTo (option_copied text.now.file) (kept_layout text.now.facts) text.now.facts.program.now (length self.old.world.plan.parents) self.old self.new) }
         ensures quiet { IfOk result (λ moved. moved ≡ false → (t : ℕ) → t < length self.old.world.plan.parents → IsEnabled self.new.world t → ⊥) }
+        ensures queue { OnOk result (IsRunQueue self.new.world self.new.world queue.new) }
     {
-        mark_forked(&self.world, forked);
-        self.turns(text, forked)
-    }
-}
-
-// Whether a task is forked.
-fn is_forked(world: &World<'_>, t: TaskId) -> bool
-    requires task { t.0 < length world.now.plan.parents }
-    ensures { (state_of world.now).forked t.0 ≡ result }
-{
-    match world.stand(t) {
-        Stand::Unforked => false,
-        _ => true,
-    }
-}
-
-// Notes which tasks are forked.
-fn mark_forked(world: &World<'_>, forked: &mut [bool])
-    requires len { length forked.old ≡ length world.now.plan.parents }
-    ensures forked { TellsForked world.now forked.new }
-{
-    for t in 0..world.plan().tasks() {
-        forked[t as usize] = is_forked(world, TaskId(t));
+        let moved = self.turns(queue, text)?;
+        queue.round_ended();
+        Ok(moved)
     }
 }
 
@@ -187,14 +169,14 @@ fn avoided_to_end<'p>(
     ensures ended { IfOk result (HasEndedSo (option_copied text.now.file) (kept_layout text.now.facts) text.now.facts.program.now plan.now) }
     ensures quiet { IfOk result (λ run. (t : ℕ) → t < length run.world.plan.parents → IsEnabled run.world t → ⊥) }
 {
-    let mut forked = vec![in alloc; false; plan.tasks() as usize]?;
     let world = World::start(alloc, plan)?;
+    let mut queue = RunQueue::start(alloc, &world)?;
     let mut run = Avoiding {
         world,
         judge: Judge::new(Judging::Order),
         refusals: Vec::new(alloc),
     };
-    'rounds: while run.round(text, &mut forked)? {}
+    'rounds: while run.round(&mut queue, text)? {}
     Ok(run)
 }
 

@@ -13,3 +13,4 @@ pub mod SerialExists
 pub mod NotingParts
 pub mod OneClockShowing
 pub mod SteppedThrough
+pub mod LeastInQueue

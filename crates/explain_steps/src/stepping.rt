@@ -1,12 +1,15 @@
 // A run, step by step.
-ghost use Rattle.std.specs.Prelude.{◌≡◌, ◌∷◌, ◌+◌, ◌-◌, ◌<◌, ◌≤◌, ◌^◌, ◌++◌, ℕ, List as Seq, IfOk, OnOk, MatchOption, Ok, length, true, false};
+ghost use Rattle.std.specs.Prelude.{◌≡◌, ◌∷◌, ◌+◌, ◌-◌, ◌<◌, ◌≤◌, ◌^◌, ◌++◌, ℕ, List as Seq, IfOk, IfSome, OnOk, Ok, length, true, false};
 ghost use Rattle.armus_base.specs.States.{Step};
+ghost use Rattle.pl_core.specs.calls.Moves.{IsWorldStep};
 ghost use Rattle.pl_core.specs.calls.Stands.{IsEnabled};
 ghost use Rattle.pl_plan.specs.Forks.{fork_statements};
 ghost use Rattle.pl_syntax.specs.Grammar.{IsText};
 ghost use Rattle.pl_syntax.specs.Tree.{count};
+ghost use Rattle.run_queue.specs.calls.RunQueues.{HasTurnLeft, IsRunQueue};
 ghost use Rattle.explain_steps.specs.ShownSteps.{most_shown, more_steps_line};
 ghost use Rattle.explain_steps.specs.calls.SteppedRuns.{HasNextLine, IsRunBy, IsSteppedRun};
+ghost use Rattle.explain_steps.specs.inside.LeastEnabled.{IsLeastEnabled};
 ghost use Rattle.explain_steps.specs.inside.SoFar.{IsSoFar};
 
 use crate::telling::TellsSteps;
@@ -14,6 +17,7 @@ use armus_base::{Final, List, NoMemory, Plan, TaskId};
 use explain_facts::{TextFacts, put_number, put_words};
 use pl_core::World;
 use pl_syntax::Program;
+use run_queue::{RunQueue, step_kind};
 use source_map::TextPlaces;
 use std::alloc::Global;
 
@@ -31,18 +35,44 @@ pub struct SteppedRun<'p> {
     pub end: Final,
 }
 
-// The task with the least number that may go on: none where no task may.
-fn least_enabled(world: &World<'_>) -> Option<TaskId>
-    ensures { MatchOption result
-        ((t : ℕ) → t < length world.now.plan.parents → IsEnabled world.now t → ⊥)
-        (λ t. (t.0 < length world.now.plan.parents) × IsEnabled world.now t.0 × ((u : ℕ) → u < t.0 → IsEnabled world.now u → ⊥)) }
+// The task with the least number that may go on: none where no task may. Those that may not, and had a turn, have none then.
+fn least_enabled(world: &World<'_>, queue: &mut RunQueue) -> Result<Option<TaskId>, NoMemory>
+    requires queue { IsRunQueue world.now world.now queue.old }
+    ensures least { IfOk result (IsLeastEnabled world.now) }
+    ensures turn { IfOk result (λ found. IfSome found (λ t. HasTurnLeft queue.new t.0)) }
+    ensures queue { OnOk result (IsRunQueue world.now world.now queue.new) }
 {
-    for t in 0..world.plan().tasks() {
-        if world.enabled(TaskId(t)) {
-            return Some(TaskId(t));
+    // the plan is checked
+    let _plan = world.plan();
+    let mut from = 0;
+    'ready: while let Some(t) = queue.next(from) {
+        if world.enabled(t) {
+            return Ok(Some(t));
         }
+        queue.turn_ended(world, t)?;
+        from = t.0 + 1;
     }
-    None
+    Ok(None)
+}
+
+// Makes the next step of a task that may go on and has a turn; whoever may go on by that has a turn.
+fn step_on(world: &mut World<'_>, queue: &mut RunQueue, t: TaskId) -> Result<(), NoMemory>
+    requires task { t.0 < length world.old.plan.parents }
+    requires enabled { IsEnabled world.old t.0 }
+    requires turn { HasTurnLeft queue.old t.0 }
+    requires queue { IsRunQueue world.old world.old queue.old }
+    ensures step { OnOk result (IsWorldStep world.old world.new t.0) }
+    ensures queue { OnOk result (IsRunQueue world.new world.new queue.new) }
+{
+    match step_kind(world, t) {
+        Some(kind) => {
+            world.step(t);
+            queue.step_made(world, t, kind)?;
+            queue.round_ended();
+            Ok(())
+        }
+        None => unreachable!(),
+    }
 }
 
 // Appends the line of a task's next step, behind so many, if it is shown.
@@ -89,8 +119,9 @@ pub(crate) struct Stepping<'p> {
 
 impl<'p> Stepping<'p> {
     // Makes the next step, if a task may go on.
-    fn go_on<T: TellsSteps>(&mut self, text: &T) -> Result<bool, NoMemory>
+    fn go_on<T: TellsSteps>(&mut self, queue: &mut RunQueue, text: &T) -> Result<bool, NoMemory>
         requires known { T.known text.now }
+        requires queue { IsRunQueue self.old.world self.old.world queue.old }
         requires room { self.old.steps + 1 < 2 ^ 32 }
         ensures plan { IfOk result (λ moved. self.new.world.plan ≡ self.old.world.plan) }
         ensures moved { IfOk result (λ moved. moved ≡ true → (h : Seq Step) → IsSoFar (T.words text.now) h self.old →
@@ -98,11 +129,13 @@ impl<'p> Stepping<'p> {
         ensures counted { IfOk result (λ moved. moved ≡ true → self.new.steps ≡ self.old.steps + 1) }
         ensures still { IfOk result (λ moved. moved ≡ false → self.new ≡ self.old) }
         ensures quiet { IfOk result (λ moved. moved ≡ false → (t : ℕ) → t < length self.new.world.plan.parents → IsEnabled self.new.world t → ⊥) }
+        ensures queue { OnOk result (IsRunQueue self.new.world self.new.world queue.new) }
     {
-        match least_enabled(&self.world) {
+        let found = least_enabled(&self.world, queue)?;
+        match found {
             Some(t) => {
                 show(text, &mut self.lines, &self.world, t, self.steps)?;
-                self.world.step(t);
+                step_on(&mut self.world, queue, t)?;
                 self.steps += 1;
                 Ok(true)
             }
@@ -124,18 +157,20 @@ fn steps_of<'p, T: TellsSteps>(
 {
     let _tasks = plan.tasks();
     let world = World::start(alloc, plan)?;
+    let mut queue = RunQueue::start(alloc, &world)?;
     let mut run = Stepping {
         world,
         lines: Vec::new(alloc),
         steps: 0,
     };
-    while run.go_on(text)? {}
+    while run.go_on(&mut queue, text)? {}
     Ok(run)
 }
 
 /// Runs a plan to its end, step by step, with the lines that this text has for its steps: of the tasks that may go on, the one with the least number makes the
 /// next step. It answers a line for each of the first `MOST_SHOWN` steps, and where there were more, a line that tells how many; the world in which the run ends;
-/// and the value of its state. The only error is want of memory. The time is the number of steps times that of the tasks, and that of the lines.
+/// and the value of its state. The only error is want of memory. A step looks at none of the tasks that only stand there, so the time is that of the steps and of
+/// the lines.
 pub fn step_to_end<'p, T: TellsSteps>(
     alloc: Global,
     text: &T,
@@ -159,7 +194,7 @@ pub fn step_to_end<'p, T: TellsSteps>(
 }
 
 /// Runs the plan of the text of this program to its end, as `step_to_end` does. `places` are those of the text, and `forks` the statements that fork its tasks, as
-/// `unfold` of pl_plan answers them. The only error is want of memory. The time is the number of steps times that of the tasks, and for each step that is shown
+/// `unfold` of pl_plan answers them. The only error is want of memory. A step looks at none of the tasks that only stand there, and the time of one that is shown is
 /// linear in the text.
 pub fn step_through<'p>(
     alloc: Global,

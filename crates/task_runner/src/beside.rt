@@ -6,7 +6,7 @@ use board::Board;
 use board_runs::Calls;
 use std::alloc::Global;
 
-/// Who makes a pass beside each round of a run on a board, and works on something in it.
+/// Who makes passes beside the rounds of a run on a board, and works on something in them.
 pub(crate) trait Beside<O> {
     ghost use Rattle.std.specs.Prelude.{Bool, Result, Ok, Err};
     ghost use Rattle.board.specs.calls.Seats.{Frame};

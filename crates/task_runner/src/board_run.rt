@@ -1,4 +1,4 @@
-// The rounds of a run on a board, with a pass beside each or with none.
+// The rounds of a run on a board, with passes beside them or with none.
 ghost use Rattle.std.specs.Prelude.{◌≡◌, ◌<◌, ℕ, Bool, Option, Some, Ok, Err, true, false, IfOk, IfErr, OnOk, length};
 ghost use Rattle.armus_base.specs.calls.Boards.{IsLawful};
 ghost use Rattle.armus_base.specs.calls.Seats.{seen_by_child};
@@ -11,6 +11,7 @@ ghost use Rattle.task_runner.specs.inside.BoardRuns.{HasHadRound, HaveAllEnded, 
 use crate::RunOptions;
 use crate::beside::Beside;
 use crate::leaving::{bound_on_loads, goes_on};
+use crate::pass_times::PassTimes;
 use armus_base::{Gate, List, NoMemory, Plan};
 use avoider::Judging;
 use board::{Board, TaskSeat, ViewSeat};
@@ -28,6 +29,7 @@ pub(crate) struct BoardRun<'p> {
     pub(crate) options: RunOptions,
     pub(crate) board_tasks: BoardTasks<'p>,
     round_workers: RoundWorkers,
+    pass_times: PassTimes,
 }
 
 impl<'p> BoardRun<'p> {
@@ -51,6 +53,7 @@ impl<'p> BoardRun<'p> {
             options: *options,
             board_tasks: BoardTasks::start(alloc, board, seat, plan, judging)?,
             round_workers: RoundWorkers::new(),
+            pass_times: PassTimes::new(plan),
         })
     }
 
@@ -76,7 +79,7 @@ impl<'p> BoardRun<'p> {
         Ok(())
     }
 
-    // One round, and a pass; answers whether another one is to come.
+    // One round, and a pass where one is due; answers whether another one is to come.
     fn go_round<R: Threads + Sync, G: Gate, O: Send, B: Beside<O> + Send>(
         &mut self,
         rt: &R,
@@ -100,13 +103,14 @@ impl<'p> BoardRun<'p> {
         match made {
             Ok(made) => {
                 self.round_workers.note(made.actions);
+                self.pass_times.note(made.actions);
                 Ok(goes_on(made, self.board_tasks.loads(), beside.is_there()))
             }
             Err(error) => Err(B::early(error)),
         }
     }
 
-    // A round and a pass: beside the round, or after it on the same thread where there is little work.
+    // A round, and a pass where one is due: beside the round, or after it on the same thread where there is little work.
     fn take_round<R: Threads + Sync, G: Gate, O: Send, B: Beside<O> + Send>(
         &mut self,
         rt: &R,
@@ -124,6 +128,9 @@ impl<'p> BoardRun<'p> {
     {
         let alloc = self.alloc;
         let with_pass = beside.is_there();
+        if !self.pass_times.is_due() {
+            return (self.round(rt, board, gate, with_pass), Ok(()));
+        }
         if !with_pass || !self.round_workers.wants_threads() {
             let made = self.round(rt, board, gate, with_pass);
             return (made, beside.pass(alloc, board, gate, out));
@@ -139,7 +146,7 @@ impl<'p> BoardRun<'p> {
         )
     }
 
-    // One round, with a pass beside it or with none.
+    // One round of a run with passes or with none.
     fn round<R: Threads + Sync, G: Gate>(
         &mut self,
         rt: &R,

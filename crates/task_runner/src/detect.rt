@@ -22,10 +22,11 @@ use std::thread::Threads;
 use world_runs::world_end_from;
 
 /// Runs the plan on a board that detects deadlock. Its tasks take turns by rounds, with the given number of workers, until a round in which nobody acts or,
-/// without `live`, until the board costs too much; with `live` a detector makes one pass beside each round, and each task that it is the first to name has
-/// its line. Then one viewer takes all seats in, the detector makes one more pass, which names just the tasks that are dead by then, and the board is closed;
-/// from the places at which its tasks stood the run goes on in one thread until no task may go on, and with `live` whoever is dead then and was not named has
-/// a line. The gate is called before each op and after each pass. `Write` comes only where the sink counted a fault. No call waits.
+/// without `live`, until the board costs too much; with `live` a detector makes a pass beside each round that pays for it (`PassTimes`), and each task that
+/// it is the first to name has its line. Then one viewer takes all seats in, the detector makes one more pass, which names just the tasks that are dead by
+/// then, and the board is closed; from the places at which its tasks stood the run goes on in one thread until no task may go on, and with `live` whoever is
+/// dead then and was not named has a line. The gate is called before each op and after each pass. `Write` comes only where the sink counted a fault. No call
+/// waits.
 pub fn run_detect<R: Threads + Sync, G: Gate, K: Sink>(
     rt: &R,
     alloc: Global,
@@ -47,7 +48,7 @@ pub fn run_detect<R: Threads + Sync, G: Gate, K: Sink>(
     end_run(run, board, live_reporter, gate, out)
 }
 
-// Rounds until all tasks have come to the end of their turns. With `live` a pass goes beside each, whose lines are written before the next round.
+// Rounds until all tasks have come to the end of their turns. With `live` a pass goes beside some of them, whose lines are written before the next round.
 fn go_by_rounds<R: Threads + Sync, G: Gate, K: Sink>(
     run: &mut BoardRun<'_>,
     rt: &R,

@@ -9,6 +9,7 @@ mod board_run;
 mod detect;
 mod leaving;
 mod live_reporter;
+mod pass_times;
 mod pool;
 mod pool_end;
 mod pool_worker;

@@ -26,11 +26,11 @@ use std::thread::Threads;
 use world_runs::world_end_from;
 
 /// Runs the plan on a board that detects deadlock, its tasks spread over so many sites: site s has the tasks t with t mod `sites` = s. The tasks take
-/// turns by rounds, with the given number of workers, until a round in which nobody acts. Beside each round goes one pass over all sites: each puts what its
-/// viewer finds of its tasks, and then the rows of all are checked. From the places at which the tasks stood then the run goes on in one thread until no
-/// task may go on; each site's part of the statuses of that state, with all their phases, is put, and all rows are checked once more. The gate is called
-/// before each op. At every answer each row that is held stores statuses of its site that are backed by the places of a lawful state. Fault comes exactly
-/// where the keeper's count of faults rises, by one. No call waits.
+/// turns by rounds, with the given number of workers, until a round in which nobody acts. Beside each round that pays for it (`PassTimes`) goes one pass over
+/// all sites: each puts what its viewer finds of its tasks, and then the rows of all are checked. From the places at which the tasks stood then the run goes on
+/// in one thread until no task may go on; each site's part of the statuses of that state, with all their phases, is put, and all rows are checked once more.
+/// The gate is called before each op. At every answer each row that is held stores statuses of its site that are backed by the places of a lawful state. Fault
+/// comes exactly where the keeper's count of faults rises, by one. No call waits.
 pub fn run_sites<R: Threads + Sync, G: Gate, K: Keeper>(
     rt: &R,
     alloc: Global,

@@ -1,7 +1,5 @@
-use Rattle.std.proofs.Common.{◌<◌, ◌∙◌, ap, arith, false, length, subst}
+use Rattle.std.proofs.Common.{◌<◌, length, subst}
 use Rattle.std.specs.Prelude.{option_copied}
-use Rattle.std.proofs.lemmas.Grind.{common_steps}
-use Rattle.std.proofs.lemmas.List.{length-replicate}
 use Rattle.armus_base.specs.Plans.{Plan}
 use Rattle.avoider.proofs.NobodyDies.{opening_alive}
 use Rattle.explain_facts.specs.calls.Known.{kept_layout}
@@ -11,7 +9,7 @@ use Rattle.explain_avoid.proofs.avoiding.avoided_to_end.Goals as goal
 pub rounds-init : goal.rounds-init
 rounds-init c = record {
   nobody = opening_alive c.args.plan.now c.in_ok-world.world c.in_ok-world.ensures.opening;
-  forked = ap length (c.in_ok-forked.ensures.items_if_clones_equal (λ y e. e)) ∙ length-replicate c.tasks.result false ∙ c.tasks.ensures.counted;
+  queue = c.in_ok-queue.ensures;
   come = none_yet (option_copied c.args.text.now.file) (kept_layout c.args.text.now.facts) c.args.text.now.facts.program.now c.args.plan.now
       (record { world = c.in_ok-world.world; judge = c.new.result; refusals = c.new-2.result }) c.in_ok-world.ensures.opening c.new-2.ensures.items;
 }
@@ -22,7 +20,7 @@ rounds-preserved c =
     let made = c.in_ok-round.ensures in
     record {
       nobody = made.left.kept;
-      forked = grind (arith, common_steps);
+      queue = made.queue;
       come = round_comes (option_copied c.args.text.now.file) (kept_layout c.args.text.now.facts) c.args.text.now.facts.program.now c.args.plan.now
           c.rounds.run c.round.new.self c.in_ok-round.field-0 made.left.plan made.round inv.come;
     }

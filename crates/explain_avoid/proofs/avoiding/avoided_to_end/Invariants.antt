@@ -1,5 +1,5 @@
-use Rattle.std.proofs.Common.{◌≡◌, length}
 use Rattle.std.specs.Prelude.{option_copied}
+use Rattle.run_queue.specs.calls.RunQueues.{IsRunQueue}
 use Rattle.explain_facts.specs.calls.Known.{kept_layout}
 use Rattle.world_runs.specs.inside.Turns.{left_in}
 use Rattle.explain_avoid.specs.inside.SoFar.{NobodyDeadIn}
@@ -10,7 +10,7 @@ abbrev pub invariant-rounds : goal.invariant-rounds
 invariant-rounds l =
     record {
       nobody : NobodyDeadIn l.run.world;
-      forked : length l.forked.items ≡ length l.plan.parents;
+      queue : IsRunQueue l.run.world l.run.world l.queue;
       come : HasCome (option_copied l.text.file) (kept_layout l.text.facts) l.text.facts.program.now l.plan l.run;
     }
 

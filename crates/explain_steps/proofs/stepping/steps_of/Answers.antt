@@ -10,6 +10,7 @@ loop-run-init g c = record {
     none_yet (g.T.TellsSteps.words c.args.text.now) c.args.plan.now (record { world = c.in_ok-world.world; lines = c.new.result; steps = 0 })
         c.tasks-tasks.ensures.checked c.in_ok-world.ensures.opening refl c.new.ensures.items,
   );
+  queue = c.in_ok-queue.ensures;
 }
 
 pub go_on-requires-clause-room : goal.go_on-requires-clause-room

@@ -6,6 +6,7 @@ use Rattle.avoider.specs.calls.Decisions.{HasGoneOn}
 use Rattle.avoider.proofs.NobodyDies.{no_block_else, step_kills_nobody}
 use Rattle.avoider.proofs.SamePlan.{gone_on_plan}
 use Rattle.explain_facts.specs.calls.Known.{kept_layout}
+use Rattle.world_runs.proofs.HasMoved.{gone_on_moved}
 use Rattle.world_runs.proofs.Left.{gone_on_leaves_less}
 use Rattle.explain_avoid.proofs.Deciding.{goes_by_decision, goes_by_other, gone_on}
 use Rattle.explain_avoid.proofs.avoiding.Avoiding.go_on.Goals as goal
@@ -28,6 +29,7 @@ returns-in_ok-decide-in-Await c =
         still = λ e. absurd (false≢true (sym e));
       };
       goes = goes_by_decision file l p old new t c.stand.ensures.checked c.in-Await.event c.in-Await.ensures.stand decided;
+      moved = gone_on_moved old.world new.world t gone;
     }
 
 pub returns-in_default : goal.returns-in_default
@@ -50,4 +52,5 @@ returns-in_default c =
         still = λ e. absurd (false≢true (sym e));
       };
       goes = goes_by_other file l p old new t c.stand.ensures.checked step other refl;
+      moved = gone_on_moved old.world c.step.new.self t gone;
     }

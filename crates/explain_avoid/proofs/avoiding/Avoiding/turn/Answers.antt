@@ -11,6 +11,7 @@ pub turn-init : goal.turn-init
 turn-init c = record {
   left = leaves_none NobodyDeadIn c.args.self.now.world c.requires.nobody;
   goes = goes_none (option_copied c.args.text.now.file) (kept_layout c.args.text.now.facts) c.args.text.now.facts.program.now c.args.t.0 c.args.self.now;
+  queue = λ first ready h. (ready, h);
 }
 
 pub turn-smaller : goal.turn-smaller
@@ -25,4 +26,12 @@ turn-preserved c =
           (λ e. absurd (false≢true (sym e)));
       goes = goes_more (option_copied c.args.text.now.file) (kept_layout c.args.text.now.facts) c.args.text.now.facts.program.now c.args.t.0 c.args.self.now
           c.turn.self c.go_on.new.self c.turn.moved inv.left.plan inv.goes made.goes;
+      queue = λ first ready h.
+          let before = inv.queue first ready h in
+          c.in_ok-step_made.ensures first c.turn.self.world made.moved c.in-Some.ensures.kind.1 before.0 before.1;
     }
+
+pub returns-clause-queue : goal.returns-clause-queue
+returns-clause-queue c = λ first ready h.
+    let before = c.turn.invariant.queue first ready h in
+    c.in_ok-turn_ended.ensures first before.0 before.1
