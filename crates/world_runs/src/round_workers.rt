@@ -1,4 +1,5 @@
 // How many workers a round has.
+ghost use Rattle.std.specs.Prelude.{◌≤◌};
 
 // so many rounds have all workers, whatever there is to do
 const FIRST_ROUNDS: u32 = 16;
@@ -27,7 +28,9 @@ impl RoundWorkers {
     }
 
     // How many workers had work in the last round.
-    fn had_work(&self) -> u32 {
+    fn had_work(&self) -> u32
+        ensures few { result ≤ 64 }
+    {
         (1 + self.actions / WORTH_A_THREAD).min(MOST_WORKERS)
     }
 
