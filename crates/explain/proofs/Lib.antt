@@ -1,3 +1,5 @@
+pub mod Fronts
+pub mod Told
 pub mod EndExplained
 pub mod Waiting
 pub mod ClockEnds

@@ -12,6 +12,7 @@ mod language;
 mod laws;
 mod refusing;
 mod request;
+mod shortened;
 mod top;
 
 pub use answer::WantedOutput;
