@@ -27,8 +27,8 @@ that begins with a word of clocks, or whose FILE ends with .clock, is one of clo
 With avoid it tells which tasks are refused in the run that avoids deadlock, where,
 and which deadlock each of them would have closed.
 With clock it reads a clock text, and tells the same of its activities.
-An explanation of more than 60 lines is shown up to its 59th, and to the end of a
-paragraph; with --all in front all of it is.
+Of an explanation at most 60 lines are shown, and at most 499 bytes of each line;
+with --all in front all of it is.
 A text that is refused gets the place of its first fault and what is wrong there.
 Status: 0 nobody waits for ever, 1 somebody does or is refused, 2 other words,
 3 the text is refused, 4 it cannot be read, 5 it cannot be written, 6 no memory.
