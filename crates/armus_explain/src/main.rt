@@ -44,7 +44,8 @@ fn main(rt: HostRuntime) -> ExitCode {
     let words = words.as_slice();
     let status = match request_of(words) {
         Request::Text {
-            file: Some(name), ..
+            file: Some(name),
+            ..
         } => explain_file(&rt, words, name),
         _ => explain_from(&rt, words, "standard input", rt.stdin()),
     };

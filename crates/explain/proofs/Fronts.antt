@@ -1,5 +1,5 @@
 -- The first paragraphs of an explanation, byte by byte, and its lines cut to so many bytes.
-use Rattle.std.proofs.Common.{◌≡◌, ◌∙◌, ℕ, suc, ◌+◌, ◌-◌, ◌<◌, ◌≤◌, Bool, true, false, List, [], ◌∷◌, ◌++◌, cond, if◌then◌else◌, length, take, drop, append_assoc, append-nil, arith, ap, refl, sym, subst}
+use Rattle.std.proofs.Common.{◌≡◌, ◌∙◌, ℕ, suc, ◌+◌, ◌-◌, ◌<◌, ◌≤◌, Bool, true, false, List, [], ◌∷◌, ◌++◌, cond, if◌then◌else◌, length, take, drop, append_assoc, append-nil, arith, ap, refl, sym, subst, zero}
 use Rattle.std.specs.Prelude.{◌==◌, ◌&&◌, count_by, get_or, nat_lt}
 use Rattle.std.proofs.lemmas.List.{drop_more, length-drop, nil_from_length, take_more}
 use Rattle.std.proofs.lemmas.List.Sums.{sum_by-append}
@@ -9,7 +9,7 @@ use Rattle.explain.specs.Shortened.{are_few_paragraphs, displayed_byte, ends_par
 
 -- the greatest number that passes a test is in range
 pub last_within : (test : ℕ → Bool) (n : ℕ) → last_passing test n ≤ n
-last_within test 0 = omega arith
+last_within test zero = omega arith
 last_within test (suc n) = by (test (suc n)) (last_within test n)
   where
     by : (b : Bool) → last_passing test n ≤ n → (if b then suc n else last_passing test n) ≤ suc n
@@ -20,10 +20,10 @@ last_within test (suc n) = by (test (suc n)) (last_within test n)
 abbrev pub ended_by : ℕ → ℕ
 ended_by byte = if byte == 10 then 1 else 0
 
-one_line : (byte : ℕ) → line_total (byte ∷ []) ≡ ended_by byte
+pub one_line : (byte : ℕ) → line_total (byte ∷ []) ≡ ended_by byte
 one_line byte = by (byte == 10)
   where
-    by : (b : Bool) → cond b 1 0 + 0 ≡ (if b then 1 else 0)
+    by : (b : Bool) → 0 + cond b 1 0 ≡ (if b then 1 else 0)
     by true = refl
     by false = refl
 

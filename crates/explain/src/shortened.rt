@@ -132,11 +132,7 @@ fn narrowed(alloc: Global, lines: &[u8]) -> Result<List<u8>, NoMemory>
 }
 
 /// What is shown of an explanation, of which all is wanted or not. The time is linear in its bytes; the only error is want of memory.
-pub(crate) fn displayed(
-    alloc: Global,
-    all: bool,
-    whole: List<u8>,
-) -> Result<List<u8>, NoMemory>
+pub(crate) fn displayed(alloc: Global, all: bool, whole: List<u8>) -> Result<List<u8>, NoMemory>
     ensures { IfOk result (λ lines. lines ≡ displayed all whole) }
 {
     if all {
