@@ -111,10 +111,11 @@ impl<'a> ClockFacts<'a> {
     ) -> Result<(), NoMemory>
         ensures { OnOk result (out.new.items ≡ out.old.items ++ missing_lines self.now event (option_map (λ x. x.now) name.entry)) }
     {
+        let of_text = self.of_text;
         let mut count = 0;
         for status in self.end.blocked.as_slice() {
             count = self.put_if_missing(out, event, name, status, count)?;
         }
-        put_more(self.of_text.alloc, out, count.saturating_sub(FEW_LINES))
+        put_more(of_text.alloc, out, count.saturating_sub(FEW_LINES))
     }
 }

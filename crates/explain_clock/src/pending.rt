@@ -105,10 +105,11 @@ impl<'a> ClockFacts<'a> {
     ) -> Result<(), NoMemory>
         ensures { OnOk result (out.new.items ≡ out.old.items ++ pending_lines self.now event t) }
     {
+        let of_text = self.of_text;
         let mut count = 0;
         for p in 0..self.of_text.things() {
             count = self.put_if_pending(out, event, t, PhaserId(p), count)?;
         }
-        put_more(self.of_text.alloc, out, count.saturating_sub(FEW_LINES))
+        put_more(of_text.alloc, out, count.saturating_sub(FEW_LINES))
     }
 }
