@@ -34,6 +34,7 @@
 #include <unistd.h>
 
 enum { TASKS = 65536, KEEPERS = 1024, BARRIERS = 1024, OF_TASK = 16, LINE = 512, PLACE = 260, SECONDS = 10 };
+enum { AT_ONCE = 60000 };               /* so many nanoseconds an answer is looked for, before the thread sleeps until it comes */
 
 /* A thread, as the monitor knows it. */
 struct task {
@@ -331,12 +332,28 @@ __attribute__((format(printf, 3, 4))) static void question(struct task *t, unsig
     say("%d/%s%s wait %d/%s %u @%s", NAMED(t), (int)process, phaser, phase, t->place);
 }
 
+/* Looks for an answer that comes at once, where another processor may bring it. */
+static void looks_at_once(const struct task *t, const struct timespec *begun) {
+    static _Atomic(long) processors;
+    struct timespec now = *begun;
+    if (atomic_load_explicit(&processors, memory_order_relaxed) == 0) {
+        atomic_store_explicit(&processors, sysconf(_SC_NPROCESSORS_ONLN), memory_order_relaxed);
+    }
+    while (processors > 1 && awaits_answer(t) && (now.tv_sec - begun->tv_sec) * 1000000000L + now.tv_nsec - begun->tv_nsec < AT_ONCE) {
+        for (int i = 0; i < 50 && awaits_answer(t); i++) {
+            atomic_signal_fence(memory_order_seq_cst);
+        }
+        clock_gettime(CLOCK_MONOTONIC, &now);
+    }
+}
+
 /* The answer to the own question, without the order: false where it was refused. */
 static bool may_wait(struct task *t) {
     struct timespec now, end;
-    clock_gettime(CLOCK_MONOTONIC, &end);
-    end.tv_sec += SECONDS;
     int saved = errno;
+    clock_gettime(CLOCK_MONOTONIC, &end);
+    looks_at_once(t, &end);
+    end.tv_sec += SECONDS;
     while (awaits_answer(t)) {
         clock_gettime(CLOCK_MONOTONIC, &now);
         struct timespec left = {end.tv_sec - now.tv_sec, end.tv_nsec - now.tv_nsec};

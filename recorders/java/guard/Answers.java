@@ -11,7 +11,9 @@ import java.util.concurrent.locks.ReentrantLock;
 /** Reads the answers and hands them out. One thread at a time reads: one of those that wait for an answer, and for those who do not wait, from time to time, a thread of the
  * recorder. So an answer wakes the thread that asked, and no other one. */
 final class Answers implements Runnable {
-    private static final int PERIOD = 50;    // milliseconds
+    private static final int PERIOD = 50;            // milliseconds
+    private static final long AT_ONCE = 60_000;      // nanoseconds; so long an answer is looked for, before the thread sleeps until it comes
+    private static final boolean SPINS = Runtime.getRuntime().availableProcessors() > 1;
 
     private final Recorder recorder;
     private final Selector selector;
@@ -107,11 +109,12 @@ final class Answers implements Runnable {
 
     /** Reads what is there, once something is, or this many milliseconds have passed. */
     private void read(long longest) throws IOException {
-        if (longest > 0) {
+        int got = readAtOnce(longest > 0 && SPINS ? AT_ONCE : 0);
+        if (got == 0 && longest > 0) {
             selector.select(longest);
+            selector.selectedKeys().clear();
+            got = recorder.lines().channel.read(bytes);
         }
-        int got = recorder.lines().channel.read(bytes);
-        selector.selectedKeys().clear();
         bytes.flip();
         while (bytes.hasRemaining()) {
             char c = (char) (bytes.get() & 255);
@@ -126,6 +129,16 @@ final class Answers implements Runnable {
         if (got < 0) {
             throw new IOException("the other side is closed");
         }
+    }
+
+    /** Reads what is there, or comes in so many nanoseconds. */
+    private int readAtOnce(long longest) throws IOException {
+        long begun = System.nanoTime();
+        int got = recorder.lines().channel.read(bytes);
+        while (got == 0 && System.nanoTime() - begun < longest) {
+            got = recorder.lines().channel.read(bytes);
+        }
+        return got;
     }
 
     private void take(String line) {

@@ -12,11 +12,12 @@ import stat
 import struct
 import sys
 import threading
+from time import monotonic
 
 LIMIT = 10.0                # so many seconds an answer may take, and the writing of a line
 STANDARD = os.path.dirname(os.__file__) + os.sep
 ADDED = (os.path.join(STANDARD, 'site-packages'), os.path.join(STANDARD, 'dist-packages'))
-real_lock, start_thread = _thread.allocate_lock, _thread.start_new_thread
+real_lock = _thread.allocate_lock
 
 
 class DeadlockError(RuntimeError):
@@ -58,7 +59,7 @@ class Task:
 
     def __init__(self, life, name):
         self.life, self.name = life, name
-        self.asked = self.answered = self.wanted = 0       # wait lines that were written, answers that came, the one for which the thread waits
+        self.asked = self.answered = self.wanted = 0       # wait lines that were written, answers that were read, the one for which the thread waits
         self.refused = {}                                  # the sentence of each refused question
         self.waits = self.busy = self.ended = self.was_refused = self.may_ask = False
         self.place, self.turn, self.event = '', 0, ''      # of its wait: where it stands, the turn of its keeper, and for what it waits
@@ -89,24 +90,21 @@ class Life:
         self.order, self.off, self.tasks, self.by_name, self.numbers = real_lock(), False, {}, {}, {}
         self.process = f'{os.getpid()}'
         self.connection = self.writer = None
+        self.reading, self.waiting, self.kept, self.was_told = real_lock(), {}, b'', False
 
     # ---- lines
     def connect(self):
-        """Reaches the launcher, and begins to read its answers."""
+        """Reaches the launcher."""
         self.connection = socket.socket(socket.AF_UNIX)
         try:
             self.connection.connect(os.environ['ARMUS_SOCKET'].split('|')[0])
             self.connection = socket.socket(fileno=moved_file(self.connection.detach()))
-            self.connection.setsockopt(socket.SOL_SOCKET, socket.SO_SNDTIMEO, struct.pack('ll', int(LIMIT), 0))
+            for limit in (socket.SO_SNDTIMEO, socket.SO_RCVTIMEO):
+                self.connection.setsockopt(socket.SOL_SOCKET, limit, struct.pack('ll', int(LIMIT), 0))
         except OSError:
             self.off = True
             return
         self.is_same = self.identity()
-        own = _signal.pthread_sigmask(_signal.SIG_BLOCK, _signal.valid_signals())
-        try:
-            start_thread(self.read, ())
-        finally:
-            _signal.pthread_sigmask(_signal.SIG_SETMASK, own)
         self.write([f'# process {self.process}/'])
 
     def identity(self):
@@ -125,26 +123,53 @@ class Life:
                 return
         except (OSError, ValueError):
             pass
-        self.end('a line could not be written')
+        self.end(None if self.was_let_go() else 'a line could not be written')
+
+    def was_let_go(self):
+        """Whether the launcher has said that no answer comes any more, which nobody has read yet."""
+        try:
+            return self.was_told or self.identity() == self.is_same and (b'\n' + self.connection.recv(65536, socket.MSG_DONTWAIT)).endswith(b'\noff\n')
+        except OSError:
+            return False
+
+    def await_answer(self, task):
+        """Reads until the answer of the current thread is there, or waits until another one has read it: so one thread has to wake for an answer, and no other."""
+        end = monotonic() + LIMIT
+        self.waiting[task.name] = task
+        try:
+            if self.reading.acquire(False):
+                try:
+                    while task.awaits_answer() and monotonic() < end:
+                        self.read()
+                finally:
+                    self.reading.release()
+            else:
+                task.answer.acquire(timeout=LIMIT)
+            if monotonic() >= end and task.awaits_answer():
+                self.end(f'no answer came in {LIMIT:.0f} seconds')
+        finally:
+            self.waiting.pop(task.name, None)
+            for other in list(self.waiting.values())[:1]:
+                other.wake()                               # it may read now
 
     def read(self):
-        """Hands each answer to its task."""
-        kept, was_told = b'', False
+        """Hands out the answers that are there, once one is; or the time is over that the socket has for it."""
         try:
-            while not self.off and self.identity() == self.is_same:
-                got = self.connection.recv(65536)
-                if not got:
-                    break
-                *lines, kept = (kept + got).split(b'\n')
-                for line in lines:
-                    was_told = was_told or line == b'off'
-                    self.hand_out(line.decode('latin-1'))
+            got = self.connection.recv(65536) if self.identity() == self.is_same else b''
+        except BlockingIOError:
+            return
         except OSError:
-            pass
-        self.end(None if was_told else 'no answer comes any more')
+            got = b''
+        if not got:
+            self.end(None if self.was_told else 'no answer comes any more')
+        self.kept += got
+        while b'\n' in self.kept:
+            line, _, self.kept = self.kept.partition(b'\n')
+            self.hand_out(line.decode('latin-1'))
 
     def hand_out(self, line):
         word, _, rest = line.partition(' ')
+        self.was_told = self.was_told or word == 'off'
         name, _, sentence = rest.partition(': ')
         task = self.by_name.get(name)
         if task is not None:
@@ -155,22 +180,29 @@ class Life:
             task.answered += 1
             if task.answered == task.wanted:
                 task.wake()
+            if task.ended and task.answered == task.asked:
+                self.by_name.pop(name, None)               # no answer has this name any more
 
     def end(self, why):
         """Nothing is asked any more: everybody may wait."""
         if self.off or self is not Life.current:
             return
         self.off = True
-        try:
-            if why:
-                if self.identity() == self.is_same:
-                    self.connection.send(b'# off\n', socket.MSG_DONTWAIT | socket.MSG_NOSIGNAL)
-                os.write(2, f'armus: {why}: from now on every wait of process {self.process} is let through\n'.encode())
-        except (OSError, ValueError):
-            pass
+        word = f'armus: {why}: from now on every wait of process {self.process} is let through\n'
+        for last in (lambda: os.write(2, word.encode()), self.leaves) if why else ():
+            try:
+                last()
+            except (OSError, ValueError):
+                pass
         for task in list(self.by_name.values()):
             if task.answered < task.wanted:
                 task.wake()
+
+    def leaves(self):
+        """Says that nothing is asked any more; who reads need not wait for more."""
+        if self.identity() == self.is_same:
+            self.connection.shutdown(socket.SHUT_RD)
+            self.connection.send(b'# off\n', socket.MSG_DONTWAIT | socket.MSG_NOSIGNAL)
 
     # ---- tasks
     def number(self, kind):
@@ -278,10 +310,8 @@ def may_go_on_by_handlers():
     """Whether a handler of the program's own may let the main thread go on."""
     if _thread.get_ident() != threading.main_thread().ident:
         return False
-    for number in range(1, _signal.NSIG):
-        if callable(handler := _signal.getsignal(number)) and handler is not _signal.default_int_handler:
-            return True
-    return False
+    own = sum(map(callable, map(_signal.getsignal, range(1, _signal.NSIG))))
+    return own > (_signal.getsignal(_signal.SIGINT) is _signal.default_int_handler)
 
 
 # ---- a wait
@@ -338,8 +368,7 @@ def answered(task):
     raised = None
     while task.awaits_answer():
         try:
-            if not task.answer.acquire(timeout=LIMIT) and task.awaits_answer():
-                task.life.end(f'no answer came in {LIMIT:.0f} seconds')
+            task.life.await_answer(task)
         except BaseException as e:
             raised = e
     if task.wanted not in task.refused:
@@ -685,7 +714,8 @@ def ends(task):
                     members_of(barrier, task.life).is_left_by_ended(task, barrier, lines)
                 task.ended = True
                 lines += [f'{task.name} leave {task_end(task)}', f'{task.name} end']
-                task.life.by_name.pop(task.name, None)
+                if task.answered == task.asked:
+                    task.life.by_name.pop(task.name, None)
                 task.life.tasks.pop(_thread.get_ident(), None)
     except Off:
         pass
