@@ -1211,13 +1211,14 @@ static void begin(const void *from) {
     known_ranks(&world, MPI_COMM_WORLD);
     atomic_store(&on, true);
     struct slot *s = own_slot();
-    say_players();
     if (parent != MPI_COMM_NULL) {
         known(parent)->abroad = true;
         say("# spawned 0 1");
     }
     atomic_store(&s->from, from);
     look();
+    say_players();                                             /* now that its task is there */
+    hand_over();
     if (guard) {
         errno = saved;
         return;
