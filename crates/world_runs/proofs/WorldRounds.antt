@@ -8,7 +8,8 @@ use Rattle.armus_base.specs.Runs.{IsReachable}
 use Rattle.armus_base.proofs.Stepping.{acting_forked}
 use Rattle.pl_core.specs.calls.Stands.{IsEnabled}
 use Rattle.pl_core.specs.calls.Worlds.{WorldValue, places_of, state_of}
-use Rattle.world_runs.specs.inside.WorldRounds.{GoesBy, HasTurnIf, HaveTurns, IsNextTurn, IsRoundBy, LeavesLess, stays, steps}
+use Rattle.world_runs.specs.calls.NextTurns.{IsNextTurn}
+use Rattle.world_runs.specs.inside.WorldRounds.{GoesBy, HasTurnIf, HaveTurns, IsRoundBy, LeavesLess, stays, steps}
 use Rattle.run_queue.specs.declared.run_queue.RunQueue.{RunQueue}
 use Rattle.run_queue.specs.calls.RunQueues.{HasTurnLeft, IsRunQueue}
 use Rattle.run_queue.proofs.Queued.{no_turn}
@@ -110,11 +111,6 @@ pub next_turn_is :
     (first w : WorldValue) (q : RunQueue) (k : ℕ) → IsCheckedPlan w.plan → IsReachable w.plan (places_of w) → IsRunQueue first w q → (found : Option TaskId) →
     MatchOption found ((t : ℕ) → k ≤ t → HasTurnLeft q t → ⊥) (λ t. (k ≤ t.0) × HasTurnLeft q t.0 × ((u : ℕ) → k ≤ u → u < t.0 → HasTurnLeft q u → ⊥)) →
     IfSome found (λ t. t.0 < length w.plan.parents) → IsNextTurn first w q k found
-next_turn_is first w q k checked reach h None none inside = record {
-  ready = tt;
-  passed = λ u a l b f. no_turn first w q checked reach h u l f (none u a);
-}
-next_turn_is first w q k checked reach h (Some t) some inside = record {
-  ready = (some.0, inside, some.1, h.turns t.0 some.1);
-  passed = λ u a l b f. no_turn first w q checked reach h u l f (some.2 u a (b t refl));
-}
+next_turn_is first w q k checked reach h None none inside = λ u a l f. no_turn first w q checked reach h u l f (none u a)
+next_turn_is first w q k checked reach h (Some t) some inside =
+    (some.0, inside, some.1, h.turns t.0 some.1, λ u a l f. no_turn first w q checked reach h u (omega (arith, l, inside)) f (some.2 u a l))

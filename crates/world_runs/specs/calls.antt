@@ -1,4 +1,5 @@
 pub mod PlainRuns
 pub mod EndWorlds
 pub mod RecordedRuns
+pub mod NextTurns
 pub mod AvoidedRuns

@@ -1,14 +1,11 @@
 -- Rounds of turns in a world, whatever one step of a task makes of it.
-use Rattle.std.specs.Prelude.{◌≡◌, ◌<◌, ◌≤◌, ℕ, Bool, true, false, Option, Some, length, IfSome, MatchBool}
-use Rattle.armus_base.specs.declared.ids.TaskId.{TaskId}
+use Rattle.std.specs.Prelude.{◌≡◌, ◌<◌, ℕ, Bool, true, false, length, MatchBool}
 use Rattle.std.proofs.Common.{zero, suc}
 use Rattle.armus_base.specs.CheckedPlans.{IsCheckedPlan}
 use Rattle.armus_base.specs.Finals.{final_of}
 use Rattle.armus_base.specs.Runs.{IsReachable}
 use Rattle.pl_core.specs.calls.Stands.{IsEnabled}
 use Rattle.pl_core.specs.calls.Worlds.{WorldValue, places_of, state_of}
-use Rattle.run_queue.specs.declared.run_queue.RunQueue.{RunQueue}
-use Rattle.run_queue.specs.calls.RunQueues.{HasTurnLeft}
 use Rattle.world_runs.specs.declared.ending.WorldEnd.{WorldEnd}
 use Rattle.world_runs.specs.inside.Turns.{left_in}
 
@@ -44,11 +41,6 @@ HaveTurns makes first (suc k) new moved =
 -- in a round each task that is forked in the old world has its turn
 abbrev pub IsRoundBy : (WorldValue → WorldValue → ℕ → Type 0) → WorldValue → WorldValue → Bool → Type 0
 IsRoundBy makes old new moved = HaveTurns makes old (length old.plan.parents) new moved
-
--- in a round from the first world this is the first task from number k on that has a turn, and who was forked in it and is passed over may not act
-pub record IsNextTurn (first w : WorldValue) (q : RunQueue) (k : ℕ) (found : Option TaskId) : Type 0 where
-  pub ready : IfSome found (λ t. (k ≤ t.0) × (t.0 < length w.plan.parents) × HasTurnLeft q t.0 × (state_of first).forked t.0 ≡ true)
-  pub passed : (u : ℕ) → k ≤ u → u < length w.plan.parents → ((t : TaskId) → found ≡ Some t → u < t.0) → (state_of first).forked u ≡ true → IsEnabled w u → ⊥
 
 -- whole rounds lead from the old world to the new one
 pub data GoesByRounds (makes : WorldValue → WorldValue → ℕ → Type 0) (old : WorldValue) : WorldValue → Type 0 where

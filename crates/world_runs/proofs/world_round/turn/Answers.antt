@@ -22,3 +22,8 @@ turn-preserved g c =
           let before = inv.queue first ready h in
           c.in_ok-step_made.ensures first c.turn.world made.moved c.in-Some.ensures.kind.1 before.0 before.1;
     }
+
+pub returns-clause-queue : goal.returns-clause-queue
+returns-clause-queue g c = λ first ready h.
+    let before = c.turn.invariant.queue first ready h in
+    c.in_ok-turn_ended.ensures first before.0 before.1
