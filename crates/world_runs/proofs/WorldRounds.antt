@@ -8,7 +8,7 @@ use Rattle.armus_base.specs.Runs.{IsReachable}
 use Rattle.armus_base.proofs.Stepping.{acting_forked}
 use Rattle.pl_core.specs.calls.Stands.{IsEnabled}
 use Rattle.pl_core.specs.calls.Worlds.{WorldValue, places_of, state_of}
-use Rattle.world_runs.specs.calls.NextTurns.{IsNextTurn}
+use Rattle.world_runs.specs.inside.NextTurns.{IsNextTurn}
 use Rattle.world_runs.specs.inside.WorldRounds.{GoesBy, HasTurnIf, HaveTurns, IsRoundBy, LeavesLess, stays, steps}
 use Rattle.run_queue.specs.declared.run_queue.RunQueue.{RunQueue}
 use Rattle.run_queue.specs.calls.RunQueues.{HasTurnLeft, IsRunQueue}

@@ -19,4 +19,3 @@ pub use journal::run_journal;
 pub use laws::serial_run_ends;
 pub use options::RunOptions;
 pub use round_workers::RoundWorkers;
-pub use world_round::next_turn;

@@ -6,7 +6,7 @@ ghost use Rattle.pl_core.specs.calls.Stands.{IsEnabled};
 ghost use Rattle.pl_core.specs.calls.Worlds.{WorldValue, places_of};
 ghost use Rattle.run_queue.specs.calls.RunQueues.{HasTurnLeft, IsRunQueue};
 ghost use Rattle.run_queue.specs.calls.StepKinds.{IsOfKind};
-ghost use Rattle.world_runs.specs.calls.NextTurns.{IsNextTurn};
+ghost use Rattle.world_runs.specs.inside.NextTurns.{IsNextTurn};
 ghost use Rattle.world_runs.specs.inside.WorldRounds.{IsRoundBy, IsTurnBy, LeavesLess};
 
 use crate::next_step::NextStep;
@@ -61,9 +61,8 @@ fn turns<S: NextStep, G: Gate>(
     Ok(moved)
 }
 
-/// The first task from this number on that has a turn, in a round of a world with this queue; who was forked when the round began and is passed over may not
-/// act.
-pub fn next_turn(world: &World, queue: &RunQueue, from: u32) -> Option<TaskId>
+// The first task from this number on that has a turn; who was forked when the round began and is passed over may not act.
+fn next_turn(world: &World, queue: &RunQueue, from: u32) -> Option<TaskId>
     ensures { (first : WorldValue) → IsRunQueue first world.now queue.now → IsNextTurn first world.now queue.now from result }
 {
     // the plan is checked
