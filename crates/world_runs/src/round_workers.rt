@@ -6,9 +6,6 @@ const FIRST_ROUNDS: u32 = 16;
 // so many actions take longer than to start a thread for them
 const WORTH_A_THREAD: u32 = 20_000;
 
-// more workers no run has
-const MOST_WORKERS: u32 = 64;
-
 /// How many rounds there were, and how many actions the last one had. To start a thread takes as long as thousands of actions, so behind the first rounds a
 /// round has no more workers than the one before had work for.
 #[derive(Drop)]
@@ -28,7 +25,7 @@ impl RoundWorkers {
 
     // How many workers had work in the last round.
     fn had_work(&self) -> u32 {
-        (1 + self.actions / WORTH_A_THREAD).min(MOST_WORKERS)
+        1 + self.actions / WORTH_A_THREAD
     }
 
     /// Whether the next round is to start threads.
@@ -38,10 +35,11 @@ impl RoundWorkers {
 
     /// How many workers the next round has, where a run has so many.
     pub fn workers(&self, most: u8) -> u8 {
-        if self.rounds < FIRST_ROUNDS {
+        let worth = self.had_work();
+        if self.rounds < FIRST_ROUNDS || worth >= u32::from(most) {
             most
         } else {
-            most.min(self.had_work() as u8)
+            worth as u8
         }
     }
 
