@@ -5,8 +5,10 @@
  * With ARMUS_GUARD there is no watcher. A rank that has to wait first writes what it counted, asks, and reads its answer; where that refuses, the call gives an error. As long
  * as it runs nobody is stuck because of it, so its counts need not be known before.
  *
- * All lines of a rank are about itself: its phase on world.Barrier is the number of barriers of world that it came to, on 0>1 the number of messages that rank 0 sent
- * to rank 1, on 0<1 the number of receives that rank 1 began from rank 0. Different collectives are different phasers, so that two that do not fit are told. */
+ * All lines of a rank are about itself: its phase on world.Barrier is the number of barriers of world that it came to, on 0>1.world.7 the number of messages with tag 7
+ * that rank 0 sent to rank 1 in world, on 1<0.world.7 the number of receives that rank 1 began for such messages. Different collectives are different phasers, so that two
+ * that do not fit are told. Who has sent no message with a tag does not know that somebody waits for one. So the counts of messages are comments; armus-run makes a member
+ * of each that somebody waits for. */
 #define _GNU_SOURCE
 #include <dlfcn.h>
 #include <elf.h>
@@ -36,7 +38,7 @@ enum kind { BARRIER, ALLREDUCE, ALLGATHER, ALLGATHERV, ALLTOALL, ALLTOALLV, ALLT
             SCAN, EXSCAN,                           /* the last rank waits for all */
             REDUCE, GATHER, GATHERV,                /* the root waits for all */
             BCAST, SCATTER, SCATTERV, IBCAST, KINDS, /* all wait for the root */
-            SEND, RECEIVE, POST, COMPLETE, ANY, ONE_OF, ALL_OF, NONE };
+            SEND, RECEIVE, POST, COMPLETE, ANY, ABROAD, ONE_OF, ALL_OF, NONE };
 static const char *const kind_names[KINDS] = {"Barrier", "Allreduce", "Allgather", "Allgatherv", "Alltoall", "Alltoallv", "Alltoallw", "Reduce_scatter",
     "Reduce_scatter_block", "Ibarrier", "Iallreduce", "Iallgather", "Ialltoall", "Comm_dup", "Comm_split", "Win_create", "Win_fence", "Win_free", "Finalize", "Scan", "Exscan", "Reduce", "Gather", "Gatherv", "Bcast",
     "Scatter", "Scatterv", "Ibcast"};
@@ -44,6 +46,20 @@ static const char *const kind_names[KINDS] = {"Barrier", "Allreduce", "Allgather
 #define FIRST_ROOTED REDUCE
 #define FIRST_FROM_ROOT BCAST
 enum { FROM_ROOT = KINDS - BCAST, RANKS = 128, WINDOW_RANKS = 32, THREADS = 64, REQUESTS = 1024, PARTS = 32, LINE = 512, NAME = 40, PERIOD = 50, REACHED_IN = 2000 };
+enum { EXACT_TAGS = 1024, TAG_CLASSES = 64, CHANNELS = 16384, BUCKETS = 64, COUNTS_IN_A_LOOK = 1000, EVERY_TAG = -1, ANY_RANK = -1, NO_RANK = -2, LONG_PATIENCE = 10 };
+
+/* The messages between this rank and another one in a communicator, of one tag or of all together. Tags from EXACT_TAGS on are counted by classes. Receives that name no
+ * source or no tag are counted apart, at ANY_RANK and EVERY_TAG, and where it is known what they took, there. */
+struct channel {
+    struct communicator *of;
+    int peer, tag;                                  /* the other one's rank in world */
+    _Atomic(unsigned) sent, given_up;               /* messages to it; those of them that were cancelled */
+    _Atomic(unsigned) begun, under_way, taken;      /* receives from it; requests of them that are not done; messages that came */
+    _Atomic(struct slot *) user;                    /* the thread that uses it */
+    _Atomic(bool) has_users;                        /* several do: nothing is known of their order */
+    unsigned said_sent, said_begun;                 /* the watcher's */
+    struct channel *next;
+};
 
 struct communicator {
     bool named, gone, between;                      /* between: an inter-communicator, whose collectives wait for the other side alone */
@@ -58,6 +74,10 @@ struct communicator {
     _Atomic(unsigned) *from[FROM_ROOT];             /* how often each root was one */
     unsigned made, windows;                         /* communicators and windows made from it */
     struct epochs *epochs;                          /* of a window; else nothing */
+    _Atomic(struct channel *) channels[BUCKETS];
+    _Atomic(bool) has_channels;
+    unsigned *said_wild;                            /* the watcher's: of each rank of world, the receives that name no tag */
+    bool abroad;                                    /* with ranks of a world that this one spawned, or of the one that spawned it */
     struct communicator *next;
 };
 
@@ -70,12 +90,13 @@ struct epochs {
 };
 
 /* One of several requests that a call waits for. */
-struct part { int kind, peer, place; unsigned needs; struct communicator *of; };
+struct part { int kind, peer, place; unsigned needs; struct communicator *of; struct channel *channel; };
 
 struct slot {
     _Atomic(unsigned) count;                        /* odd: in a call that may wait */
     _Atomic(int) kind, peer;
     _Atomic(struct communicator *) of;
+    _Atomic(struct channel *) channel;
     _Atomic(unsigned) needs;
     _Atomic(const void *) from;
     struct part part[PARTS];                        /* of ONE_OF and ALL_OF; written before the counter */
@@ -89,6 +110,7 @@ struct slot {
     unsigned number;                                /* of the announced wait, where it has a wildcard or several requests */
     bool any;                                       /* it has a wildcard of its own */
     int told_parts;                                 /* how many requests are tasks of their own now */
+    const char *part_word;                          /* how they are called */
     struct part waits[PARTS];
 };
 
@@ -96,22 +118,24 @@ static struct slot slots[THREADS];
 static _Atomic(unsigned) slot_count;
 static __thread struct slot *mine;
 static _Atomic(struct communicator *) all;
-static struct communicator world;
+static struct communicator world, unnamed = {.name = "others"};       /* unnamed: has the messages of all that have no name */
 static int key = MPI_KEYVAL_INVALID, window_key = MPI_KEYVAL_INVALID, rank = -1, size;
-static _Atomic(unsigned) sent[RANKS], begun[RANKS], taken[RANKS], begun_any;
-static unsigned said_sent[RANKS], said_begun[RANKS];
-static _Atomic(bool) sends_uncounted, receives_uncounted, on;
-static bool left_sends, left_receives, joined_pairs, shared, others_unknown;
+static struct channel nowhere;                      /* of messages that are not counted any more */
+static _Atomic(unsigned) channel_count, sent_abroad, taken_abroad;
+static unsigned said_sent_abroad, said_taken_abroad;
+static _Atomic(bool) sends_uncounted, receives_uncounted, sources_unknown, on;    /* sources_unknown: a message came of which it is not known from whom */
+static bool left_sends, left_receives, shared, others_unknown;
 static char job[16], process[NAME];
 static int out = -1;
 static struct stat out_stat;
 static pthread_mutex_t line_lock = PTHREAD_MUTEX_INITIALIZER;   /* of two threads of the recorder's own lines: held for one look, never in a call of MPI */
 static pthread_mutex_t made_lock = PTHREAD_MUTEX_INITIALIZER;   /* of the table of inter-communicators */
+static pthread_mutex_t channel_lock = PTHREAD_MUTEX_INITIALIZER;   /* of new channels: never held in a call of MPI */
 static pthread_t watcher;
 static _Atomic(bool) stopping;
 
 /* ---- the guard */
-enum { ANSWER_IN = 10000, COUNTED = 2 };             /* milliseconds */
+enum { ANSWER_IN = 10000, COUNTED = 4 };             /* milliseconds; how much a call counts */
 static bool guard, has_threads;                     /* it asks; several threads call MPI, and it asks no more */
 static __thread bool may_fail;                      /* the call that begins is one of C, which gives an error */
 static __thread _Atomic(unsigned) *counted[COUNTED];  /* what it counted already, and takes back where it is refused */
@@ -121,11 +145,15 @@ static void asks_no_more(void);
 /* A call begins that may be refused. */
 static void asks_now(void) {
     may_fail = guard;
-    counted[0] = counted[1] = NULL;
+    memset(counted, 0, sizeof counted);
 }
 
 static unsigned counts_at(_Atomic(unsigned) *counter) {
-    counted[counted[0] != NULL] = counter;
+    int i = 0;
+    while (i < COUNTED - 1 && counted[i] != NULL) {
+        i++;
+    }
+    counted[i] = counter;
     return atomic_fetch_add(counter, 1);
 }
 
@@ -194,7 +222,7 @@ static struct slot *own_slot(void) {
     return mine;
 }
 
-static struct slot *begins(enum kind kind, struct communicator *of, int peer, unsigned needs, const void *from) {
+static struct slot *begins_as(struct part p, const void *from) {
     struct slot *s = atomic_load_explicit(&on, memory_order_relaxed) ? own_slot() : NULL;
     bool fails_here = may_fail;
     may_fail = false;                               /* a call inside of another one is MPI's own */
@@ -202,32 +230,37 @@ static struct slot *begins(enum kind kind, struct communicator *of, int peer, un
         return NULL;
     }
     unsigned count = atomic_load_explicit(&s->count, memory_order_relaxed);
-    atomic_store_explicit(&s->kind, kind, memory_order_relaxed);
-    atomic_store_explicit(&s->of, of, memory_order_relaxed);
-    atomic_store_explicit(&s->peer, peer, memory_order_relaxed);
-    atomic_store_explicit(&s->needs, needs, memory_order_relaxed);
+    atomic_store_explicit(&s->kind, p.kind, memory_order_relaxed);
+    atomic_store_explicit(&s->of, p.of, memory_order_relaxed);
+    atomic_store_explicit(&s->channel, p.channel, memory_order_relaxed);
+    atomic_store_explicit(&s->peer, p.peer, memory_order_relaxed);
+    atomic_store_explicit(&s->needs, p.needs, memory_order_relaxed);
     atomic_store_explicit(&s->from, from, memory_order_relaxed);
     atomic_store_explicit(&s->count, count + 1, memory_order_release);
     if (guard) {
         s->refusal[0] = 0;
         if (s != slots) {
             asks_no_more();
-        } else if (fails_here && (kind < KINDS || kind == RECEIVE)) {
+        } else if (fails_here && (p.kind < KINDS || p.kind == RECEIVE)) {
             ask(s);
         }
     }
     return s;
 }
 
+static struct slot *begins(enum kind kind, struct communicator *of, int peer, unsigned needs, const void *from) {
+    return begins_as((struct part){.kind = kind, .of = of, .peer = peer, .needs = needs}, from);
+}
+
 /* Each request that was waited for was a task of its own, which ends; and each wildcard with it. */
 static void goes_on(struct slot *s) {
     for (int i = 0; i < s->told_parts; i++) {
-        if (s->waits[i].kind == ANY) {
+        if (s->waits[i].kind == ANY || s->waits[i].kind == ABROAD) {
             say("%s?any-%u.%d end", process, s->number, s->waits[i].place);
         }
-        say("%s.request-%d go", s->task, s->waits[i].place);
+        say("%s.%s-%d go", s->task, s->part_word, s->waits[i].place);
         if (!s->any) {
-            say("%s.request-%d leave %srequests-%u", s->task, s->waits[i].place, process, s->number);
+            say("%s.%s-%d leave %srequests-%u", s->task, s->part_word, s->waits[i].place, process, s->number);
         }
     }
     if (s->any) {
@@ -235,7 +268,7 @@ static void goes_on(struct slot *s) {
     }
     say("%s go", s->task);
     for (int i = 0; i < s->told_parts; i++) {
-        say("%s.request-%d end", s->task, s->waits[i].place);
+        say("%s.%s-%d end", s->task, s->part_word, s->waits[i].place);
     }
     s->any = false;
     s->told_parts = 0;
@@ -338,20 +371,144 @@ static void say_communicator(struct communicator *c, bool leaves) {
     c->joined = !leaves;
 }
 
-static void say_pairs(bool sends, bool leaves) {
-    char phaser[NAME];
-    for (int r = 0; r < size && size <= RANKS; r++) {
-        if (r != rank) {
-            snprintf(phaser, sizeof phaser, sends ? "%d>%d" : "%d<%d", sends ? rank : r, sends ? r : rank);
-            if (leaves) {
-                say("%s leave %s/%s", holder(), job, phaser);
-            } else if (sends) {
-                moves(phaser, &said_sent[r], atomic_load(&sent[r]), joined_pairs);
-            } else {
-                moves(phaser, &said_begun[r], atomic_load(&begun[r]) + atomic_load(&begun_any), joined_pairs);
+/* ---- the counts of messages */
+static int class_of(int tag) { return tag == MPI_ANY_TAG ? EVERY_TAG : tag < EXACT_TAGS ? tag : EXACT_TAGS + tag % TAG_CLASSES; }
+
+static struct channel *found_in(_Atomic(struct channel *) *bucket, int peer, int tag) {
+    struct channel *k = atomic_load_explicit(bucket, memory_order_acquire);
+    while (k != NULL && (k->peer != peer || k->tag != tag)) {
+        k = k->next;
+    }
+    return k;
+}
+
+/* The channel of a peer, or of ANY_RANK, and a class of tags; nowhere, where there are too many. */
+static struct channel *channel_of(struct communicator *c, int peer, int tag) {
+    struct communicator *of = c->named ? c : &unnamed;
+    _Atomic(struct channel *) *bucket = &of->channels[((unsigned)peer * 31u + (unsigned)tag) % BUCKETS];
+    struct channel *k = found_in(bucket, peer, tag);
+    if (k != NULL) {
+        return k;
+    }
+    pthread_mutex_lock(&channel_lock);
+    k = found_in(bucket, peer, tag);
+    if (k == NULL && atomic_load(&channel_count) < CHANNELS && (k = calloc(1, sizeof *k)) != NULL) {
+        atomic_fetch_add(&channel_count, 1);
+        k->of = of;
+        k->peer = peer;
+        k->tag = tag;
+        k->next = atomic_load(bucket);
+        atomic_store_explicit(bucket, k, memory_order_release);
+        atomic_store(&of->has_channels, true);
+    }
+    pthread_mutex_unlock(&channel_lock);
+    if (k == NULL) {
+        atomic_store(&sends_uncounted, true);
+        atomic_store(&receives_uncounted, true);
+    }
+    return k != NULL ? k : &nowhere;
+}
+
+/* How many receives a communicator has begun that name no tag, and this source or none. */
+static unsigned wild_from(struct communicator *c, int peer) {
+    unsigned n = 0;
+    for (int any = 0; any < 2; any++) {
+        int from = any ? ANY_RANK : peer;
+        const struct channel *k = found_in(&c->channels[((unsigned)from * 31u + (unsigned)EVERY_TAG) % BUCKETS], from, EVERY_TAG);
+        n += k != NULL ? atomic_load(&k->begun) : 0;
+    }
+    return n;
+}
+
+/* The phaser of what one rank of world sent to the other one ('>'), or began to take from it ('<'), in a channel. */
+static void message_phaser(char *to, int whose, char way, int other, const struct channel *k) {
+    char tag[16] = "any";
+    if (k->tag != EVERY_TAG) {
+        snprintf(tag, sizeof tag, k->tag < EXACT_TAGS ? "%d" : "x%d", k->tag < EXACT_TAGS ? k->tag : k->tag - EXACT_TAGS);
+    }
+    snprintf(to, 2 * NAME, "%d%c%d.%s.%s", whose, way, other, k->of->name, tag);
+}
+
+static int say_count(unsigned *said, unsigned now, int other, char way, const struct channel *k) {
+    char phaser[2 * NAME];
+    if (*said == now) {
+        return 0;
+    }
+    *said = now;
+    message_phaser(phaser, rank, way, other, k);
+    say("# count %s/%s %u", job, phaser, now);
+    return 1;
+}
+
+/* What a channel's counts say now. A receive that names no source may be of each one's channel. */
+static int say_channel(struct communicator *c, struct channel *k) {
+    if (k->peer == ANY_RANK) {
+        for (int r = 0; k->tag != EVERY_TAG && atomic_load(&k->begun) > 0 && r < size; r++) {
+            channel_of(c, r, k->tag);
+        }
+        return 0;
+    }
+    int lines = left_sends ? 0 : say_count(&k->said_sent, atomic_load(&k->sent), k->peer, '>', k);
+    if (!left_receives && k->tag != EVERY_TAG) {
+        const struct channel *any = found_in(&c->channels[((unsigned)ANY_RANK * 31u + (unsigned)k->tag) % BUCKETS], ANY_RANK, k->tag);
+        unsigned wild = (any != NULL ? atomic_load(&any->begun) : 0) + wild_from(c, k->peer);      /* first, so that none is missed that is counted there now */
+        lines += say_count(&k->said_begun, wild + atomic_load(&k->begun), k->peer, '<', k);
+    }
+    return lines;
+}
+
+/* What a communicator's messages say: of channels that are not counted one by one the receives that name no tag. How many lines it wrote. */
+static int say_channels(struct communicator *c) {
+    int lines = 0;
+    for (int wild = 1; wild >= 0; wild--) {         /* those that make channels for others first */
+        for (int i = 0; i < BUCKETS; i++) {
+            for (struct channel *k = atomic_load(&c->channels[i]); k != NULL && lines < COUNTS_IN_A_LOOK; k = k->next) {
+                lines += (k->peer == ANY_RANK) == wild ? say_channel(c, k) : 0;
             }
         }
     }
+    if (c->said_wild == NULL) {
+        c->said_wild = calloc((size_t)size, sizeof *c->said_wild);
+    }
+    for (int r = 0; r < size && !left_receives && c->said_wild != NULL; r++) {
+        unsigned wild = wild_from(c, r);
+        if (wild != c->said_wild[r]) {
+            c->said_wild[r] = wild;
+            say("# base %s/%d<%d.%s. %u", job, rank, r, c->name, wild);
+            lines++;
+        }
+    }
+    return lines;
+}
+
+/* Nobody waits for this rank's messages, or for its receives, any more. */
+static void leaves_messages(bool sends, bool *left) {
+    if (!*left && size <= RANKS) {
+        say("# uncounted %s/%d%c", job, rank, sends ? '>' : '<');
+    }
+    *left = true;
+}
+
+/* What the counts of messages say, before a wait is told: whether it is all of it. */
+static bool say_messages(void) {
+    int lines = 0;
+    if (atomic_load(&sends_uncounted)) {
+        leaves_messages(true, &left_sends);
+    }
+    if (atomic_load(&receives_uncounted)) {
+        leaves_messages(false, &left_receives);
+    }
+    if (size <= RANKS && !(left_sends && left_receives)) {
+        for (struct communicator *c = atomic_load(&all); c != NULL && lines < COUNTS_IN_A_LOOK; c = c->next) {
+            lines += atomic_load(&c->has_channels) ? say_channels(c) : 0;
+        }
+        lines += lines < COUNTS_IN_A_LOOK && atomic_load(&unnamed.has_channels) ? say_channels(&unnamed) : 0;
+    }
+    unsigned sent = atomic_load(&sent_abroad), taken = atomic_load(&taken_abroad);
+    if (sent != said_sent_abroad || taken != said_taken_abroad) {
+        say("# abroad %u %u", said_sent_abroad = sent, said_taken_abroad = taken);
+    }
+    return lines < COUNTS_IN_A_LOOK;
 }
 
 static void say_counts(void) {
@@ -360,19 +517,17 @@ static void say_counts(void) {
             say_communicator(c, false);
         }
     }
-    if (atomic_load(&sends_uncounted) && !left_sends) {
-        say_pairs(true, true);
-        left_sends = true;
-    } else if (!left_sends) {
-        say_pairs(true, false);
+}
+
+/* Who plays the part of this rank where somebody waits for its messages. */
+static void say_players(void) {
+    unsigned n = atomic_load(&slot_count) < THREADS ? atomic_load(&slot_count) : THREADS;
+    char line[LINE];
+    size_t k = (size_t)snprintf(line, sizeof line, "# plays");
+    for (unsigned i = 0; i < n && k < sizeof line; i++) {
+        k += (size_t)snprintf(line + k, sizeof line - k, " %s", slots[i].task);
     }
-    if (atomic_load(&receives_uncounted) && !left_receives) {
-        say_pairs(false, true);
-        left_receives = true;
-    } else if (!left_receives) {
-        say_pairs(false, false);
-    }
-    joined_pairs = true;
+    say("%s", k < LINE - 1 ? line : "# plays any");
 }
 
 /* A second thread that calls MPI: from now on the rank's part is that of one of its threads. */
@@ -389,15 +544,9 @@ static void share(void) {
                 say_communicator(c, true);
             }
         }
-        if (!left_sends) {
-            say_pairs(true, true);
-        }
-        if (!left_receives) {
-            say_pairs(false, true);
-        }
-        joined_pairs = false;
     }
     shared = true;
+    say_players();
     size_t k = (size_t)snprintf(line, sizeof line, "%s of", holder());
     for (unsigned i = 0; i < n && k < sizeof line; i++) {
         k += (size_t)snprintf(line + k, sizeof line - k, " %s", slots[i].task);
@@ -424,10 +573,10 @@ static bool event_of(char *phaser, const struct part *p) {
         epoch_phaser(phaser, c, p->kind, p->peer, c->me);
         return true;
     }
-    if ((p->kind != SEND && p->kind != RECEIVE) || size > RANKS || p->peer < 0) {
+    if ((p->kind != SEND && p->kind != RECEIVE) || size > RANKS || p->channel == NULL || p->channel == &nowhere || p->channel->peer < 0) {
         return false;
     }
-    snprintf(phaser, 2 * NAME, p->kind == SEND ? "%d<%d" : "%d>%d", p->kind == SEND ? rank : p->peer, p->kind == SEND ? p->peer : rank);
+    message_phaser(phaser, p->channel->peer, p->kind == SEND ? '<' : '>', rank, p->channel);
     return true;
 }
 
@@ -435,7 +584,7 @@ static bool event_of(char *phaser, const struct part *p) {
 static void say_any(const char *name, const struct communicator *c) {
     char line[LINE];
     size_t k = (size_t)snprintf(line, sizeof line, "%s?%s of", process, name);
-    bool known = c->peers > 1;
+    bool known = c->peers > 1 && !c->abroad;
     for (int r = 0; r < c->peers && k < sizeof line; r++) {
         known &= c->peer[r] >= 0;
         if (c->peer[r] != rank) {
@@ -450,61 +599,96 @@ static void say_any(const char *name, const struct communicator *c) {
     say("%s?%s join %s%s 0", process, name, process, name);
 }
 
-/* Several requests: each is a task of its own that waits for its event. The thread waits for all of them, or for one. */
+static bool is_wild(const struct part *p) { return p->kind == ANY || p->kind == ABROAD; }
+
+/* What a thread waits for, all of it or one: each part is a task of its own that waits for its event. */
+static void say_parts(struct slot *s, bool all, const char *at) {
+    char phaser[2 * NAME], name[NAME], line[LINE];
+    size_t k = (size_t)snprintf(line, sizeof line, "%s?any-%u of", process, s->number);
+    for (int i = 0; i < s->told_parts; i++) {
+        const struct part *p = &s->waits[i];
+        say("%s.%s-%d at @%s", s->task, s->part_word, p->place, at);
+        k += k < sizeof line ? (size_t)snprintf(line + k, sizeof line - k, " %s.%s-%d", s->task, s->part_word, p->place) : 0;
+        if (all) {
+            say("%s.%s-%d join %srequests-%u 0", s->task, s->part_word, p->place, process, s->number);
+        }
+    }
+    if (!all) {
+        say(k < LINE - 1 ? "%s" : "%.0s%s?any-%u any", line, process, s->number);
+        say("%s?any-%u join %srequests-%u 0", process, s->number, process, s->number);
+        s->any = true;
+    }
+    for (int i = 0; i < s->told_parts; i++) {
+        const struct part *p = &s->waits[i];
+        if (is_wild(p)) {
+            snprintf(name, sizeof name, "any-%u.%d", s->number, p->place);
+            say_any(name, p->of);
+            say("%s.%s-%d wait %s%s 1 @%s", s->task, s->part_word, p->place, process, name, at);
+        } else {
+            event_of(phaser, p);
+            say("%s.%s-%d wait %s/%s %u @%s", s->task, s->part_word, p->place, job, phaser, p->needs, at);
+        }
+    }
+    say("%s wait %srequests-%u 1 @%s", s->task, process, s->number, at);
+}
+
+/* Several requests. False where they may come without the others. */
 static bool say_requests(struct slot *s, const char *at) {
     bool all = atomic_load(&s->kind) == ALL_OF;
-    char phaser[2 * NAME], name[NAME], line[LINE];
+    char phaser[2 * NAME];
     int n = s->parts;
     for (int i = 0; i < n; i++) {
         s->waits[i] = s->part[i];
     }
     for (int i = 0; i < n; i++) {
-        if (s->waits[i].kind != ANY && !event_of(phaser, &s->waits[i])) {
+        if (!is_wild(&s->waits[i]) && !event_of(phaser, &s->waits[i])) {
             if (!all) {
                 return false;                                  /* this one may come */
             }
             s->waits[i--] = s->waits[--n];
         }
     }
-    size_t k = (size_t)snprintf(line, sizeof line, "%s?any-%u of", process, s->number);
-    for (int i = 0; i < n; i++) {
-        const struct part *p = &s->waits[i];
-        say("%s.request-%d at @%s", s->task, p->place, at);
-        k += k < sizeof line ? (size_t)snprintf(line + k, sizeof line - k, " %s.request-%d", s->task, p->place) : 0;
-        if (all) {
-            say("%s.request-%d join %srequests-%u 0", s->task, p->place, process, s->number);
-        }
-    }
-    if (!all && n > 0) {
-        say(k < LINE - 1 ? "%s" : "%.0s%s?any-%u any", line, process, s->number);
-        say("%s?any-%u join %srequests-%u 0", process, s->number, process, s->number);
-        s->any = true;
-    }
     s->told_parts = n;
-    for (int i = 0; i < n; i++) {
-        const struct part *p = &s->waits[i];
-        if (p->kind == ANY) {
-            snprintf(name, sizeof name, "any-%u.%d", s->number, p->place);
-            say_any(name, p->of);
-            say("%s.request-%d wait %s%s 1 @%s", s->task, p->place, process, name, at);
-        } else {
-            event_of(phaser, p);
-            say("%s.request-%d wait %s/%s %u @%s", s->task, p->place, job, phaser, p->needs, at);
-        }
-    }
+    s->part_word = "request";
     if (n > 0) {
-        say("%s wait %srequests-%u 1 @%s", s->task, process, s->number, at);
+        say_parts(s, all, at);
     }
     return n > 0;
 }
 
+/* A message of one tag from anybody: one from each of the others, as far as it is known what came from them. */
+static bool say_sources(struct slot *s, struct communicator *c, const struct channel *wild, const char *at) {
+    int n = 0;
+    bool is_known = wild != NULL && wild != &nowhere && size <= RANKS && c->peers <= PARTS && !c->abroad && !atomic_load(&sources_unknown);
+    for (int r = 0; is_known && r < c->peers; r++) {
+        is_known = c->peer[r] >= 0;
+        if (is_known && (c->peer[r] != rank || shared)) {
+            struct channel *k = channel_of(c, c->peer[r], wild->tag);
+            s->waits[n++] = (struct part){.kind = RECEIVE, .place = c->peer[r], .needs = atomic_load(&k->taken) + 1, .channel = k};
+            is_known = k != &nowhere;
+        }
+    }
+    s->told_parts = is_known ? n : 0;
+    s->part_word = "from";
+    if (s->told_parts > 0) {
+        say_parts(s, false, at);
+    }
+    return s->told_parts > 0;
+}
+
 static bool wait_line(struct slot *s) {
-    struct part p = {.kind = atomic_load(&s->kind), .peer = atomic_load(&s->peer), .needs = atomic_load(&s->needs), .of = atomic_load(&s->of)};
+    struct part p = {.kind = atomic_load(&s->kind), .peer = atomic_load(&s->peer), .needs = atomic_load(&s->needs), .of = atomic_load(&s->of), .channel = atomic_load(&s->channel)};
     char phaser[2 * NAME], at[300];
     static unsigned numbers;
     snprintf(at, sizeof at, "%s", place(atomic_load(&s->from)));
-    if (p.kind == ANY && p.of != NULL) {
+    if (is_wild(&p) && p.of != NULL) {
         s->number = ++numbers;
+        if (p.kind == ANY && say_sources(s, p.of, p.channel, at)) {
+            return true;
+        }
+        if (s->stood + 1 < LONG_PATIENCE) {
+            return false;
+        }
         s->any = true;
         snprintf(phaser, sizeof phaser, "any-%u", s->number);
         say_any(phaser, p.of);
@@ -525,7 +709,7 @@ static bool wait_line(struct slot *s) {
 /* So many looks a call has to stand in. A collective waits for the others in any case; a message that is on its way, or that is sent without a word, goes on by itself. */
 static unsigned patience(const struct slot *s) {
     int kind = atomic_load(&s->kind);
-    return kind < KINDS ? 2 : kind == SEND || kind == RECEIVE ? 3 : 10;
+    return kind < KINDS ? 2 : kind == SEND || kind == RECEIVE || kind == ANY ? 3 : LONG_PATIENCE;
 }
 
 /* A wait is announced where the thread still stands in it behind the last word: else all of it is taken back before it is written. */
@@ -566,10 +750,13 @@ static void look(void) {
     if (shared || slots[0].told == 0) {
         say_counts();
     }
-    for (unsigned i = 0; i < n; i++) {
+    for (unsigned i = 0, whole = 2; i < n && whole > 0; i++) {
         struct slot *s = &slots[i];
         if (s->stood >= patience(s) - 1 && s->told == 0 && atomic_load(&s->count) == counts[i]) {
-            announce(s, counts[i]);
+            whole = whole == 2 ? say_messages() : whole;
+            if (whole > 0) {
+                announce(s, counts[i]);
+            }
         }
     }
     hand_over();
@@ -590,13 +777,8 @@ static void asks_no_more(void) {
                 say_communicator(c, true);
             }
         }
-        if (!left_sends) {
-            say_pairs(true, true);
-        }
-        if (!left_receives) {
-            say_pairs(false, true);
-        }
-        left_sends = left_receives = true;
+        leaves_messages(true, &left_sends);
+        leaves_messages(false, &left_receives);
         hand_over();
     }
     pthread_mutex_unlock(&line_lock);
@@ -671,7 +853,7 @@ static void ask(struct slot *s) {
     pthread_mutex_lock(&line_lock);
     if (!has_threads && out >= 0) {
         say_counts();
-        asks = wait_line(s);
+        asks = say_messages() && wait_line(s);
         if (asks) {
             __atomic_store_n(&s->told, atomic_load(&s->count), __ATOMIC_SEQ_CST);
         }
@@ -696,6 +878,7 @@ static int fails(struct slot *s, MPI_Comm handle) {
     }
     pthread_mutex_lock(&line_lock);
     say_counts();
+    say_messages();
     hand_over();
     pthread_mutex_unlock(&line_lock);
     snprintf(line, sizeof line, "deadlock: %.*s", (int)sizeof line - 20, s->refusal);
@@ -798,6 +981,9 @@ static struct communicator *known(MPI_Comm handle) {
  * rank of another world has none. */
 static void made(MPI_Comm parent, MPI_Comm handle, const char *how) {
     struct communicator *p = known(parent);
+    if (p != NULL && p->abroad && handle != MPI_COMM_NULL) {
+        known(handle)->abroad = true;
+    }
     if (p == NULL || !p->named || !atomic_load(&on)) {
         return;
     }
@@ -1015,6 +1201,8 @@ static void begin(const void *from) {
         return;
     }
     say("# process %s", process);
+    say("# base %s/%d> 0", job, rank);
+    say("# base %s/%d< 0", job, rank);
     guard = getenv("ARMUS_GUARD") != NULL;
     PMPI_Comm_create_keyval(MPI_COMM_NULL_COPY_FN, is_freed, &key, NULL);
     PMPI_Win_create_keyval(MPI_WIN_NULL_COPY_FN, window_is_freed, &window_key, NULL);
@@ -1023,6 +1211,11 @@ static void begin(const void *from) {
     known_ranks(&world, MPI_COMM_WORLD);
     atomic_store(&on, true);
     struct slot *s = own_slot();
+    say_players();
+    if (parent != MPI_COMM_NULL) {
+        known(parent)->abroad = true;
+        say("# spawned 0 1");
+    }
     atomic_store(&s->from, from);
     look();
     if (guard) {
@@ -1052,12 +1245,9 @@ static void end(void) {
                 say_communicator(c, true);
             }
         }
-        if (!left_sends) {
-            say_pairs(true, true);
-        }
-        if (!left_receives) {
-            say_pairs(false, true);
-        }
+        say_messages();
+        leaves_messages(true, &left_sends);
+        leaves_messages(false, &left_receives);
         if (shared) {
             say("%s end", holder());
         }
@@ -1155,7 +1345,7 @@ int MPI_Finalize(void) {
     bool refused = is_refused(s);
     int result = refused ? fails(s, MPI_COMM_WORLD) : PMPI_Finalize();
     ends(s);
-    if (!refused) {
+    if (!refused && !is_inside()) {                 /* inside of Fortran's own, which ends it then */
         end();
     }
     return result;
@@ -1192,6 +1382,34 @@ int MPI_Intercomm_create(MPI_Comm own, int leader, MPI_Comm through, int other, 
     ends(s);
     return result;
 }
+
+/* A world that this one spawns: who may send from there is not known by name, but how many they are. */
+static void has_spawned(MPI_Comm own, int root, MPI_Comm to) {
+    int me = 0, n = 0;
+    known(to)->abroad = true;
+    PMPI_Comm_rank(own, &me);
+    if (me == root) {
+        PMPI_Comm_remote_size(to, &n);
+        pthread_mutex_lock(&line_lock);
+        say("# spawned %d 0", n);
+        hand_over();
+        pthread_mutex_unlock(&line_lock);
+    }
+}
+
+#define SPAWNS(name, parameters, words) \
+    int MPI_##name parameters { \
+        struct slot *s = begins(NONE, NULL, 0, 0, HERE); \
+        int result = PMPI_##name words; \
+        if (s != NULL && result == MPI_SUCCESS) { \
+            has_spawned(h, root, *to); \
+        } \
+        ends(s); \
+        return result; \
+    }
+SPAWNS(Comm_spawn, (const char *what, char *argv[], int most, MPI_Info i, int root, MPI_Comm h, MPI_Comm *to, int *codes), (what, argv, most, i, root, h, to, codes))
+SPAWNS(Comm_spawn_multiple, (int n, char *whats[], char **argvs[], const int *most, const MPI_Info *i, int root, MPI_Comm h, MPI_Comm *to, int *codes),
+    (n, whats, argvs, most, i, root, h, to, codes))
 
 MAKES(Intercomm_merge, "merge", h, to, (MPI_Comm h, int high, MPI_Comm *to), (h, high, to))
 
@@ -1254,7 +1472,7 @@ static struct slot *waits_for_ranks(enum kind kind, struct communicator *c, int 
     s->parts = 0;
     for (int i = 0; i < n && s->parts < PARTS; i++) {
         if (ranks[i] >= 0 && ranks[i] != c->me) {
-            s->part[s->parts++] = (struct part){kind, ranks[i], c->world[ranks[i]], needed[ranks[i]], c};
+            s->part[s->parts++] = (struct part){.kind = kind, .peer = ranks[i], .place = c->world[ranks[i]], .needs = needed[ranks[i]], .of = c};
         }
     }
     if (s->parts == 1) {
@@ -1314,102 +1532,223 @@ int MPI_Win_wait(MPI_Win w) {
     return result;
 }
 
-/* ---- messages: counted for each pair of ranks of world, all tags and communicators together. So a receive waits for less than it needs, and never for more. */
-static int world_rank(const struct communicator *c, int r) { return c != NULL && r >= 0 && r < c->peers && c->peer[r] < RANKS && c->peer[r] != rank ? c->peer[r] : -1; }
+/* ---- messages: counted for each pair of ranks of world, communicator and tag */
+static int world_rank(const struct communicator *c, int r) { return c != NULL && r >= 0 && r < c->peers && c->peer[r] < RANKS && c->peer[r] >= 0 ? c->peer[r] : NO_RANK; }
 
-static unsigned sends_to(int peer) { return peer >= 0 ? counts_at(&sent[peer]) + 1 : 0; }
+/* Whether this is a rank of the world that spawned this one, or that this one spawned. */
+static bool is_abroad(const struct communicator *c, int r) { return c != NULL && c->abroad && r >= 0 && r < c->peers && c->peer[r] < 0; }
 
-static unsigned receives_from(int peer) {
-    if (peer < 0) {
-        return 0;
-    }
-    counts_at(&begun[peer]);
-    return atomic_load(&taken[peer]) + 1;
+/* The channel of a message or receive; nothing where it is not counted. */
+static struct channel *channel_at(struct communicator *c, int other, int tag) {
+    int peer = c == NULL ? NO_RANK : other == MPI_ANY_SOURCE ? ANY_RANK : world_rank(c, other);
+    return peer == NO_RANK || size > RANKS ? NULL : channel_of(c, peer, class_of(tag));
 }
 
-static void was_taken(const struct communicator *c, const MPI_Status *status) {
-    int from = world_rank(c, status->MPI_SOURCE);
-    if (from >= 0) {
-        atomic_fetch_add(&taken[from], 1);
+static struct channel *every_tag(struct channel *k) { return k == &nowhere ? k : channel_of(k->of, k->peer, EVERY_TAG); }
+
+/* Whether what is begun in a channel is begun one behind the other, and each for the next message. */
+static bool is_in_order(struct channel *k) {
+    struct slot *own = own_slot(), *before = NULL;
+    if (!atomic_compare_exchange_strong(&k->user, &before, own) && before != own) {
+        atomic_store(&k->has_users, true);
+    }
+    return k->tag < EXACT_TAGS && k->of != &unnamed && !atomic_load(&k->has_users);
+}
+
+/* Which message of its channel is sent now. */
+static unsigned counts_message(struct channel *k) {
+    unsigned before = counts_at(&k->sent);
+    counts_at(&every_tag(k)->sent);
+    return is_in_order(k) ? before + 1 - atomic_load(&k->given_up) : 1;
+}
+
+/* Counts a message to a rank. What its sending may have to wait for: so many receives as it is the message of its channel; nothing where it is not counted. */
+static struct part sends_to(struct communicator *c, int to, int tag) {
+    struct channel *k = channel_at(c, to, tag);
+    if (k == NULL) {
+        if (is_abroad(c, to)) {
+            atomic_fetch_add(&sent_abroad, 1);
+        }
+        return (struct part){.kind = NONE, .peer = -1};
+    }
+    return (struct part){.kind = k == &nowhere ? NONE : SEND, .peer = k->peer, .needs = counts_message(k), .channel = k};
+}
+
+/* How many messages a receive that begins now needs, of a channel that names a source. Those that are under way and know their tag come first. */
+static unsigned needed(struct channel *k) {
+    return atomic_load(&k->taken) + 1 + (k->tag != EVERY_TAG && is_in_order(k) ? atomic_load(&k->under_way) : 0);
+}
+
+/* A receive is done, and this message came: what was a receive from anybody or of any tag is one of its channel now. No status: it is not known which message came. */
+static void took(struct communicator *c, struct channel *k, const MPI_Status *status) {
+    if (k == NULL || k == &nowhere) {
+        return;
+    }
+    struct channel *of_message = k;
+    if (k->peer == ANY_RANK || k->tag == EVERY_TAG) {
+        int peer = status != NULL ? world_rank(c, status->MPI_SOURCE) : k->peer;
+        if (peer < 0) {
+            atomic_store(&sources_unknown, true);
+            if (status != NULL && is_abroad(c, status->MPI_SOURCE)) {
+                atomic_fetch_add(&taken_abroad, 1);
+            }
+            return;
+        }
+        of_message = channel_of(c, peer, status != NULL ? class_of(status->MPI_TAG) : EVERY_TAG);
+        if (status != NULL) {
+            atomic_fetch_add(&of_message->begun, 1);
+            atomic_fetch_sub(&k->begun, 1);
+        }
+    }
+    atomic_fetch_add(&of_message->taken, 1);
+    if (of_message->tag != EVERY_TAG) {
+        atomic_fetch_add(&every_tag(of_message)->taken, 1);
+    }
+}
+
+/* A call that receives, or that waits for a message without taking it. */
+struct receive { struct communicator *of; struct channel *channel; bool is_abroad; };
+
+static struct receive receive_at(MPI_Comm handle, int from, int tag) {
+    struct communicator *c = counts() ? known(handle) : NULL;
+    return (struct receive){c, channel_at(c, from, tag), is_abroad(c, from)};
+}
+
+static struct slot *waits_for_message(const struct receive *r, const void *at) {
+    struct channel *k = r->channel;
+    if (k == NULL) {
+        return begins(r->is_abroad ? ABROAD : NONE, r->of, -1, 1, at);
+    }
+    bool any = k->peer == ANY_RANK;
+    return begins_as((struct part){.kind = any ? ANY : RECEIVE, .of = r->of, .peer = k->peer, .needs = any ? 1 : needed(k), .channel = k}, at);
+}
+
+static struct slot *receives(const struct receive *r, const void *at) {
+    struct part p = {.kind = NONE, .of = r->of, .peer = -1, .needs = 1, .channel = r->channel};
+    if (r->channel == NULL) {
+        return waits_for_message(r, at);
+    }
+    p.peer = r->channel->peer;
+    p.kind = p.peer == ANY_RANK ? ANY : RECEIVE;
+    p.needs = p.peer == ANY_RANK ? 1 : needed(r->channel);
+    counts_at(&r->channel->begun);
+    return begins_as(p, at);
+}
+
+/* Whether a message came, though perhaps not all of it had room. */
+static bool has_come(int result) {
+    int class = MPI_SUCCESS;
+    if (result != MPI_SUCCESS) {
+        PMPI_Error_class(result, &class);
+    }
+    return class == MPI_SUCCESS || class == MPI_ERR_TRUNCATE;
+}
+
+static void has_received(const struct slot *s, const struct receive *r, int result, const MPI_Status *status) {
+    if (s != NULL && has_come(result)) {
+        took(r->of, r->channel, result == MPI_SUCCESS ? status : NULL);
+        if (r->is_abroad) {
+            atomic_fetch_add(&taken_abroad, 1);
+        }
     }
 }
 
 #define SENDS(name) \
     int MPI_##name(const void *a, int n, MPI_Datatype t, int to, int tag, MPI_Comm h) { \
-        int peer = counts() ? world_rank(known(h), to) : -1; \
-        struct slot *s = begins(peer >= 0 ? SEND : NONE, NULL, peer, sends_to(peer), HERE); \
+        struct slot *s = begins_as(sends_to(counts() ? known(h) : NULL, to, tag), HERE); \
         int result = PMPI_##name(a, n, t, to, tag, h); \
         ends(s); \
         return result; \
     }
+
 SENDS(Send)
 SENDS(Ssend)
 SENDS(Rsend)
 SENDS(Bsend)
 
-static struct slot *receives(int from, const struct communicator *c, const void *at) {
-    int peer = world_rank(c, from);
-    if (from == MPI_ANY_SOURCE && c != NULL) {
-        atomic_fetch_add(&begun_any, 1);
-        return begins(ANY, (struct communicator *)c, -1, 1, at);
-    }
-    return begins(peer >= 0 ? RECEIVE : NONE, NULL, peer, receives_from(peer), at);
-}
-
 int MPI_Recv(void *a, int n, MPI_Datatype t, int from, int tag, MPI_Comm h, MPI_Status *status) {
-    MPI_Status own;
-    struct communicator *c = counts() ? known(h) : NULL;
+    MPI_Status own, *to = status == MPI_STATUS_IGNORE ? &own : status;
     asks_now();
-    struct slot *s = receives(from, c, HERE);
-    MPI_Status *to = status == MPI_STATUS_IGNORE ? &own : status;
-    int result = is_refused(s) ? fails(s, h) : PMPI_Recv(a, n, t, from, tag, h, to);
-    if (s != NULL && result == MPI_SUCCESS) {
-        was_taken(c, to);
-    }
+    struct receive r = receive_at(h, from, tag);
+    struct slot *s = receives(&r, HERE);
+    bool refused = is_refused(s);
+    int result = refused ? fails(s, h) : PMPI_Recv(a, n, t, from, tag, h, to);
+    has_received(refused ? NULL : s, &r, result, to);
     ends(s);
     return result;
 }
 
 int MPI_Probe(int from, int tag, MPI_Comm h, MPI_Status *status) {
-    struct communicator *c = counts() ? known(h) : NULL;
-    int peer = world_rank(c, from);
     asks_now();
-    struct slot *s = begins(from == MPI_ANY_SOURCE && c != NULL ? ANY : peer >= 0 ? RECEIVE : NONE, c, peer, peer >= 0 ? atomic_load(&taken[peer]) + 1 : 1, HERE);
+    struct receive r = receive_at(h, from, tag);
+    struct slot *s = waits_for_message(&r, HERE);
     int result = is_refused(s) ? fails(s, h) : PMPI_Probe(from, tag, h, status);
+    ends(s);
+    return result;
+}
+
+/* A message that is taken out of the others, to be received later: it counts as received. */
+static void takes_out(const struct slot *s, const struct receive *r, const MPI_Status *status) {
+    if (s != NULL && r->channel != NULL) {
+        atomic_fetch_add(&r->channel->begun, 1);
+    }
+    has_received(s, r, MPI_SUCCESS, status);
+}
+
+int MPI_Mprobe(int from, int tag, MPI_Comm h, MPI_Message *message, MPI_Status *status) {
+    MPI_Status own, *to = status == MPI_STATUS_IGNORE ? &own : status;
+    asks_now();
+    struct receive r = receive_at(h, from, tag);
+    struct slot *s = waits_for_message(&r, HERE);
+    bool refused = is_refused(s);
+    int result = refused ? fails(s, h) : PMPI_Mprobe(from, tag, h, message, to);
+    if (!refused && result == MPI_SUCCESS) {
+        takes_out(s, &r, to);
+    }
+    ends(s);
+    return result;
+}
+
+int MPI_Improbe(int from, int tag, MPI_Comm h, int *flag, MPI_Message *message, MPI_Status *status) {
+    MPI_Status own, *to = status == MPI_STATUS_IGNORE ? &own : status;
+    struct receive r = receive_at(h, from, tag);
+    struct slot *s = begins(NONE, NULL, 0, 0, HERE);
+    int result = PMPI_Improbe(from, tag, h, flag, message, to);
+    if (result == MPI_SUCCESS && *flag) {
+        takes_out(s, &r, to);
+    }
     ends(s);
     return result;
 }
 
 int MPI_Sendrecv(const void *a, int n, MPI_Datatype t, int to, int tag, void *b, int m, MPI_Datatype u, int from, int tag2, MPI_Comm h, MPI_Status *status) {
     MPI_Status own, *into = status == MPI_STATUS_IGNORE ? &own : status;
-    struct communicator *c = counts() ? known(h) : NULL;
     asks_now();
-    sends_to(world_rank(c, to));
-    struct slot *s = receives(from, c, HERE);
-    int result = is_refused(s) ? fails(s, h) : PMPI_Sendrecv(a, n, t, to, tag, b, m, u, from, tag2, h, into);
-    if (s != NULL && result == MPI_SUCCESS) {
-        was_taken(c, into);
-    }
+    struct receive r = receive_at(h, from, tag2);
+    sends_to(r.of, to, tag);
+    struct slot *s = receives(&r, HERE);
+    bool refused = is_refused(s);
+    int result = refused ? fails(s, h) : PMPI_Sendrecv(a, n, t, to, tag, b, m, u, from, tag2, h, into);
+    has_received(refused ? NULL : s, &r, result, into);
     ends(s);
     return result;
 }
 
 int MPI_Sendrecv_replace(void *a, int n, MPI_Datatype t, int to, int tag, int from, int tag2, MPI_Comm h, MPI_Status *status) {
     MPI_Status own, *into = status == MPI_STATUS_IGNORE ? &own : status;
-    struct communicator *c = counts() ? known(h) : NULL;
     asks_now();
-    sends_to(world_rank(c, to));
-    struct slot *s = receives(from, c, HERE);
-    int result = is_refused(s) ? fails(s, h) : PMPI_Sendrecv_replace(a, n, t, to, tag, from, tag2, h, into);
-    if (s != NULL && result == MPI_SUCCESS) {
-        was_taken(c, into);
-    }
+    struct receive r = receive_at(h, from, tag2);
+    sends_to(r.of, to, tag);
+    struct slot *s = receives(&r, HERE);
+    bool refused = is_refused(s);
+    int result = refused ? fails(s, h) : PMPI_Sendrecv_replace(a, n, t, to, tag, from, tag2, h, into);
+    has_received(refused ? NULL : s, &r, result, into);
     ends(s);
     return result;
 }
 
 /* ---- requests. A table has what is known of each; one that is pushed out by another is only not known any more. */
-struct request { MPI_Request handle; int kind, peer; unsigned needs; struct communicator *of; bool there, begins_again; };
+struct request { MPI_Request handle; int kind, peer; unsigned needs; struct communicator *of; struct channel *channel; bool there, begins_again; };
 static struct request requests[REQUESTS];
 static pthread_mutex_t request_lock = PTHREAD_MUTEX_INITIALIZER;   /* of the table: never held in a call of MPI */
 
@@ -1426,10 +1765,26 @@ static struct request *entry_of(MPI_Request handle) {
     return free_one != NULL ? free_one : first;
 }
 
+/* A request is not under way any more, or nothing is known of it any more. */
+static void is_over(const struct request *r) {
+    if (r->there && r->kind == RECEIVE && r->needs > 0) {
+        atomic_fetch_sub(&r->channel->under_way, 1);
+    }
+}
+
+static void is_begun(const struct request *r) {
+    if (r->kind == RECEIVE && r->needs > 0) {
+        atomic_fetch_add(&r->channel->under_way, 1);
+    }
+}
+
 static void remember(struct request q) {
     pthread_mutex_lock(&request_lock);
+    struct request *r = entry_of(q.handle);
+    is_over(r);
     q.there = true;
-    *entry_of(q.handle) = q;
+    *r = q;
+    is_begun(r);
     pthread_mutex_unlock(&request_lock);
 }
 
@@ -1452,21 +1807,24 @@ static void forget(MPI_Request handle) {
     pthread_mutex_lock(&request_lock);
     struct request *r = entry_of(handle);
     if (r->handle == handle) {
+        is_over(r);
         r->there = r->begins_again && r->there;
         r->needs = 0;
     }
     pthread_mutex_unlock(&request_lock);
 }
 
-#define REQUEST_OF(KIND, to, needed, c) (struct request){.handle = *q, .kind = KIND, .peer = to, .needs = needed, .of = c}
+static struct request request_of(MPI_Request handle, struct communicator *c, struct part p) {
+    return (struct request){.handle = handle, .kind = p.kind, .peer = p.peer, .needs = p.needs, .of = c, .channel = p.channel};
+}
+
 #define BEGINS_SEND(name) \
     int MPI_##name(const void *a, int n, MPI_Datatype t, int to, int tag, MPI_Comm h, MPI_Request *q) { \
-        int peer = counts() ? world_rank(known(h), to) : -1; \
-        unsigned needs = sends_to(peer); \
-        struct slot *s = begins(NONE, NULL, peer, needs, HERE); \
+        struct part p = sends_to(counts() ? known(h) : NULL, to, tag); \
+        struct slot *s = begins(NONE, NULL, 0, 0, HERE); \
         int result = PMPI_##name(a, n, t, to, tag, h, q); \
-        if (s != NULL && peer >= 0 && result == MPI_SUCCESS) { \
-            remember(REQUEST_OF(SEND, peer, needs, NULL)); \
+        if (s != NULL && p.kind == SEND && result == MPI_SUCCESS) { \
+            remember(request_of(*q, NULL, p)); \
         } \
         ends(s); \
         return result; \
@@ -1476,22 +1834,32 @@ BEGINS_SEND(Issend)
 BEGINS_SEND(Irsend)
 BEGINS_SEND(Ibsend)
 
-int MPI_Irecv(void *a, int n, MPI_Datatype t, int from, int tag, MPI_Comm h, MPI_Request *q) {
-    struct communicator *c = counts() ? known(h) : NULL;
-    int peer = world_rank(c, from);
-    receives_from(peer);
-    if (from == MPI_ANY_SOURCE && c != NULL) {
-        atomic_fetch_add(&begun_any, 1);
+/* What a request for a message waits for. */
+static struct part part_of(const struct receive *r) {
+    struct channel *k = r->channel;
+    int kind = k == NULL ? r->is_abroad ? ABROAD : NONE : k == &nowhere ? NONE : k->peer == ANY_RANK ? ANY : RECEIVE;
+    return (struct part){.kind = kind, .peer = k != NULL ? k->peer : -1, .needs = 1, .of = r->of, .channel = k};
+}
+
+static struct slot *begins_receive(const struct receive *r, const void *at) {
+    if (r->channel != NULL) {
+        atomic_fetch_add(&r->channel->begun, 1);
     }
-    struct slot *s = begins(NONE, NULL, peer, 0, HERE);
+    return begins(NONE, NULL, -1, 0, at);
+}
+
+int MPI_Irecv(void *a, int n, MPI_Datatype t, int from, int tag, MPI_Comm h, MPI_Request *q) {
+    struct receive r = receive_at(h, from, tag);
+    struct slot *s = begins_receive(&r, HERE);
     int result = PMPI_Irecv(a, n, t, from, tag, h, q);
-    if (s != NULL && c != NULL && (peer >= 0 || from == MPI_ANY_SOURCE) && result == MPI_SUCCESS) {
-        remember(REQUEST_OF(peer >= 0 ? RECEIVE : ANY, peer, 1, c));
+    if (s != NULL && part_of(&r).kind != NONE && result == MPI_SUCCESS) {
+        remember(request_of(*q, r.of, part_of(&r)));
     }
     ends(s);
     return result;
 }
 
+#define REQUEST_OF(KIND, to, needed, c) (struct request){.handle = *q, .kind = KIND, .peer = to, .needs = needed, .of = c}
 #define BEGINS_COLLECTIVE(KIND, name, root, needs_data, parameters, words) \
     int MPI_##name parameters { \
         struct communicator *c = counts() ? known(h) : NULL; \
@@ -1510,22 +1878,26 @@ BEGINS_COLLECTIVE(IALLGATHER, Iallgather, 0, m > 0, (const void *a, int n, MPI_D
 BEGINS_COLLECTIVE(IALLTOALL, Ialltoall, 0, m > 0, (const void *a, int n, MPI_Datatype t, void *b, int m, MPI_Datatype u, MPI_Comm h, MPI_Request *q), (a, n, t, b, m, u, h, q))
 BEGINS_COLLECTIVE(IBCAST, Ibcast, r, n > 0, (void *a, int n, MPI_Datatype t, int r, MPI_Comm h, MPI_Request *q), (a, n, t, r, h, q))
 
-/* A request that was done. A receive counts as taken where its source is known; with no status that is the one that was named. */
+/* A request that was done. With no status it is not known which message came. */
 static void is_done(MPI_Request handle, const struct request *r, const MPI_Status *status) {
     int cancelled = 0;
-    if ((r->kind == RECEIVE || r->kind == ANY) && r->needs > 0) {
-        if (status != NULL) {
-            PMPI_Test_cancelled(status, &cancelled);
-        }
-        if (status != NULL && !cancelled) {
-            was_taken(r->of, status);
-        } else if (status == NULL && r->kind == RECEIVE) {
-            atomic_fetch_add(&taken[r->peer], 1);
-        }
+    if (status != NULL && r->kind != NONE && r->needs > 0) {
+        PMPI_Test_cancelled(status, &cancelled);
+    }
+    if (!cancelled && r->needs > 0 && (r->kind == RECEIVE || r->kind == ANY)) {
+        took(r->of, r->channel, status);
+    }
+    if (!cancelled && r->needs > 0 && r->kind == ABROAD) {
+        atomic_fetch_add(&taken_abroad, 1);
     }
     if (r->kind != NONE) {
         forget(handle);
     }
+}
+
+/* Whether a message of one channel has to come before the last one of the other. */
+static bool comes_before(const struct channel *one, const struct channel *other) {
+    return one == other || (other->tag == EVERY_TAG && one->of == other->of && one->peer == other->peer);
 }
 
 /* What a call waits for: the requests that are under way. Of receives from one rank that all have to come the second needs one message more than the first. */
@@ -1561,15 +1933,15 @@ static struct slot *waits(int n, const MPI_Request *q, const struct request *kno
         }
         unsigned needs = r->needs;
         if (r->kind == RECEIVE) {
-            needs = atomic_load(&taken[r->peer]) + 1;
+            needs = atomic_load(&r->channel->taken) + 1;
             for (int k = 0; k < s->parts && all; k++) {
-                needs += s->part[k].kind == RECEIVE && s->part[k].peer == r->peer;
+                needs += s->part[k].kind == RECEIVE && comes_before(s->part[k].channel, r->channel);
             }
         }
-        s->part[s->parts++] = (struct part){r->kind, r->peer, i, needs, r->of};
+        s->part[s->parts++] = (struct part){r->kind, r->peer, i, needs, r->of, r->channel};
     }
     if (s->parts == 1 && sends + others == 1) {
-        return begins((enum kind)s->part[0].kind, s->part[0].of, s->part[0].peer, s->part[0].needs, from);
+        return begins_as(s->part[0], from);
     }
     return begins(s->parts == 0 ? NONE : all && !sends_alone ? ALL_OF : ONE_OF, NULL, -1, 0, from);
 }
@@ -1666,29 +2038,51 @@ int MPI_Test(MPI_Request *q, int *flag, MPI_Status *status) {
     return result;
 }
 
-/* One that is given up is not counted, whether it was taken or not. */
-static void is_given_up(MPI_Request handle) {
+/* One that is given up is not counted as done, whether its message came or not. */
+static void is_given_up(MPI_Request handle, bool is_freed) {
     pthread_mutex_lock(&request_lock);
     struct request *r = entry_of(handle);
-    r->there = r->there && r->handle != handle;
+    if (r->there && r->handle == handle) {
+        is_over(r);
+        if (r->kind == SEND && !is_freed && r->needs > 0) {
+            atomic_fetch_add(&r->channel->given_up, 1);
+        }
+        r->needs = 0;
+        r->there = r->begins_again && !is_freed;
+    }
     pthread_mutex_unlock(&request_lock);
 }
 
-#define GIVES_UP(name) \
+#define GIVES_UP(name, is_freed) \
     int MPI_##name(MPI_Request *q) { \
-        is_given_up(*q); \
+        is_given_up(*q, is_freed); \
         return PMPI_##name(q); \
     }
-GIVES_UP(Request_free)
-GIVES_UP(Cancel)
+GIVES_UP(Request_free, true)
+GIVES_UP(Cancel, false)
 
 /* Requests that begin again and again: counted at each beginning. One of which nothing is known is not counted, and then nobody is told to wait for this rank. */
+/* Of a send its channel is kept, and at the beginning it is counted there. */
+static void is_made_once(MPI_Request handle, int kind, struct communicator *c, int other, int tag) {
+    struct receive r = {c, channel_at(c, other, tag), is_abroad(c, other)};
+    struct part p = part_of(&r);
+    if (kind == SEND) {
+        p.kind = p.kind == RECEIVE ? SEND : NONE;
+    }
+    struct request q = request_of(handle, c, p);
+    q.needs = 0;
+    q.begins_again = true;
+    if (c != NULL && (q.kind != NONE || other == MPI_PROC_NULL)) {
+        remember(q);
+    }
+}
+
 #define MADE_ONCE(KIND, name, parameters, words) \
     int MPI_##name parameters { \
         struct communicator *c = counts() ? known(h) : NULL; \
         int result = PMPI_##name words; \
-        if (c != NULL && result == MPI_SUCCESS) { \
-            remember((struct request){.handle = *q, .kind = KIND == RECEIVE && to == MPI_ANY_SOURCE ? ANY : KIND, .peer = world_rank(c, to), .of = c, .begins_again = true}); \
+        if (result == MPI_SUCCESS) { \
+            is_made_once(*q, KIND, c, to, tag); \
         } \
         return result; \
     }
@@ -1704,11 +2098,15 @@ static void begins_again(MPI_Request handle) {
     if (!r->there || r->handle != handle || !r->begins_again) {
         atomic_store(&sends_uncounted, true);
         atomic_store(&receives_uncounted, true);
-    } else if (r->kind == ANY) {
-        atomic_fetch_add(&begun_any, 1);
+        atomic_fetch_add(&sent_abroad, 1);          /* perhaps */
+    } else if (r->kind == SEND) {
+        r->needs = counts_message(r->channel);
+    } else if (r->kind != NONE) {
+        if (r->channel != NULL) {
+            atomic_fetch_add(&r->channel->begun, 1);
+        }
         r->needs = 1;
-    } else if (r->peer >= 0) {
-        r->needs = r->kind == SEND ? sends_to(r->peer) : receives_from(r->peer);
+        is_begun(r);
     }
     pthread_mutex_unlock(&request_lock);
 }
@@ -1733,25 +2131,27 @@ int MPI_Startall(int n, MPI_Request *q) {
     return result;
 }
 
-/* Messages that are not counted: nobody is told to wait for this rank. */
+/* Messages in parts are not counted: nobody is told to wait for this rank's. A send and a receive in one request: both are counted, and it is not known which message came. */
+#if MPI_VERSION >= 4
 #define UNCOUNTED(name, flag, parameters, words) \
     int MPI_##name parameters { \
         atomic_store(&flag, true); \
         return PMPI_##name words; \
     }
-UNCOUNTED(Mrecv, receives_uncounted, (void *a, int n, MPI_Datatype t, MPI_Message *m, MPI_Status *s), (a, n, t, m, s))
-UNCOUNTED(Imrecv, receives_uncounted, (void *a, int n, MPI_Datatype t, MPI_Message *m, MPI_Request *q), (a, n, t, m, q))
-#if MPI_VERSION >= 4
-#define UNCOUNTED_BOTH(name, parameters, words) \
-    int MPI_##name parameters { \
-        atomic_store(&sends_uncounted, true); \
-        atomic_store(&receives_uncounted, true); \
-        return PMPI_##name words; \
-    }
 UNCOUNTED(Psend_init, sends_uncounted, (const void *a, int p, MPI_Count n, MPI_Datatype t, int to, int tag, MPI_Comm h, MPI_Info i, MPI_Request *q), (a, p, n, t, to, tag, h, i, q))
 UNCOUNTED(Precv_init, receives_uncounted, (void *a, int p, MPI_Count n, MPI_Datatype t, int from, int tag, MPI_Comm h, MPI_Info i, MPI_Request *q), (a, p, n, t, from, tag, h, i, q))
-UNCOUNTED_BOTH(Isendrecv, (const void *a, int n, MPI_Datatype t, int to, int tag, void *b, int m, MPI_Datatype u, int from, int tag2, MPI_Comm h, MPI_Request *q), (a, n, t, to, tag, b, m, u, from, tag2, h, q))
-UNCOUNTED_BOTH(Isendrecv_replace, (void *a, int n, MPI_Datatype t, int to, int tag, int from, int tag2, MPI_Comm h, MPI_Request *q), (a, n, t, to, tag, from, tag2, h, q))
+#define BOTH_WAYS(name, parameters, words) \
+    int MPI_##name parameters { \
+        struct receive r = receive_at(h, from, tag2); \
+        sends_to(r.of, to, tag); \
+        struct slot *s = begins_receive(&r, HERE); \
+        atomic_store(&sources_unknown, true); \
+        int result = PMPI_##name words; \
+        ends(s); \
+        return result; \
+    }
+BOTH_WAYS(Isendrecv, (const void *a, int n, MPI_Datatype t, int to, int tag, void *b, int m, MPI_Datatype u, int from, int tag2, MPI_Comm h, MPI_Request *q), (a, n, t, to, tag, b, m, u, from, tag2, h, q))
+BOTH_WAYS(Isendrecv_replace, (void *a, int n, MPI_Datatype t, int to, int tag, int from, int tag2, MPI_Comm h, MPI_Request *q), (a, n, t, to, tag, from, tag2, h, q))
 #endif
 
 /* ---- Fortran: its calls go to MPI's own Fortran functions, which may call MPI in C again; that is inside of the call. The module mpi_f08 has names of its own, of two
@@ -1792,41 +2192,59 @@ FORTRAN(mpi_comm_dup, (F h, F to, F e), (h, to, e), struct slot *s = collective(
 FORTRAN(mpi_comm_split, (F h, F c, F k, F to, F e), (h, c, k, to, e), struct slot *s = collective(SPLIT, counts() ? PMPI_Comm_f2c(*h) : MPI_COMM_NULL, 0, true, HERE), if (s != NULL && succeeded(e)) { made(PMPI_Comm_f2c(*h), PMPI_Comm_f2c(*to), "split"); } ends(s))
 #define FORTRAN_SEND(name) \
     FORTRAN(name, (void *a, F n, F t, F to, F g, F h, F e), (a, n, t, to, g, h, e), \
-        int peer = counts() ? world_rank(known(PMPI_Comm_f2c(*h)), (int)*to) : -1; struct slot *s = begins(peer >= 0 ? SEND : NONE, NULL, peer, sends_to(peer), HERE), ends(s))
+        struct slot *s = begins_as(sends_to(counts() ? known(PMPI_Comm_f2c(*h)) : NULL, (int)*to, (int)*g), HERE), ends(s))
 FORTRAN_SEND(mpi_send)
 FORTRAN_SEND(mpi_ssend)
 FORTRAN_SEND(mpi_bsend)
 FORTRAN_SEND(mpi_rsend)
-FORTRAN(mpi_recv, (void *a, F n, F t, F from, F g, F h, F st, F e), (a, n, t, from, g, h, st, e),
-    struct communicator *c = counts() ? known(PMPI_Comm_f2c(*h)) : NULL; struct slot *s = receives((int)*from, c, HERE),
-    if (s != NULL && succeeded(e) && world_rank(c, (int)*from) >= 0) { atomic_fetch_add(&taken[world_rank(c, (int)*from)], 1); } ends(s))
+
+/* In Fortran it is not asked which message came: the status may be left out, in more than one way. */
+static void has_received_something(const struct slot *s, const struct receive *r, F error) {
+    if (succeeded(error)) {
+        has_received(s, r, MPI_SUCCESS, NULL);
+    }
+}
+
+#define FORTRAN_RECEIVE(name, tag, how, parameters, words, before, behind) \
+    FORTRAN(name, parameters, words, struct receive r = receive_at(PMPI_Comm_f2c(*h), (int)*from, (int)*tag); before; struct slot *s = how, behind; ends(s))
+FORTRAN_RECEIVE(mpi_recv, g, receives(&r, HERE), (void *a, F n, F t, F from, F g, F h, F st, F e), (a, n, t, from, g, h, st, e), , has_received_something(s, &r, e))
+FORTRAN_RECEIVE(mpi_probe, g, waits_for_message(&r, HERE), (F from, F g, F h, F st, F e), (from, g, h, st, e), , )
+FORTRAN_RECEIVE(mpi_mprobe, g, waits_for_message(&r, HERE), (F from, F g, F h, F m, F st, F e), (from, g, h, m, st, e), , if (succeeded(e)) { takes_out(s, &r, NULL); })
+FORTRAN_RECEIVE(mpi_improbe, g, begins(NONE, NULL, 0, 0, HERE), (F from, F g, F h, F flag, F m, F st, F e), (from, g, h, flag, m, st, e), , if (succeeded(e) && *flag) { takes_out(s, &r, NULL); })
+FORTRAN_RECEIVE(mpi_sendrecv, g2, receives(&r, HERE), (void *a, F n, F t, F to, F g, void *b, F m, F u, F from, F g2, F h, F st, F e), (a, n, t, to, g, b, m, u, from, g2, h, st, e),
+    sends_to(r.of, (int)*to, (int)*g), has_received_something(s, &r, e))
+FORTRAN_RECEIVE(mpi_sendrecv_replace, g2, receives(&r, HERE), (void *a, F n, F t, F to, F g, F from, F g2, F h, F st, F e), (a, n, t, to, g, from, g2, h, st, e),
+    sends_to(r.of, (int)*to, (int)*g), has_received_something(s, &r, e))
+FORTRAN_RECEIVE(mpi_irecv, g, begins_receive(&r, HERE), (void *a, F n, F t, F from, F g, F h, F q, F e), (a, n, t, from, g, h, q, e), ,
+    if (s != NULL && part_of(&r).kind != NONE && succeeded(e)) { remember(request_of(PMPI_Request_f2c(*q), r.of, part_of(&r))); })
+
 #define FORTRAN_BEGINS_SEND(name) \
     FORTRAN(name, (void *a, F n, F t, F to, F g, F h, F q, F e), (a, n, t, to, g, h, q, e), \
-        int peer = counts() ? world_rank(known(PMPI_Comm_f2c(*h)), (int)*to) : -1; unsigned needs = sends_to(peer); struct slot *s = begins(NONE, NULL, peer, needs, HERE), \
-        if (s != NULL && peer >= 0 && succeeded(e)) { remember((struct request){.handle = PMPI_Request_f2c(*q), .kind = SEND, .peer = peer, .needs = needs}); } ends(s))
+        struct part p = sends_to(counts() ? known(PMPI_Comm_f2c(*h)) : NULL, (int)*to, (int)*g); struct slot *s = begins(NONE, NULL, 0, 0, HERE), \
+        if (s != NULL && p.kind == SEND && succeeded(e)) { remember(request_of(PMPI_Request_f2c(*q), NULL, p)); } ends(s))
 FORTRAN_BEGINS_SEND(mpi_isend)
 FORTRAN_BEGINS_SEND(mpi_issend)
 FORTRAN_BEGINS_SEND(mpi_ibsend)
 FORTRAN_BEGINS_SEND(mpi_irsend)
 
-static struct slot *begins_receive(int from, struct communicator *c, const void *at) {
-    receives_from(world_rank(c, from));
-    if (from == MPI_ANY_SOURCE && c != NULL) {
-        atomic_fetch_add(&begun_any, 1);
+#define FORTRAN_MADE_ONCE(KIND, name) \
+    FORTRAN(name, (void *a, F n, F t, F to, F g, F h, F q, F e), (a, n, t, to, g, h, q, e), struct communicator *c = counts() ? known(PMPI_Comm_f2c(*h)) : NULL, \
+        if (succeeded(e)) { is_made_once(PMPI_Request_f2c(*q), KIND, c, (int)*to, (int)*g); })
+FORTRAN_MADE_ONCE(SEND, mpi_send_init)
+FORTRAN_MADE_ONCE(SEND, mpi_ssend_init)
+FORTRAN_MADE_ONCE(SEND, mpi_bsend_init)
+FORTRAN_MADE_ONCE(SEND, mpi_rsend_init)
+FORTRAN_MADE_ONCE(RECEIVE, mpi_recv_init)
+
+static struct slot *begin_again(int n, F q, const void *at) {
+    for (int i = 0; counts() && i < n; i++) {
+        begins_again(PMPI_Request_f2c(q[i]));
     }
-    return begins(NONE, NULL, -1, 0, at);
+    return begins(NONE, NULL, 0, 0, at);
 }
 
-static void has_begun_receive(int from, struct communicator *c, MPI_Request handle) {
-    int peer = world_rank(c, from);
-    if (c != NULL && (peer >= 0 || from == MPI_ANY_SOURCE)) {
-        remember((struct request){.handle = handle, .kind = peer >= 0 ? RECEIVE : ANY, .peer = peer, .needs = 1, .of = c});
-    }
-}
-
-FORTRAN(mpi_irecv, (void *a, F n, F t, F from, F g, F h, F q, F e), (a, n, t, from, g, h, q, e),
-    struct communicator *c = counts() ? known(PMPI_Comm_f2c(*h)) : NULL; struct slot *s = begins_receive((int)*from, c, HERE),
-    if (s != NULL && succeeded(e)) { has_begun_receive((int)*from, c, PMPI_Request_f2c(*q)); } ends(s))
+FORTRAN(mpi_start, (F q, F e), (q, e), struct slot *s = begin_again(1, q, HERE), ends(s))
+FORTRAN(mpi_startall, (F n, F q, F e), (n, q, e), struct slot *s = begin_again((int)*n, q, HERE), ends(s))
 
 static struct before before_of_fortran(int n, F q) {
     struct before b = {0, NULL, NULL};
@@ -1841,7 +2259,7 @@ static struct before before_of_fortran(int n, F q) {
     return b;
 }
 
-/* Of a receive from anybody it is not told from whom it came, so it counts as taken from nobody: a later receive waits for less than it needs, and never for more. */
+/* Of a receive from anybody, or of any tag, it is not told which message came, so it counts as none: a later receive waits for less than it needs, and never for more. */
 static void numbered_are_done(const struct before *b, int done, F which) {
     for (int i = 0; i < done; i++) {
         one_is_done(b, (int)which[i] - 1, NULL);
@@ -1862,19 +2280,5 @@ FORTRAN_OF_REQUESTS(mpi_testall, LOOKS, (int)*n, (F n, F q, F flag, F st, F e), 
 FORTRAN_OF_REQUESTS(mpi_testany, LOOKS, (int)*n, (F n, F q, F which, F flag, F st, F e), (n, q, which, flag, st, e), if (*flag) { numbered_are_done(&b, 1, which); })
 FORTRAN_OF_REQUESTS(mpi_testsome, LOOKS, (int)*n, (F n, F q, F done, F which, F st, F e), (n, q, done, which, st, e), numbered_are_done(&b, (int)*done, which))
 
-FORTRAN(mpi_request_free, (F q, F e), (q, e), is_given_up(PMPI_Request_f2c(*q)), )
-FORTRAN(mpi_cancel, (F q, F e), (q, e), is_given_up(PMPI_Request_f2c(*q)), )
-#define FORTRAN_UNCOUNTED(name, flag, parameters, words) FORTRAN(name, parameters, words, atomic_store(&flag, true), )
-FORTRAN_UNCOUNTED(mpi_send_init, sends_uncounted, (void *a, F n, F t, F to, F g, F h, F q, F e), (a, n, t, to, g, h, q, e))
-FORTRAN_UNCOUNTED(mpi_ssend_init, sends_uncounted, (void *a, F n, F t, F to, F g, F h, F q, F e), (a, n, t, to, g, h, q, e))
-FORTRAN_UNCOUNTED(mpi_bsend_init, sends_uncounted, (void *a, F n, F t, F to, F g, F h, F q, F e), (a, n, t, to, g, h, q, e))
-FORTRAN_UNCOUNTED(mpi_rsend_init, sends_uncounted, (void *a, F n, F t, F to, F g, F h, F q, F e), (a, n, t, to, g, h, q, e))
-FORTRAN_UNCOUNTED(mpi_mrecv, receives_uncounted, (void *a, F n, F t, F m, F st, F e), (a, n, t, m, st, e))
-FORTRAN_UNCOUNTED(mpi_imrecv, receives_uncounted, (void *a, F n, F t, F m, F q, F e), (a, n, t, m, q, e))
-FORTRAN_UNCOUNTED(mpi_recv_init, receives_uncounted, (void *a, F n, F t, F from, F g, F h, F q, F e), (a, n, t, from, g, h, q, e))
-#define FORTRAN_BOTH_WAYS(name, parameters, words) \
-    FORTRAN(name, parameters, words, \
-        struct communicator *c = counts() ? known(PMPI_Comm_f2c(*h)) : NULL; sends_to(world_rank(c, (int)*to)); struct slot *s = receives((int)*from, c, HERE), \
-        if (s != NULL && succeeded(e) && world_rank(c, (int)*from) >= 0) { atomic_fetch_add(&taken[world_rank(c, (int)*from)], 1); } ends(s))
-FORTRAN_BOTH_WAYS(mpi_sendrecv, (void *a, F n, F t, F to, F g, void *b, F m, F u, F from, F g2, F h, F st, F e), (a, n, t, to, g, b, m, u, from, g2, h, st, e))
-FORTRAN_BOTH_WAYS(mpi_sendrecv_replace, (void *a, F n, F t, F to, F g, F from, F g2, F h, F st, F e), (a, n, t, to, g, from, g2, h, st, e))
+FORTRAN(mpi_request_free, (F q, F e), (q, e), is_given_up(PMPI_Request_f2c(*q), true), )
+FORTRAN(mpi_cancel, (F q, F e), (q, e), is_given_up(PMPI_Request_f2c(*q), false), )

@@ -14,7 +14,8 @@ use tests_rows::{bytes_of, columns, cut, number};
 // Two makers are each held until the other one acts: a run that makes its workers' turns one after another waits in vain. An await is passed while another
 // task is held: awaits are not left to the end of the run. Dead tasks are named while another task is held, and a look of the detector stands beside a turn:
 // each is held until the other has come. A task passes its await by what a task has stored that is held: two runs that share nothing wait in vain. An await is
-// decided while another task is published. And a pool goes on with a child while the task that forked it is held, which no round does.
+// decided while another task is published. Two makers are held until a third one acts: two threads, where three are wanted, wait in vain. And a pool goes on
+// with a child while the task that forked it is held, which no round does.
 const ROWS: &str = "\
 run --workers 2,run --live --workers 2,run --sites 2 --workers 2,pool --workers 2,avoid --workers 2,avoid --kept --workers 2$1.0 until 2.0,2.0 until 1.0$t = newTid(); fork(t) { x = newPhaser(); } t = newTid(); fork(t) { x = newPhaser(); }$tasks 3 done 3 dead 0 held 0 refused 0 unforked 0~graph sg 0~$0\n\
 pool --workers 2$1.0 until 2.0,2.0 until 1.0$t = newTid(); u = newTid(); fork(t) { p = newPhaser(); } fork(u) { q = newPhaser(); }$tasks 3 done 3 dead 0 held 0 refused 0 unforked 0~graph sg 0~$0\n\
@@ -26,6 +27,7 @@ run --live --workers 2$0.0 until named 0,named 0 until 0.0$p = newPhaser(); t = 
 clock --live --workers 2$0.0 until named 0,named 0 until 0.0$clock c; async(c) { advance(c); } advance(c);$tasks 2 done 2 dead 0 held 0 refused 0 unforked 0~graph sg 0~$0\n\
 run --workers 2,run --live --workers 2,run --sites 2 --workers 2,pool --workers 2,avoid --workers 2,avoid --kept --workers 2$1.0 until 2.1,2.1 until 1.2$p = newPhaser(); t = newTid(); reg(t, p); fork(t) { adv(p); await(p); x = newPhaser(); } t = newTid(); reg(t, p); fork(t) { adv(p); y = newPhaser(); } dereg(p);$tasks 3 done 3 dead 0 held 0 refused 0 unforked 0~graph sg 0~$0\n\
 avoid --workers 2,avoid --kept --workers 2$2.0 until 1.2$p = newPhaser(); t = newTid(); fork(t) { q = newPhaser(); await(q); adv(q); } t = newTid(); reg(t, p); fork(t) { adv(p); } adv(p); await(p);$tasks 3 done 3 dead 0 held 0 refused 0 unforked 0~graph sg 0~$0\n\
+run --workers 3,run --live --workers 3,run --sites 2 --workers 3,pool --workers 3,avoid --workers 3,avoid --kept --workers 3$1.0 until 3.0,2.0 until 3.0$t = newTid(); u = newTid(); v = newTid(); fork(t) { x = newPhaser(); } fork(u) { x = newPhaser(); } fork(v) { x = newPhaser(); }$tasks 4 done 4 dead 0 held 0 refused 0 unforked 0~graph sg 0~$0\n\
 pool --workers 2$0.1 until 1.0$t = newTid(); fork(t) { x = newPhaser(); } t = newTid(); fork(t) { x = newPhaser(); }$tasks 3 done 3 dead 0 held 0 refused 0 unforked 0~graph sg 0~$0\n\
 ";
 

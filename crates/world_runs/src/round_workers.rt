@@ -1,4 +1,5 @@
 // How many workers a round has.
+ghost use Rattle.std.specs.Prelude.{◌≤◌};
 
 // so many rounds have all workers, whatever there is to do
 const FIRST_ROUNDS: u32 = 16;
@@ -24,8 +25,10 @@ impl RoundWorkers {
     }
 
     // How many workers had work in the last round.
-    fn had_work(&self) -> u32 {
-        1 + self.actions / WORTH_A_THREAD
+    fn had_work(&self) -> u32
+        ensures few { result ≤ 64 }
+    {
+        (1 + self.actions / WORTH_A_THREAD).min(MOST_WORKERS)
     }
 
     /// Whether the next round is to start threads.
