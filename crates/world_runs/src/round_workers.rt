@@ -7,6 +7,9 @@ const FIRST_ROUNDS: u32 = 16;
 // so many actions take longer than to start a thread for them
 const WORTH_A_THREAD: u32 = 20_000;
 
+// more workers no run has
+const MOST_WORKERS: u32 = 64;
+
 /// How many rounds there were, and how many actions the last one had. To start a thread takes as long as thousands of actions, so behind the first rounds a
 /// round has no more workers than the one before had work for.
 #[derive(Drop)]
@@ -38,11 +41,10 @@ impl RoundWorkers {
 
     /// How many workers the next round has, where a run has so many.
     pub fn workers(&self, most: u8) -> u8 {
-        let worth = self.had_work();
-        if self.rounds < FIRST_ROUNDS || worth >= u32::from(most) {
+        if self.rounds < FIRST_ROUNDS {
             most
         } else {
-            worth as u8
+            most.min(self.had_work() as u8)
         }
     }
 
