@@ -26,9 +26,10 @@ use Rattle.adaptive.specs.declared.analysis.Wanted.{Wanted}
 use Rattle.armus_top.specs.Avoids.{TellsRefused}
 use Rattle.armus_top.specs.DeadStatus.{TellsDead}
 use Rattle.program_io.proofs.OnePlan.{checked_plan, one_plan}
+use Rattle.armus_top.proofs.OneClockPlan.{checked_clock_plan}
 use Rattle.armus_top.proofs.OneRefusal.{one_refused_status, one_status}
 use Rattle.report_laws.specs.Cycles.{CycleIsProof, ShowsDeadlock, by_cycle, by_none}
-use Rattle.report_laws.specs.calls.Cycles.{DifferInGraph, GraphChangesLastLine, GraphChangesNoRefusal}
+use Rattle.report_laws.specs.calls.Cycles.{ClockCycleIsProof, DifferInGraph, GraphChangesLastLine, GraphChangesNoRefusal}
 use Rattle.report_laws.specs.Held.{HeldTasksHaveEnd}
 use Rattle.report_laws.proofs.OneRun.{one_final, one_serial_state}
 
@@ -55,8 +56,12 @@ final_of_plan : (plan : Plan) (state : State) → IsCheckedPlan plan → IsFinal
 final_of_plan plan state checked final = subst (λ (x : State). IsOfPlan plan x) final.there (run_is_of_plan plan final.steps checked final.run.0)
 
 pub cycle_is_proof : CycleIsProof
-cycle_is_proof plan g status report run checked =
-    shows plan run.state (final_of_plan plan run.state checked run.final) run.report_is.cycle_text status run.report_is.cycle run.status_is
+cycle_is_proof text plan g status report is run =
+    shows plan run.state (final_of_plan plan run.state (checked_plan text plan is) run.final) run.report_is.cycle_text status run.report_is.cycle run.status_is
+
+pub clock_cycle_is_proof : ClockCycleIsProof
+clock_cycle_is_proof text plan g status report is run =
+    shows plan run.state (final_of_plan plan run.state (checked_clock_plan text plan is) run.final) run.report_is.cycle_text status run.report_is.cycle run.status_is
 
 -- ---- the last line
 
@@ -106,4 +111,4 @@ graph_changes_no_refusal input g h a b p q r s =
     )
 
 pub held_tasks_have_end : HeldTasksHaveEnd
-held_tasks_have_end plan g status report run t checked held = held_has_end plan run.state t checked run.final held
+held_tasks_have_end text plan g status report is run t held = held_has_end plan run.state t (checked_plan text plan is) run.final held

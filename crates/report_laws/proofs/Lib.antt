@@ -4,6 +4,7 @@ pub mod OneRefused
 pub mod OneAnswer
 pub mod Avoided
 pub mod Cycles
+pub mod ReportedStandings
 pub mod Named
 pub mod OnePlan
 pub mod Printed

@@ -2,7 +2,6 @@
 use Rattle.std.specs.Prelude.{◌≡◌, ℕ, true, None}
 use Rattle.armus_base.specs.declared.ending.TaskEnd.TheVariants.{Done, Unforked}
 use Rattle.armus_base.specs.AgreementLaws.{WaitsForEnded, WaitsForTask}
-use Rattle.armus_base.specs.CheckedPlans.{IsCheckedPlan}
 use Rattle.armus_base.specs.Deadlocks.{IsHeld}
 use Rattle.armus_base.specs.Finals.{end_of}
 use Rattle.armus_base.specs.Plans.{Plan}
@@ -11,14 +10,14 @@ use Rattle.armus_base.specs.States.{State}
 use Rattle.adaptive.specs.declared.analysis.Wanted.{Wanted}
 use Rattle.pl_syntax.specs.declared.tree.Program.{Program}
 use Rattle.program_io.specs.Texts.{Text}
-use Rattle.program_io.specs.Programs.{IsChecked}
+use Rattle.program_io.specs.Programs.{IsChecked, IsPlanOf}
 use Rattle.armus_top.specs.Runs.{IsRunOf}
 
--- so does each task that a run reports as held
+-- so does each task that a run of a text reports as held
 abbrev pub HeldTasksHaveEnd : Type 0
 HeldTasksHaveEnd =
-    (plan : Plan) (g : Wanted) (status : ℕ) (report : Text) (run : IsRunOf plan g status report) (t : ℕ) → IsCheckedPlan plan → IsHeld run.state t →
-    WaitsForEnded run.state t
+    (text : Text) (plan : Plan) (g : Wanted) (status : ℕ) (report : Text) → IsPlanOf text plan → (run : IsRunOf plan g status report) (t : ℕ) →
+    IsHeld run.state t → WaitsForEnded run.state t
 
 -- where a text of PL 2 has run to its end, whoever has ended there is a member of nothing
 abbrev pub EndedHaveLeft : Type 0

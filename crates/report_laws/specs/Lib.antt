@@ -1,4 +1,5 @@
 pub mod ReportedRuns
+pub mod ReportedStandings
 pub mod Outputs
 pub mod OneAnswer
 pub mod Avoided

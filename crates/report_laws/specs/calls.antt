@@ -1,5 +1,6 @@
 pub mod Avoided
 pub mod Cycles
+pub mod Reported
 pub mod Replayed
 pub mod OnePlan
 pub mod Printed

@@ -10,4 +10,4 @@ mod reports;
 
 pub use agreement::{avoid_tells_as_run, explains_as_run, replay_tells_as_run, who_gains_and_pays};
 pub use answers::{live_tells_as_run, one_answer, printing_keeps_meaning, texts_go_by_plan};
-pub use reports::{cycle_is_proof, held_tasks_have_end};
+pub use reports::{cycle_is_proof, held_tasks_have_end, stand_as_reported};

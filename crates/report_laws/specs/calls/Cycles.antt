@@ -7,7 +7,15 @@ use Rattle.adaptive.specs.declared.analysis.Wanted.{Wanted}
 use Rattle.report.specs.Lines.{graph_line}
 use Rattle.program_io.specs.Texts.{Text}
 use Rattle.armus_top.specs.Avoids.{IsAvoidOf}
+use Rattle.armus_top.specs.Clocks.{IsClockPlanOf}
 use Rattle.armus_top.specs.Runs.{IsRunOf}
+use Rattle.report_laws.specs.Cycles.{ShowsDeadlock}
+
+-- a run of a clock text shows its deadlock as one of a text does
+abbrev pub ClockCycleIsProof : Type 0
+ClockCycleIsProof =
+    (text : Text) (plan : Plan) (g : Wanted) (status : ℕ) (report : Text) → IsClockPlanOf text plan → (run : IsRunOf plan g status report) →
+    ShowsDeadlock run.state run.report_is.cycle_text status
 
 -- two texts have the same lines but for the last one, which names a graph in each
 abbrev pub DifferInGraph : Text → Text → Type 0
