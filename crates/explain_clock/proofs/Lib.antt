@@ -1,6 +1,7 @@
 -- Why the functions do what their contracts say.
 pub mod PassedOps
 pub mod Lines
+pub mod FewLines
 pub mod Told
 pub mod PendingRows
 pub mod KnownTexts

@@ -27,20 +27,20 @@ named_in e ss = map (λ (s : Status). s.t.0) (filter (is_missing e) ss)
 -- ---- lines
 
 pub lines_named : (f : ClockFacts) (e : Event) (name : Option (List ℕ)) (ss : List Status) →
-    flat_map (line_if_missing f e name) ss ≡ flat_map (missing_line f name) (named_in e ss)
+    flat_map (line_if_missing f e name) ss ≡ map (missing_line f name) (named_in e ss)
 lines_named f e name [] = refl
 lines_named f e name (s ∷ ss) = by (is_missing e s) refl (lines_named f e name ss)
   where
-    by : (b : Bool) → is_missing e s ≡ b → flat_map (line_if_missing f e name) ss ≡ flat_map (missing_line f name) (named_in e ss) →
-        flat_map (line_if_missing f e name) (s ∷ ss) ≡ flat_map (missing_line f name) (named_in e (s ∷ ss))
+    by : (b : Bool) → is_missing e s ≡ b → flat_map (line_if_missing f e name) ss ≡ map (missing_line f name) (named_in e ss) →
+        flat_map (line_if_missing f e name) (s ∷ ss) ≡ map (missing_line f name) (named_in e (s ∷ ss))
     by true is rest =
-        ap (λ b. (if b then missing_line f name s.t.0 else []) ++ flat_map (line_if_missing f e name) ss) is
-        ∙ ap (λ z. missing_line f name s.t.0 ++ z) rest
-        ∙ sym (ap (λ b. flat_map (missing_line f name) (map (λ (x : Status). x.t.0) (if b then s ∷ filter (is_missing e) ss else filter (is_missing e) ss))) is)
+        ap (λ b. (if b then missing_line f name s.t.0 ∷ [] else []) ++ flat_map (line_if_missing f e name) ss) is
+        ∙ ap (λ z. missing_line f name s.t.0 ∷ z) rest
+        ∙ sym (ap (λ b. map (missing_line f name) (map (λ (x : Status). x.t.0) (if b then s ∷ filter (is_missing e) ss else filter (is_missing e) ss))) is)
     by false is rest =
-        ap (λ b. (if b then missing_line f name s.t.0 else []) ++ flat_map (line_if_missing f e name) ss) is
+        ap (λ b. (if b then missing_line f name s.t.0 ∷ [] else []) ++ flat_map (line_if_missing f e name) ss) is
         ∙ rest
-        ∙ sym (ap (λ b. flat_map (missing_line f name) (map (λ (x : Status). x.t.0) (if b then s ∷ filter (is_missing e) ss else filter (is_missing e) ss))) is)
+        ∙ sym (ap (λ b. map (missing_line f name) (map (λ (x : Status). x.t.0) (if b then s ∷ filter (is_missing e) ss else filter (is_missing e) ss))) is)
 
 -- ---- one status
 

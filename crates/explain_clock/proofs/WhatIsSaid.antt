@@ -1,7 +1,6 @@
 -- What is said of each activity in the explanation of a final state.
 use Rattle.std.proofs.Common.{◌≡◌, ℕ, ◌<◌, Bool, true, false, Option, Some, None, List, [], length, arith, sym, ◌∙◌, ap, subst, refl}
-use Rattle.std.specs.Prelude.{slice_get}
-use Rattle.std.specs.List.{flat_map}
+use Rattle.std.specs.Prelude.{map, slice_get}
 use Rattle.armus_base.specs.declared.ending.TaskEnd.TheVariants.{Done}
 use Rattle.armus_base.specs.declared.event.Event.{Event}
 use Rattle.armus_base.specs.CheckedPlans.{IsCheckedPlan}
@@ -21,7 +20,7 @@ use Rattle.clock_laws.proofs.Acting.{unrefused}
 use Rattle.clock_source_map.specs.ClockOrigins.{MadeThing}
 use Rattle.clock_source_map.proofs.AllOrigins.{tasks_and_phasers_have_statements}
 use Rattle.clock_source_map.proofs.Walked.{plan_is}
-use Rattle.explain_clock.specs.ClockExplanations.{ExplainsActivities, activity_paragraph, missing_line, paragraph_at, paragraph_of_thing}
+use Rattle.explain_clock.specs.ClockExplanations.{ExplainsActivities, activity_paragraph, few_lines, missing_line, paragraph_at, paragraph_of_thing}
 use Rattle.explain_clock.specs.calls.ParagraphLaws.{EachHasItsParagraph, IsSaidOf, IsWaitingIn, NamesThoseBehind, ThoseBehindAreNamed}
 use Rattle.explain_clock.proofs.MembersWait.{members_wait}
 use Rattle.explain_clock.proofs.Named.{ascending, behind, from_behind, lines_named, named_in}
@@ -75,7 +74,7 @@ module _ (file : Option (List ℕ)) (text : List ℕ) (p : ClockTree) (u : Clock
       record {
         named = named_in e blocked;
         lines_are = λ name.
-            lines_named x.facts e name x.facts.blocked ∙ ap (λ ss. flat_map (missing_line x.facts name) (named_in e ss)) x.are_facts.blocked_are;
+            ap few_lines (lines_named x.facts e name x.facts.blocked ∙ ap (λ ss. map (missing_line x.facts name) (named_in e ss)) x.are_facts.blocked_are);
         ascend = ascending plan end_state of_plan all_wait t e published;
         exact = λ v. (behind plan end_state of_plan all_wait t e published v, from_behind plan end_state of_plan all_wait t e published v);
         wait = λ v inside. let (n, member, less) = behind plan end_state of_plan all_wait t e published v inside in all_wait v e.p.0 n member;

@@ -1,5 +1,5 @@
 -- The explanation of a clock text: who waits in it for ever, where, for whom and why.
-use Rattle.std.specs.Prelude.{◌≡◌, ℕ, zero, suc, ◌-◌, ◌==◌, ◌&&◌, Bool, true, false, not, if◌then◌else◌, List, [], ◌++◌, Option, Some, None, Ok, codes, count_by, decimal, length, nat_lt, slice_get, slice_index_or}
+use Rattle.std.specs.Prelude.{◌≡◌, ℕ, zero, suc, ◌-◌, ◌==◌, ◌&&◌, Bool, true, false, not, if◌then◌else◌, List, [], ◌∷◌, ◌++◌, Option, Some, None, Ok, codes, count_by, decimal, length, nat_lt, slice_get, slice_index_or, take}
 use Rattle.std.specs.List.{flat_map, list_any}
 use Rattle.armus_base.specs.declared.ending.TaskEnd.{TaskEnd}
 use Rattle.armus_base.specs.declared.ending.TaskEnd.TheVariants.{Blocked, Done, Refused, Unforked}
@@ -50,6 +50,16 @@ abbrev pub nobody_line : Bool → List ℕ
 nobody_line true = []
 nobody_line false = line (codes "nobody waits for ever")
 
+-- ---- few lines
+
+-- the line with the number of those that have none
+abbrev pub others_line : ℕ → List ℕ
+others_line count = if count == 0 then [] else line (codes "  and " ++ decimal count ++ codes " more")
+
+-- the first three of these lines, and the number of the others
+abbrev pub few_lines : List (List ℕ) → List ℕ
+few_lines lines = flat_map (λ (text : List ℕ). text) (take 3 lines) ++ others_line (length lines - 3)
+
 -- ---- for whom one waits
 
 -- this phase is one of that clock or finish, and below the phase that is waited for: there the activity has not signalled, or not ended
@@ -70,27 +80,27 @@ abbrev pub missing_line : ClockFacts → Option (List ℕ) → ℕ → List ℕ
 missing_line f name u = line (missing_words name (activity_words f.of_text u) ++ standing_words f.of_text (waits_at f u))
 
 -- the line of this status, where its activity keeps the event from being reached
-abbrev pub line_if_missing : ClockFacts → Event → Option (List ℕ) → Status → List ℕ
-line_if_missing f e name s = if is_missing e s then missing_line f name s.t.0 else []
+abbrev pub line_if_missing : ClockFacts → Event → Option (List ℕ) → Status → List (List ℕ)
+line_if_missing f e name s = if is_missing e s then missing_line f name s.t.0 ∷ [] else []
 
--- the lines of all activities that wait and keep the event from being reached, in order
+-- the lines of the activities that wait and keep the event from being reached, in order
 abbrev pub missing_lines : ClockFacts → Event → Option (List ℕ) → List ℕ
-missing_lines f e name = flat_map (line_if_missing f e name) f.blocked
+missing_lines f e name = few_lines (flat_map (line_if_missing f e name) f.blocked)
 
 -- ---- what is pending
 
 -- what is so of the numbers below n, in order
-abbrev pub lines_below : (ℕ → List ℕ) → ℕ → List ℕ
+abbrev pub lines_below : {A : Type 0} → (ℕ → List A) → ℕ → List A
 lines_below l zero = []
 lines_below l (suc n) = lines_below l n ++ l n
 
 -- a clock of this name, made at statement n, that is pending; a finish has no such line
-abbrev pub pending_named : ClockTextValue → Option (List ℕ) → ℕ → List ℕ
+abbrev pub pending_named : ClockTextValue → Option (List ℕ) → ℕ → List (List ℕ)
 pending_named f None n = []
-pending_named f (Some x) n = line (codes "  resume left " ++ made_clock_words f x n ++ codes " pending")
+pending_named f (Some x) n = line (codes "  resume left " ++ made_clock_words f x n ++ codes " pending") ∷ []
 
 -- the line of this clock, if there is such a clock
-abbrev pub pending_line : ClockTextValue → Option MadeThing → List ℕ
+abbrev pub pending_line : ClockTextValue → Option MadeThing → List (List ℕ)
 pending_line f None = []
 pending_line f (Some thing) = pending_named f thing.name thing.statement
 
@@ -100,12 +110,12 @@ pending_in None = []
 pending_in (Some w) = w.pending
 
 -- the line of p, where it is pending and not what is waited for
-abbrev pub line_if_pending : ClockFacts → Event → List Bool → ℕ → List ℕ
+abbrev pub line_if_pending : ClockFacts → Event → List Bool → ℕ → List (List ℕ)
 line_if_pending f e row p = if slice_index_or row p false && not (p == e.p.0) then pending_line f.of_text (slice_get f.of_text.things p) else []
 
--- the lines of all that is pending where activity t waits, in order
+-- the lines of what is pending where activity t waits, in order
 abbrev pub pending_lines : ClockFacts → Event → ℕ → List ℕ
-pending_lines f e t = lines_below (line_if_pending f e (pending_in (slice_get f.waits t))) (length f.of_text.things)
+pending_lines f e t = few_lines (lines_below (line_if_pending f e (pending_in (slice_get f.waits t))) (length f.of_text.things))
 
 -- ---- paragraphs
 

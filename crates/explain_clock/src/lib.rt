@@ -6,6 +6,7 @@
 mod counts;
 mod explaining;
 mod facts;
+mod few_lines;
 mod laws;
 mod missing;
 mod paragraphs;

@@ -1,9 +1,11 @@
 // Whose signal is missing, and who has not ended.
-ghost use Rattle.std.specs.Prelude.{◌≡◌, ◌++◌, OnOk, codes, option_map};
+ghost use Rattle.std.specs.Prelude.{◌≡◌, ◌<◌, ◌-◌, ◌^◌, ◌∷◌, [], ◌++◌, IfOk, OnOk, codes, option_map};
 ghost use Rattle.explain_clock.specs.ClockExplanations.{is_below, is_missing, line_if_missing, missing_line, missing_lines, missing_words};
 ghost use Rattle.explain_clock.specs.ClockWords.{activity_words};
+ghost use Rattle.explain_clock.specs.inside.FewLines.{AddsLines};
 
 use crate::facts::ClockFacts;
+use crate::few_lines::{FEW_LINES, put_more};
 use crate::text_facts::ClockTextFacts;
 use armus_base::{Event, Member, NoMemory, Status};
 use explain_facts::put_words;
@@ -62,24 +64,45 @@ impl<'a> ClockFacts<'a> {
         put_words(out, b"\n")
     }
 
-    // Appends the line of a status, if its activity keeps the event from being reached.
+    // Appends its line behind so many others, if it is one of the first three, and says how many there are then.
+    fn put_few_missing(
+        &self,
+        out: &mut Vec<u8>,
+        name: Option<&[u8]>,
+        u: u32,
+        count: usize,
+    ) -> Result<usize, NoMemory>
+        requires { count < 2 ^ 64 - 1 }
+        ensures { IfOk result (AddsLines count (missing_line self.now (option_map (λ x. x.now) name.entry) u ∷ []) out.old.items out.new.items) }
+    {
+        if count >= FEW_LINES {
+            return Ok(count + 1);
+        }
+        self.put_missing_line(out, name, u)?;
+        Ok(count + 1)
+    }
+
+    // Appends the line of a status behind so many others, if its activity keeps the event from being reached and is one of the first three, and says how many
+    // these are then.
     fn put_if_missing(
         &self,
         out: &mut Vec<u8>,
         event: Event,
         name: Option<&[u8]>,
         status: &Status,
-    ) -> Result<(), NoMemory>
-        ensures { OnOk result (out.new.items ≡ out.old.items ++ line_if_missing self.now event (option_map (λ x. x.now) name.entry) status.now) }
+        count: usize,
+    ) -> Result<usize, NoMemory>
+        requires { count < 2 ^ 64 - 1 }
+        ensures { IfOk result (AddsLines count (line_if_missing self.now event (option_map (λ x. x.now) name.entry) status.now) out.old.items out.new.items) }
     {
         if is_missing(event, status) {
-            self.put_missing_line(out, name, status.t.0)
+            self.put_few_missing(out, name, status.t.0, count)
         } else {
-            Ok(())
+            Ok(count)
         }
     }
 
-    // Appends the lines of those that keep the event from being reached.
+    // Appends the lines of the first three that keep the event from being reached, and the number of the others.
     pub(crate) fn put_missing_lines(
         &self,
         out: &mut Vec<u8>,
@@ -88,9 +111,11 @@ impl<'a> ClockFacts<'a> {
     ) -> Result<(), NoMemory>
         ensures { OnOk result (out.new.items ≡ out.old.items ++ missing_lines self.now event (option_map (λ x. x.now) name.entry)) }
     {
+        let of_text = self.of_text;
+        let mut count = 0;
         for status in self.end.blocked.as_slice() {
-            self.put_if_missing(out, event, name, status)?;
+            count = self.put_if_missing(out, event, name, status, count)?;
         }
-        Ok(())
+        put_more(of_text.alloc, out, count.saturating_sub(FEW_LINES))
     }
 }

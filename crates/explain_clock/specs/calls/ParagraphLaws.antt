@@ -1,6 +1,5 @@
 -- Who has a paragraph in the explanation of a clock text, and who is named in the paragraph of one who waits.
-use Rattle.std.specs.Prelude.{◌≡◌, ◌↔◌, ℕ, ◌<◌, List, [], Option, Some, Ok, AllPairs, Bool, Contains, length, slice_get}
-use Rattle.std.specs.List.{flat_map}
+use Rattle.std.specs.Prelude.{◌≡◌, ◌↔◌, ℕ, ◌<◌, List, [], Option, Some, Ok, AllPairs, Bool, Contains, length, map, slice_get}
 use Rattle.armus_base.specs.declared.ending.TaskEnd.{TaskEnd}
 use Rattle.armus_base.specs.declared.ending.TaskEnd.TheVariants.{Blocked, Done, Refused, Unforked}
 use Rattle.armus_base.specs.declared.event.Event.{Event}
@@ -12,7 +11,7 @@ use Rattle.armus_base.specs.States.{State}
 use Rattle.clock_syntax.specs.Trees.{ClockTree}
 use Rattle.clock_semantics.specs.Unfolding.{ClockUnfolding, clock_unfolded, plan_of_moves}
 use Rattle.clock_source_map.specs.ClockOrigins.{MadeThing}
-use Rattle.explain_clock.specs.ClockExplanations.{ExplainsActivities, missing_line, missing_lines, paragraph_at, unstarted_line, waiting_paragraph}
+use Rattle.explain_clock.specs.ClockExplanations.{ExplainsActivities, few_lines, missing_line, missing_lines, paragraph_at, unstarted_line, waiting_paragraph}
 use Rattle.explain_clock.specs.ClockFacts.{ClockFacts}
 
 -- ---- who waits
@@ -48,11 +47,11 @@ EachHasItsParagraph =
 abbrev pub IsMemberBelow : State → Event → ℕ → Type 0
 IsMemberBelow s e v = (n : ℕ) × s.phases v e.p.0 ≡ Some n × n < e.n
 
--- The activities that are named to one who waits for this event, whose signal is missing or who have not ended: in order of number, each once; exactly those
--- that keep the event from being reached; and each of them waits itself.
+-- The activities that keep one who waits for this event, whose signal is missing or who have not ended: in order of number, each once; exactly those that keep the
+-- event from being reached; and each of them waits itself. The first three have a line, and the others are counted.
 pub record NamesThoseBehind (f : ClockFacts) (s : State) (e : Event) : Type 0 where
   pub named : List ℕ
-  pub lines_are : (name : Option (List ℕ)) → missing_lines f e name ≡ flat_map (missing_line f name) named
+  pub lines_are : (name : Option (List ℕ)) → missing_lines f e name ≡ few_lines (map (missing_line f name) named)
   pub ascend : AllPairs (λ v w. v < w) named
   pub exact : (v : ℕ) → Contains named v ↔ IsMemberBelow s e v
   pub wait : (v : ℕ) → Contains named v → IsWaitingIn s v
