@@ -43,7 +43,10 @@ fn main(rt: HostRuntime) -> ExitCode {
     };
     let words = words.as_slice();
     let status = match request_of(words) {
-        Request::Text(_, Some(name)) => explain_file(&rt, words, name),
+        Request::Text {
+            file: Some(name),
+            ..
+        } => explain_file(&rt, words, name),
         _ => explain_from(&rt, words, "standard input", rt.stdin()),
     };
     ExitCode::from(status)

@@ -11,7 +11,7 @@ use Rattle.program_io.specs.calls.ExitNumbers.{number_of_status}
 use Rattle.explain.specs.declared.answer.Answer.{Answer}
 use Rattle.explain.specs.Languages.{is_of_clocks}
 use Rattle.explain.specs.Outputs.{AnswersStepsIn, IsExplainCall, MayWrite, text_limit}
-use Rattle.explain.specs.Requests.{Asked, avoided, clocks, explanation, help, nothing, steps, version}
+use Rattle.explain.specs.Requests.{Asked, Form, avoided, clocks, explanation, help, nothing, steps, version}
 use Rattle.explain.specs.declared.answer.WantedOutput.{WantedOutput}
 use Rattle.explain.specs.declared.answer.WantedOutput.TheVariants.{Explanation}
 use Rattle.explain.specs.calls.Requested.{asked_for}
@@ -24,33 +24,33 @@ small true status is = omega (arith, is)
 small false status is = omega (arith, is)
 
 -- an output with steps has a status of 3 at most
-at_most_three_in : (of_clocks : Bool) (file : Option Text) (text : Text) (status : ℕ) (lines : Text) → AnswersStepsIn of_clocks file text status lines → status ≤ 3
-at_most_three_in true file text status lines (inl is) = small is.waits status is.status_is
-at_most_three_in true file text status lines (inr (three, refused)) = omega (arith, three)
-at_most_three_in false file text status lines (inl is) = small is.waits status is.status_is
-at_most_three_in false file text status lines (inr (three, refused)) = omega (arith, three)
+at_most_three_in : (of_clocks : Bool) (form : Form) (text : Text) (status : ℕ) (lines : Text) → AnswersStepsIn of_clocks form text status lines → status ≤ 3
+at_most_three_in true form text status lines (inl is) = small is.waits status is.status_is
+at_most_three_in true form text status lines (inr (three, refused)) = omega (arith, three)
+at_most_three_in false form text status lines (inl is) = small is.waits status is.status_is
+at_most_three_in false form text status lines (inr (three, refused)) = omega (arith, three)
 
 -- a whole output has a status of 3 at most
 at_most_three : (asked : Asked) (src : Passage) (status : ℕ) (lines : Text) → MayWrite asked src status lines → status ≤ 3
-at_most_three (explanation file) src status lines (inl (text, has, inl is)) = small is.waits status is.status_is
-at_most_three (explanation file) src status lines (inl (text, has, inr (three, refused))) = omega (arith, three)
-at_most_three (explanation file) src status lines (inr (much, three, line)) = omega (arith, three)
-at_most_three (steps file) src status lines (inl (text, has, is)) = at_most_three_in (is_of_clocks file text) file text status lines is
-at_most_three (steps file) src status lines (inr (much, three, line)) = omega (arith, three)
-at_most_three (avoided file) src status lines (inl (text, has, inl is)) = small is.stays status is.status_is
-at_most_three (avoided file) src status lines (inl (text, has, inr (three, refused))) = omega (arith, three)
-at_most_three (avoided file) src status lines (inr (much, three, line)) = omega (arith, three)
-at_most_three (clocks file) src status lines (inl (text, has, inl is)) = small is.waits status is.status_is
-at_most_three (clocks file) src status lines (inl (text, has, inr (three, refused))) = omega (arith, three)
-at_most_three (clocks file) src status lines (inr (much, three, line)) = omega (arith, three)
+at_most_three (explanation form) src status lines (inl (text, has, inl is)) = small is.waits status is.status_is
+at_most_three (explanation form) src status lines (inl (text, has, inr (three, refused))) = omega (arith, three)
+at_most_three (explanation form) src status lines (inr (much, three, line)) = omega (arith, three)
+at_most_three (steps form) src status lines (inl (text, has, is)) = at_most_three_in (is_of_clocks form.file text) form text status lines is
+at_most_three (steps form) src status lines (inr (much, three, line)) = omega (arith, three)
+at_most_three (avoided form) src status lines (inl (text, has, inl is)) = small is.stays status is.status_is
+at_most_three (avoided form) src status lines (inl (text, has, inr (three, refused))) = omega (arith, three)
+at_most_three (avoided form) src status lines (inr (much, three, line)) = omega (arith, three)
+at_most_three (clocks form) src status lines (inl (text, has, inl is)) = small is.waits status is.status_is
+at_most_three (clocks form) src status lines (inl (text, has, inr (three, refused))) = omega (arith, three)
+at_most_three (clocks form) src status lines (inr (much, three, line)) = omega (arith, three)
 at_most_three help src status lines is = (let zero = is.0 in omega (arith, zero))
 at_most_three version src status lines is = (let zero = is.0 in omega (arith, zero))
 at_most_three nothing src status lines is = (let two = is.0 in omega (arith, two))
 
 -- where a text is read, it has a limit
-limited : (wanted : WantedOutput) (file : Option Text) → text_limit (asked_for wanted file) ≡ Some MAX_TEXT_BYTES
-limited Explanation file = refl
-limited wanted file = refl
+limited : (wanted : WantedOutput) (form : Form) → text_limit (asked_for wanted form) ≡ Some MAX_TEXT_BYTES
+limited Explanation form = refl
+limited wanted form = refl
 
 -- the number after an output was to be written is its status, or 5
 status_or_five : (out : Passage) (lines : Text) (status number : ℕ) → Finished out lines status number → (number ≡ status) ⊎ (number ≡ 5)
@@ -92,47 +92,47 @@ module _ (src out : Passage) (same_source same_sink : Type 0) where
       subst (λ (a : Asked). IsExplainCall a src out same_source same_sink number) same (call_finished own lines status number may still (λ _. (source, is)) done)
 
   -- an output for what the source gave was to be written
-  pub call_answered : (wanted : WantedOutput) (file read : Option Text) (answer : Answer) (lines : Text) (number : ℕ) → read ≡ file
+  pub call_answered : (wanted : WantedOutput) (form read : Form) (answer : Answer) (lines : Text) (number : ℕ) → read ≡ form
       → AnswersSource wanted read src answer → lines ≡ answer.lines → Finished out lines (number_of_status answer.status) number
-      → IsExplainCall (asked_for wanted file) src out same_source same_sink number
-  call_answered wanted file read answer lines number same (may, still) lines_are done =
+      → IsExplainCall (asked_for wanted form) src out same_source same_sink number
+  call_answered wanted form read answer lines number same (may, still) lines_are done =
       let status = number_of_status answer.status in
-      let own : MayWrite (asked_for wanted file) src status answer.lines = subst (λ (f : Option Text). MayWrite (asked_for wanted f) src status answer.lines) same may in
+      let own : MayWrite (asked_for wanted form) src status answer.lines = subst (λ (f : Form). MayWrite (asked_for wanted f) src status answer.lines) same may in
       let wrote : Finished out answer.lines status number = subst (λ (t : Text). Finished out t status number) lines_are done in
-      call_finished (asked_for wanted file) answer.lines status number own still (λ none. absurd (let limit = limited wanted file in cc)) wrote
+      call_finished (asked_for wanted form) answer.lines status number own still (λ none. absurd (let limit = limited wanted form in cc)) wrote
 
-module _ (src : Passage) (bytes : Option Text) (faults : ℕ) (same_source same_sink : Type 0) (wanted : WantedOutput) (file : Option Text) (number : ℕ) where
+module _ (src : Passage) (bytes : Option Text) (faults : ℕ) (same_source same_sink : Type 0) (wanted : WantedOutput) (form : Form) (number : ℕ) where
   abbrev same_out : Passage
   same_out = record { before = bytes; after = bytes; faults_before = faults; faults_after = faults }
 
   -- how it ends, by the limit of a text
-  ends_there : EndsWith (MayWrite (asked_for wanted file) src) (Some MAX_TEXT_BYTES) false src same_out number
-      → EndsWith (MayWrite (asked_for wanted file) src) (text_limit (asked_for wanted file)) false src same_out number
+  ends_there : EndsWith (MayWrite (asked_for wanted form) src) (Some MAX_TEXT_BYTES) false src same_out number
+      → EndsWith (MayWrite (asked_for wanted form) src) (text_limit (asked_for wanted form)) false src same_out number
   ends_there =
-      subst (λ (limit : Option ℕ). EndsWith (MayWrite (asked_for wanted file) src) limit false src same_out number) (sym (limited wanted file))
+      subst (λ (limit : Option ℕ). EndsWith (MayWrite (asked_for wanted form) src) limit false src same_out number) (sym (limited wanted form))
 
   -- nothing was written, where the source failed
   pub call_failed : number ≡ 4 → same_sink → HasCountedFault src → ReadNoMore (Some MAX_TEXT_BYTES) src
-      → IsExplainCall (asked_for wanted file) src same_out same_source same_sink number
+      → IsExplainCall (asked_for wanted form) src same_out same_source same_sink number
   call_failed four same failed read =
       let ends = ends_there (read_fault four refl failed read refl (Keeps-refl bytes)) in
       record {
         ends = ends;
-        unread = λ none. absurd (let limit = limited wanted file in cc);
+        unread = λ none. absurd (let limit = limited wanted form in cc);
         silent = λ _. same;
         unwritten = λ six. absurd (omega (arith, four, six));
-        complete = completes (asked_for wanted file) src same_out number ends;
+        complete = completes (asked_for wanted form) src same_out number ends;
       }
 
   -- nor where memory was wanting
   pub call_wanting : number ≡ 6 → same_sink → IsSound src → ReadNoMore (Some MAX_TEXT_BYTES) src
-      → IsExplainCall (asked_for wanted file) src same_out same_source same_sink number
+      → IsExplainCall (asked_for wanted form) src same_out same_source same_sink number
   call_wanting six same still read =
       let ends = ends_there (no_memory six still read refl (inl (Keeps-refl bytes))) in
       record {
         ends = ends;
-        unread = λ none. absurd (let limit = limited wanted file in cc);
+        unread = λ none. absurd (let limit = limited wanted form in cc);
         silent = λ four. absurd (omega (arith, four, six));
         unwritten = λ _. (same, Keeps-refl bytes);
-        complete = completes (asked_for wanted file) src same_out number ends;
+        complete = completes (asked_for wanted form) src same_out number ends;
       }

@@ -23,10 +23,11 @@ use Rattle.clock_semantics.specs.Unfolding.{ClockUnfolding, clock_plan_of, clock
 use Rattle.clock_semantics.proofs.ClockPlanIsChecked.{clock_plan_is_checked}
 use Rattle.clock_laws.proofs.TextEndsTold.{text_ends_are_told}
 use Rattle.clock_source_map.proofs.Walked.{same_unfolding}
-use Rattle.explain_clock.specs.ClockExplanations.{ExplainsActivities, waits_there}
+use Rattle.explain_clock.specs.ClockExplanations.{waits_there}
 use Rattle.program_io.specs.Texts.{Text}
 use Rattle.program_io.proofs.SomeBelow.{any_below, some_below}
-use Rattle.explain.specs.ClockExplained.{HasSomeClockFault, IsMaximalClockRun}
+use Rattle.explain.specs.ClockExplained.{AreToldActivities, HasSomeClockFault, IsMaximalClockRun}
+use Rattle.explain.specs.Requests.{Form}
 use Rattle.explain.specs.Explained.{WaitsIn}
 
 -- ---- plans
@@ -92,15 +93,15 @@ published_end true None None on = absurd cc
 published_end false None None on = absurd cc
 
 pub clocks_tell_waiting :
-    (file : Option Text) (text : Text) (p : ClockTree) (u : ClockUnfolding) (steps : List Step) (lines : List ℕ) (some : Bool) → IsMaximalClockRun text p u steps →
-    ExplainsActivities file text p u (plan_of_moves u) (places steps) lines some → (some ≡ true) ↔ ((t : ℕ) × WaitsIn (state_after steps) t)
-clocks_tell_waiting file text p u steps lines some ended is =
+    (form : Form) (text : Text) (p : ClockTree) (u : ClockUnfolding) (steps : List Step) (lines : List ℕ) (some : Bool) → IsMaximalClockRun text p u steps →
+    AreToldActivities form text p u (plan_of_moves u) (places steps) lines some → (some ≡ true) ↔ ((t : ℕ) × WaitsIn (state_after steps) t)
+clocks_tell_waiting form text p u steps lines some ended is =
     let plan = plan_of_moves u in
     let checked = checked_moves p u ended.unfolds in
     let fixed : state_after steps ≡ state_at plan (places steps) = (places_fix plan checked steps ended.run.0).0 in
     let of_plan : IsOfPlan plan (state_after steps) = run_is_of_plan plan steps checked ended.run.0 in
     let told : some ≡ list_any waits_there (list_below (end_of (state_after steps)) (length plan.parents)) =
-    is.waits_are ∙ ap (list_any waits_there) (is.are_facts.ends_are ∙ ap (λ s. list_below (end_of s) (length plan.parents)) (sym fixed)) in (
+    is.tells.waits_are ∙ ap (list_any waits_there) (is.tells.are_facts.ends_are ∙ ap (λ s. list_below (end_of s) (length plan.parents)) (sym fixed)) in (
       λ on.
           let (t, below, waits) = some_below waits_there (end_of (state_after steps)) (length plan.parents) (sym told ∙ on) in
           (t, published_end ((state_after steps).forked t) ((state_after steps).published t) ((state_after steps).refused t) waits),

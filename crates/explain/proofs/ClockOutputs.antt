@@ -13,13 +13,13 @@ use Rattle.clock_syntax.proofs.ClockTexts.{clock_tree_or_fault}
 use Rattle.clock_syntax.proofs.ClockUnique.{not_both_clocks, one_clock_fault, one_clock_tree}
 use Rattle.clock_semantics.specs.Unfolding.{ClockUnfolding, clock_unfolded, plan_of_moves}
 use Rattle.clock_source_map.specs.ClockOffsets.{clock_offsets}
-use Rattle.explain_clock.specs.ClockExplanations.{ExplainsActivities}
 use Rattle.explain_clock.specs.ClockRefusals.{clock_fault_lines, clock_syntax_lines}
-use Rattle.explain_clock.proofs.OneExplanation.{clock_explanation_exists, one_clock_explanation}
 use Rattle.program_io.specs.Texts.{Text}
-use Rattle.explain.specs.ClockExplained.{AnswersClock, ClockEndsSo, HasSomeClockFault, IsClockExplanationOf, IsClockRefusedWith, IsMaximalClockRun, IsClockStatusOf}
+use Rattle.explain.specs.ClockExplained.{AnswersClock, AreToldActivities, ClockEndsSo, HasSomeClockFault, IsClockExplanationOf, IsClockRefusedWith, IsMaximalClockRun, IsClockStatusOf}
 use Rattle.explain.specs.Explained.{SomeWaits}
+use Rattle.explain.specs.Requests.{Form}
 use Rattle.explain.specs.calls.Laws.{EachHasOutput, IsOneOutput}
+use Rattle.explain.proofs.Told.{one_told_clock, told_clock_exists}
 use Rattle.explain.proofs.Statuses.{one_answer, one_status, status_of_end, status_of_fault}
 use Rattle.explain.proofs.ClockEnds.{checked_moves, clock_run, clocks_tell_waiting, end_alike, run_or_fault}
 
@@ -43,40 +43,40 @@ one_clock_refused file text lines others (inr (p, f, reads, fails, is)) (inr (q,
 
 -- ---- one output
 
-pub one_clock_explained : (file : Option Text) (text : Text) (status other : ℕ) (lines others : Text) → IsClockExplanationOf file text status lines
-    → IsClockExplanationOf file text other others → (status ≡ other) × (lines ≡ others)
-one_clock_explained file text status other lines others a b =
+pub one_clock_explained : (form : Form) (text : Text) (status other : ℕ) (lines others : Text) → IsClockExplanationOf form text status lines
+    → IsClockExplanationOf form text other others → (status ≡ other) × (lines ≡ others)
+one_clock_explained form text status other lines others a b =
     let alike = end_alike text b.program a.program b.unfolded a.unfolded b.steps a.steps b.ended a.ended in
-    let of_program : ExplainsActivities file text a.program b.unfolded (plan_of_moves b.unfolded) (places b.steps) others b.waits =
-    subst (λ p. ExplainsActivities file text p b.unfolded (plan_of_moves b.unfolded) (places b.steps) others b.waits) alike.programs b.explains in
-    let of_plan : ExplainsActivities file text a.program a.unfolded (plan_of_moves a.unfolded) (places b.steps) others b.waits =
-    subst (λ u. ExplainsActivities file text a.program u (plan_of_moves u) (places b.steps) others b.waits) alike.unfoldings of_program in
-    let of_places : ExplainsActivities file text a.program a.unfolded (plan_of_moves a.unfolded) (places a.steps) others b.waits =
-    subst (λ (at : ℕ → Place). ExplainsActivities file text a.program a.unfolded (plan_of_moves a.unfolded) at others b.waits) (fun_ext alike.ends.0) of_plan in
-    let same = one_clock_explanation file text a.program a.unfolded (plan_of_moves a.unfolded) (places a.steps) lines others a.waits b.waits a.explains of_places in (
+    let of_program : AreToldActivities form text a.program b.unfolded (plan_of_moves b.unfolded) (places b.steps) others b.waits =
+    subst (λ p. AreToldActivities form text p b.unfolded (plan_of_moves b.unfolded) (places b.steps) others b.waits) alike.programs b.explains in
+    let of_plan : AreToldActivities form text a.program a.unfolded (plan_of_moves a.unfolded) (places b.steps) others b.waits =
+    subst (λ u. AreToldActivities form text a.program u (plan_of_moves u) (places b.steps) others b.waits) alike.unfoldings of_program in
+    let of_places : AreToldActivities form text a.program a.unfolded (plan_of_moves a.unfolded) (places a.steps) others b.waits =
+    subst (λ (at : ℕ → Place). AreToldActivities form text a.program a.unfolded (plan_of_moves a.unfolded) at others b.waits) (fun_ext alike.ends.0) of_plan in
+    let same = one_told_clock form text a.program a.unfolded (plan_of_moves a.unfolded) (places a.steps) lines others a.waits b.waits a.explains of_places in (
       one_status a.waits b.waits status other a.status_is b.status_is same.1,
       same.0,
     )
 
-pub clock_explained_or_refused : (file : Option Text) (text : Text) (status : ℕ) (lines others : Text) → IsClockExplanationOf file text status lines → IsClockRefusedWith file text others → ⊥
-clock_explained_or_refused file text status lines others is refused =
-    run_or_fault text is.program is.unfolded is.steps is.ended (has_fault file text others refused)
+pub clock_explained_or_refused : (form : Form) (text : Text) (status : ℕ) (lines others : Text) → IsClockExplanationOf form text status lines → IsClockRefusedWith form.file text others → ⊥
+clock_explained_or_refused form text status lines others is refused =
+    run_or_fault text is.program is.unfolded is.steps is.ended (has_fault form.file text others refused)
 
 pub one_clock_output : IsOneOutput AnswersClock
-one_clock_output file text =
-    one_answer (IsClockExplanationOf file text) (IsClockRefusedWith file text) (one_clock_explained file text) (one_clock_refused file text)
-    (clock_explained_or_refused file text)
+one_clock_output form text =
+    one_answer (IsClockExplanationOf form text) (IsClockRefusedWith form.file text) (one_clock_explained form text) (one_clock_refused form.file text)
+    (clock_explained_or_refused form text)
 
 -- ---- each text
 
-module _ (file : Option Text) (text : Text) (Tells : ℕ → Text → Type 0) where
+module _ (form : Form) (text : Text) (Tells : ℕ → Text → Type 0) where
   -- a whole output that tells this or is a refusal
   abbrev pub IsClockMet : Type 0
-  IsClockMet = (status : ℕ) × (lines : Text) × (Tells status lines ⊎ ((status ≡ 3) × IsClockRefusedWith file text lines))
+  IsClockMet = (status : ℕ) × (lines : Text) × (Tells status lines ⊎ ((status ≡ 3) × IsClockRefusedWith form.file text lines))
 
   module _ (tells : (p : ClockTree) (u : ClockUnfolding) → IsClockText text p → clock_unfolded p ≡ Ok u → IsClockMet) where
     met_by : (p : ClockTree) → IsClockText text p → (r : Outcome ClockUnfolding) → clock_unfolded p ≡ r → IsClockMet
-    met_by p reads (Err fault) fails = (3, clock_fault_lines file text (clock_offsets text p) fault, inr (refl, inr (p, fault, reads, fails, refl)))
+    met_by p reads (Err fault) fails = (3, clock_fault_lines form.file text (clock_offsets text p) fault, inr (refl, inr (p, fault, reads, fails, refl)))
     met_by p reads (Ok u) is = tells p u reads is
 
     -- it is there, if it is for each unfolding of the text
@@ -84,14 +84,14 @@ module _ (file : Option Text) (text : Text) (Tells : ℕ → Text → Type 0) wh
     clock_met =
         elim (clock_tree_or_fault text) [
           | inl one ↦ let (p, reads) = one in met_by p reads (clock_unfolded p) refl
-          | inr one ↦ let (fault, has) = one in (3, clock_syntax_lines file text fault, inr (refl, inl (fault, has, refl)))
+          | inr one ↦ let (fault, has) = one in (3, clock_syntax_lines form.file text fault, inr (refl, inl (fault, has, refl)))
         ]
 
-explained : (file : Option Text) (text : Text) (p : ClockTree) (u : ClockUnfolding) → IsClockText text p → clock_unfolded p ≡ Ok u
-    → IsClockMet file text (IsClockExplanationOf file text)
-explained file text p u reads is =
+explained : (form : Form) (text : Text) (p : ClockTree) (u : ClockUnfolding) → IsClockText text p → clock_unfolded p ≡ Ok u
+    → IsClockMet form text (IsClockExplanationOf form text)
+explained form text p u reads is =
     let (steps, run, maximal) = maximal_exists (plan_of_moves u) (checked_moves p u is) in
-    let (lines, waits, explains) = clock_explanation_exists file text p u (plan_of_moves u) (places steps) reads is refl in (
+    let (lines, waits, explains) = told_clock_exists form text p u (plan_of_moves u) (places steps) reads is refl in (
       (if waits then 1 else 0),
       lines,
       inl (record {
@@ -106,7 +106,7 @@ explained file text p u reads is =
     )
 
 pub each_clock_text_is_met : EachHasOutput AnswersClock
-each_clock_text_is_met file text = clock_met file text (IsClockExplanationOf file text) (explained file text)
+each_clock_text_is_met form text = clock_met form text (IsClockExplanationOf form text) (explained form text)
 
 -- ---- the status
 
@@ -118,11 +118,11 @@ one_state text Holds p u h run is =
 ends_or_fault : (text : Text) (Holds : State → Type 0) → ClockEndsSo text Holds → HasSomeClockFault text → ⊥
 ends_or_fault text Holds is fault = run_or_fault text is.program is.unfolded is.steps is.ended fault
 
-pub status_of_clocks : (file : Option Text) (text : Text) (number : ℕ) (lines : Text) → AnswersClock file text number lines → IsClockStatusOf text number
-status_of_clocks file text number lines (inl is) =
+pub status_of_clocks : (form : Form) (text : Text) (number : ℕ) (lines : Text) → AnswersClock form text number lines → IsClockStatusOf text number
+status_of_clocks form text number lines (inl is) =
     status_of_end (HasSomeClockFault text) (ClockEndsSo text) SomeWaits number (ends_or_fault text) (state_after is.steps)
     (λ Holds holds. record { program = is.program; unfolded = is.unfolded; steps = is.steps; ended = is.ended; holds = holds })
     (λ Holds ends. one_state text Holds is.program is.unfolded is.steps is.ended ends)
-    is.waits is.status_is (clocks_tell_waiting file text is.program is.unfolded is.steps lines is.waits is.ended is.explains)
-status_of_clocks file text number lines (inr (three, refused)) =
-    status_of_fault (HasSomeClockFault text) (ClockEndsSo text) SomeWaits number (ends_or_fault text) three (has_fault file text lines refused)
+    is.waits is.status_is (clocks_tell_waiting form text is.program is.unfolded is.steps lines is.waits is.ended is.explains)
+status_of_clocks form text number lines (inr (three, refused)) =
+    status_of_fault (HasSomeClockFault text) (ClockEndsSo text) SomeWaits number (ends_or_fault text) three (has_fault form.file text lines refused)

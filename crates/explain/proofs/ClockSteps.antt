@@ -6,7 +6,6 @@ use Rattle.armus_base.specs.States.{Step}
 use Rattle.clock_syntax.specs.Grammar.{IsClockText}
 use Rattle.clock_syntax.specs.Trees.{ClockTree}
 use Rattle.clock_semantics.specs.Unfolding.{ClockUnfolding, clock_unfolded, plan_of_moves}
-use Rattle.explain_clock.proofs.OneExplanation.{clock_explanation_exists}
 use Rattle.explain_steps.specs.SerialRuns.{IsSerialRun}
 use Rattle.explain_steps.specs.calls.SerialRuns.{IsWholeSerialRun}
 use Rattle.explain_steps.proofs.OneSerialRun.{one_serial_run}
@@ -20,12 +19,14 @@ use Rattle.explain.specs.ClockStepped.{AreClockStepsOf}
 use Rattle.explain.specs.Outputs.{AnswersStepsIn}
 use Rattle.explain.proofs.ClockEnds.{checked_moves, clock_run, end_alike}
 use Rattle.explain.proofs.ClockOutputs.{IsClockMet, clock_explained_or_refused, clock_met, one_clock_explained, one_clock_refused, status_of_clocks}
+use Rattle.explain.specs.Requests.{Form}
 use Rattle.explain.proofs.Statuses.{one_answer}
+use Rattle.explain.proofs.Told.{told_clock_exists}
 
 -- the steps end with an explanation
-clock_steps_end : (file : Option Text) (text : Text) (status : ℕ) (lines : Text) → (is : AreClockStepsOf file text status lines)
-    → IsClockExplanationOf file text status is.explanation
-clock_steps_end file text status lines is = record {
+clock_steps_end : (form : Form) (text : Text) (status : ℕ) (lines : Text) → (is : AreClockStepsOf form text status lines)
+    → IsClockExplanationOf form text status is.explanation
+clock_steps_end form text status lines is = record {
   program = is.program;
   unfolded = is.unfolded;
   steps = is.steps;
@@ -37,9 +38,9 @@ clock_steps_end file text status lines is = record {
 
 -- ---- one output
 
-one_clock_stepped : (file : Option Text) (text : Text) (status other : ℕ) (lines others : Text) → AreClockStepsOf file text status lines
-    → AreClockStepsOf file text other others → (status ≡ other) × (lines ≡ others)
-one_clock_stepped file text status other lines others a b =
+one_clock_stepped : (form : Form) (text : Text) (status other : ℕ) (lines others : Text) → AreClockStepsOf form text status lines
+    → AreClockStepsOf form text other others → (status ≡ other) × (lines ≡ others)
+one_clock_stepped form text status other lines others a b =
     let alike = end_alike text b.program a.program b.unfolded a.unfolded b.steps a.steps b.ended a.ended in
     let serial : IsSerialRun (plan_of_moves a.unfolded) b.steps = subst (λ u. IsSerialRun (plan_of_moves u) b.steps) alike.unfoldings b.serial in
     let maximal : IsMaximal (plan_of_moves a.unfolded) b.steps = subst (λ u. IsMaximal (plan_of_moves u) b.steps) alike.unfoldings b.ended.maximal in
@@ -54,8 +55,8 @@ one_clock_stepped file text status other lines others a b =
     let of_steps : AreClockShown text a.program a.unfolded (plan_of_moves a.unfolded) a.steps b.shown =
     subst (λ (h : List Step). AreClockShown text a.program a.unfolded (plan_of_moves a.unfolded) h b.shown) steps of_plan in
     let shown : b.shown ≡ a.shown = one_clock_showing text a.program a.unfolded (plan_of_moves a.unfolded) a.steps b.shown a.shown of_steps a.are_shown in
-    let same = one_clock_explained file text status other a.explanation b.explanation (clock_steps_end file text status lines a)
-    (clock_steps_end file text other others b) in (
+    let same = one_clock_explained form text status other a.explanation b.explanation (clock_steps_end form text status lines a)
+    (clock_steps_end form text other others b) in (
       same.0,
       a.lines_are
           ∙ ap (λ (s : Text). s ++ a.explanation) (sym shown)
@@ -63,21 +64,21 @@ one_clock_stepped file text status other lines others a b =
           ∙ sym b.lines_are,
     )
 
-pub one_clock_steps : (file : Option Text) (text : Text) (status other : ℕ) (lines others : Text) → AnswersStepsIn true file text status lines
-    → AnswersStepsIn true file text other others → (status ≡ other) × (lines ≡ others)
-one_clock_steps file text =
-    one_answer (AreClockStepsOf file text) (IsClockRefusedWith file text) (one_clock_stepped file text) (one_clock_refused file text)
-    (λ status lines others is refused. clock_explained_or_refused file text status is.explanation others (clock_steps_end file text status lines is) refused)
+pub one_clock_steps : (form : Form) (text : Text) (status other : ℕ) (lines others : Text) → AnswersStepsIn true form text status lines
+    → AnswersStepsIn true form text other others → (status ≡ other) × (lines ≡ others)
+one_clock_steps form text =
+    one_answer (AreClockStepsOf form text) (IsClockRefusedWith form.file text) (one_clock_stepped form text) (one_clock_refused form.file text)
+    (λ status lines others is refused. clock_explained_or_refused form text status is.explanation others (clock_steps_end form text status lines is) refused)
 
 -- ---- each text
 
-module _ (file : Option Text) (text : Text) where
-  stepped : (p : ClockTree) (u : ClockUnfolding) → IsClockText text p → clock_unfolded p ≡ Ok u → IsClockMet file text (AreClockStepsOf file text)
+module _ (form : Form) (text : Text) where
+  stepped : (p : ClockTree) (u : ClockUnfolding) → IsClockText text p → clock_unfolded p ≡ Ok u → IsClockMet form text (AreClockStepsOf form text)
   stepped p u reads is =
       let (steps, whole) = serial_run_exists (plan_of_moves u) (checked_moves p u is) in
       let run = serial_is_plain (plan_of_moves u) steps whole.serial in
       let (shown, are_shown) = clock_showing_exists text p u (plan_of_moves u) steps in
-      let (lines, waits, explains) = clock_explanation_exists file text p u (plan_of_moves u) (places steps) reads is refl in (
+      let (lines, waits, explains) = told_clock_exists form text p u (plan_of_moves u) (places steps) reads is refl in (
         (if waits then 1 else 0),
         shown ++ lines,
         inl (record {
@@ -96,11 +97,11 @@ module _ (file : Option Text) (text : Text) where
         }),
       )
 
-  pub each_clock_text_has_steps : (status : ℕ) × (lines : Text) × AnswersStepsIn true file text status lines
-  each_clock_text_has_steps = clock_met file text (AreClockStepsOf file text) stepped
+  pub each_clock_text_has_steps : (status : ℕ) × (lines : Text) × AnswersStepsIn true form text status lines
+  each_clock_text_has_steps = clock_met form text (AreClockStepsOf form text) stepped
 
   -- ---- the status
 
-  pub status_of_clock_steps : (number : ℕ) (lines : Text) → AnswersStepsIn true file text number lines → IsClockStatusOf text number
-  status_of_clock_steps number lines (inl is) = status_of_clocks file text number is.explanation (inl (clock_steps_end file text number lines is))
-  status_of_clock_steps number lines (inr refused) = status_of_clocks file text number lines (inr refused)
+  pub status_of_clock_steps : (number : ℕ) (lines : Text) → AnswersStepsIn true form text number lines → IsClockStatusOf text number
+  status_of_clock_steps number lines (inl is) = status_of_clocks form text number is.explanation (inl (clock_steps_end form text number lines is))
+  status_of_clock_steps number lines (inr refused) = status_of_clocks form text number lines (inr refused)

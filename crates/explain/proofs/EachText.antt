@@ -7,7 +7,6 @@ use Rattle.pl_plan.proofs.Unfolds.{fault_is_first}
 use Rattle.report.specs.declared.refusal.Refusal.{Refusal}
 use Rattle.report.specs.declared.refusal.Refusal.TheVariants.{Check, Length, Schedule, Syntax}
 use Rattle.explain_check.proofs.TextRefusals.{has_refusal}
-use Rattle.explain_deadlock.proofs.ExplanationExists.{explanation_exists}
 use Rattle.explain_syntax.proofs.SomeStand.{some_refusal}
 use Rattle.program_io.specs.Texts.{Text}
 use Rattle.program_io.specs.Programs.{IsFaultOf, IsPlanOf}
@@ -17,12 +16,14 @@ use Rattle.explain.specs.calls.Laws.{EachHasOutput}
 use Rattle.explain.specs.Explained.{IsExplanationOf}
 use Rattle.explain.specs.Outputs.{AnswersText}
 use Rattle.explain.specs.Refused.{IsRefusedWith}
+use Rattle.explain.specs.Requests.{Form}
+use Rattle.explain.proofs.Told.{told_exists}
 
-module _ (file : Option Text) (text : Text) where
-  refused : (why : Refusal) → IsFaultOf text why → (lines : Text) × IsRefusedWith file text lines
-  refused (Syntax fault) is = let (lines, refuses) = some_refusal file text fault is in (lines, inl (fault, refuses))
+module _ (form : Form) (text : Text) where
+  refused : (why : Refusal) → IsFaultOf text why → (lines : Text) × IsRefusedWith form.file text lines
+  refused (Syntax fault) is = let (lines, refuses) = some_refusal form.file text fault is in (lines, inl (fault, refuses))
   refused (Check fault) (program, reads, fails) =
-      let (lines, refuses) = has_refusal file text program fault reads ((fault_is_first program fault).0 fails) in
+      let (lines, refuses) = has_refusal form.file text program fault reads ((fault_is_first program fault).0 fails) in
       (lines, inr (program, refuses))
   refused Length is = absurd is
   refused (Schedule fault) is = absurd is
@@ -30,7 +31,7 @@ module _ (file : Option Text) (text : Text) where
   module _ (Tells : ℕ → Text → Type 0) where
     -- a whole output that tells this or is a refusal
     abbrev pub IsMet : Type 0
-    IsMet = (status : ℕ) × (lines : Text) × (Tells status lines ⊎ ((status ≡ 3) × IsRefusedWith file text lines))
+    IsMet = (status : ℕ) × (lines : Text) × (Tells status lines ⊎ ((status ≡ 3) × IsRefusedWith form.file text lines))
 
     -- it is there, if it is for the plan of the text
     pub met : ((plan : Plan) → IsPlanOf text plan → IsMet) → IsMet
@@ -40,10 +41,10 @@ module _ (file : Option Text) (text : Text) where
           | inr one ↦ let (why, is) = one in let (lines, refuses) = refused why is in (3, lines, inr (refl, refuses))
         ]
 
-  explained : (plan : Plan) → IsPlanOf text plan → IsMet (IsExplanationOf file text)
+  explained : (plan : Plan) → IsPlanOf text plan → IsMet (IsExplanationOf form text)
   explained plan (program, checked) =
       let (steps, run, maximal) = maximal_exists plan (checked_plan text plan (program, checked)) in
-      let (lines, waits, explains) = explanation_exists file text program plan steps checked.reads checked.unfolds run.0 maximal in (
+      let (lines, waits, explains) = told_exists form text program plan steps checked.reads checked.unfolds run.0 maximal in (
         (if waits then 1 else 0),
         lines,
         inl (record {
@@ -57,4 +58,4 @@ module _ (file : Option Text) (text : Text) where
       )
 
 pub each_text_is_met : EachHasOutput AnswersText
-each_text_is_met file text = met file text (IsExplanationOf file text) (explained file text)
+each_text_is_met form text = met form text (IsExplanationOf form text) (explained form text)

@@ -14,15 +14,17 @@ use Rattle.explain_avoid.specs.declared.explaining.AvoidedExplanation.{AvoidedEx
 use Rattle.explain_avoid.proofs.Explained.{avoided_explained}
 use Rattle.program_io.specs.Texts.{Text}
 use Rattle.explain.specs.Avoided.{IsAvoidedOf}
+use Rattle.explain.specs.Requests.{Form}
+use Rattle.explain.specs.Shortened.{displayed}
 
-pub end_avoided : (file : Option Text) (text : Text) (p : Program) (plan : Plan) (r : AvoidedRun) (run : IsRunWithRefusals file text p plan r) → IsText text p
-    → plan_of p ≡ Ok plan → (account : Account) (x : AvoidedExplanation) (status : ℕ) → IsAccountOf text r.world.plan (places_of r.world) account
-    → IsExplainedRun file text account r x → status ≡ (if x.somebody_stays then 1 else 0) → IsAvoidedOf file text status x.lines
-end_avoided file text p plan r run reads unfolds account x status is_account is status_is = record {
+pub end_avoided : (form : Form) (text : Text) (p : Program) (plan : Plan) (r : AvoidedRun) (run : IsRunWithRefusals form.file text p plan r) → IsText text p
+    → plan_of p ≡ Ok plan → (account : Account) (x : AvoidedExplanation) (status : ℕ) (lines : Text) → IsAccountOf text r.world.plan (places_of r.world) account
+    → IsExplainedRun form.file text account r x → lines ≡ displayed form.all x.lines → status ≡ (if x.somebody_stays then 1 else 0) → IsAvoidedOf form text status lines
+end_avoided form text p plan r run reads unfolds account x status lines is_account is lines_are status_is = record {
   plan = plan;
   plan_is = (p, record { reads = reads; unfolds = unfolds });
   steps = run.steps;
   stays = x.somebody_stays;
-  explains = avoided_explained file text p plan r run account x is_account is;
+  explains = record { whole = x.lines; tells = avoided_explained form.file text p plan r run account x is_account is; lines_are = lines_are };
   status_is = status_is;
 }

@@ -10,19 +10,19 @@ use Rattle.explain_steps.specs.declared.stepping.SteppedRun.{SteppedRun}
 use Rattle.clock_syntax.specs.Grammar.{IsClockText}
 use Rattle.clock_syntax.specs.Trees.{ClockTree}
 use Rattle.clock_semantics.specs.Unfolding.{ClockUnfolding, clock_plan_of, clock_unfolded, plan_of_moves}
-use Rattle.explain_clock.specs.ClockExplanations.{ExplainsActivities}
 use Rattle.explain_clock.specs.declared.explaining.ClockExplanation.{ClockExplanation}
 use Rattle.explain_steps.specs.ShownClockSteps.{AreClockShown}
 use Rattle.explain_steps.specs.calls.SteppedClocks.{IsSteppedClockRun}
 use Rattle.world_runs.specs.calls.EndWorlds.{IsEndWorld}
 use Rattle.program_io.specs.Texts.{Text}
-use Rattle.explain.specs.ClockExplained.{IsClockExplanationOf, IsMaximalClockRun}
+use Rattle.explain.specs.ClockExplained.{AreToldActivities, IsClockExplanationOf, IsMaximalClockRun}
+use Rattle.explain.specs.Requests.{Form}
 use Rattle.explain.specs.ClockStepped.{AreClockStepsOf}
 use Rattle.explain.proofs.ClockEnds.{clock_run}
 use Rattle.explain.proofs.EndExplained.{serial_world}
 use Rattle.clock_source_map.proofs.AllOrigins.{unfolding_of_plan}
 
-module _ (file : Option Text) (text : Text) (p : ClockTree) (plan : Plan) (reads : IsClockText text p) (unfolds : clock_plan_of p ≡ Ok plan) where
+module _ (form : Form) (text : Text) (p : ClockTree) (plan : Plan) (reads : IsClockText text p) (unfolds : clock_plan_of p ≡ Ok plan) where
   module _ (u : ClockUnfolding) (opens : clock_unfolded p ≡ Ok u) (same : plan_of_moves u ≡ plan) (w : WorldValue) (end : IsEndWorld plan w) where
     ended_run : IsMaximalClockRun text p u end.steps
     ended_run =
@@ -31,16 +31,16 @@ module _ (file : Option Text) (text : Text) (p : ClockTree) (plan : Plan) (reads
         clock_run text p u end.steps reads opens run maximal
 
     -- what explains the world explains the places to which the run leads
-    explains_run : (lines : Text) (waits : Bool) → ExplainsActivities file text p u w.plan (places_of w) lines waits
-        → ExplainsActivities file text p u (plan_of_moves u) (places end.steps) lines waits
+    explains_run : (lines : Text) (waits : Bool) → AreToldActivities form text p u w.plan (places_of w) lines waits
+        → AreToldActivities form text p u (plan_of_moves u) (places end.steps) lines waits
     explains_run lines waits explains =
-        let by_plan : ExplainsActivities file text p u (plan_of_moves u) (places_of w) lines waits =
-        subst (λ (q : Plan). ExplainsActivities file text p u q (places_of w) lines waits) (end.plan_is ∙ sym same) explains in
-        subst (λ (a : ℕ → Place). ExplainsActivities file text p u (plan_of_moves u) a lines waits) (sym (fun_ext end.there)) by_plan
+        let by_plan : AreToldActivities form text p u (plan_of_moves u) (places_of w) lines waits =
+        subst (λ (q : Plan). AreToldActivities form text p u q (places_of w) lines waits) (end.plan_is ∙ sym same) explains in
+        subst (λ (a : ℕ → Place). AreToldActivities form text p u (plan_of_moves u) a lines waits) (sym (fun_ext end.there)) by_plan
 
   pub clock_end_explained : (w : WorldValue) → IsEndWorld plan w → (x : ClockExplanation) (status : ℕ)
-      → ((u : ClockUnfolding) → clock_unfolded p ≡ Ok u → ExplainsActivities file text p u w.plan (places_of w) x.lines x.has_waiting)
-      → status ≡ (if x.has_waiting then 1 else 0) → IsClockExplanationOf file text status x.lines
+      → ((u : ClockUnfolding) → clock_unfolded p ≡ Ok u → AreToldActivities form text p u w.plan (places_of w) x.lines x.has_waiting)
+      → status ≡ (if x.has_waiting then 1 else 0) → IsClockExplanationOf form text status x.lines
   clock_end_explained w end x status explains status_is =
       let (u, opens, same) = unfolding_of_plan p plan unfolds in
       record {
@@ -59,8 +59,8 @@ module _ (file : Option Text) (text : Text) (p : ClockTree) (plan : Plan) (reads
     stepped_run = (let (u, opens, same) = unfolding_of_plan p plan unfolds in (u, stepped u opens))
 
     pub clock_steps_explained : (x : ClockExplanation) (status : ℕ) (lines : Text)
-        → ((u : ClockUnfolding) → clock_unfolded p ≡ Ok u → ExplainsActivities file text p u s.world.plan (places_of s.world) x.lines x.has_waiting)
-        → status ≡ (if x.has_waiting then 1 else 0) → lines ≡ s.lines ++ x.lines → AreClockStepsOf file text status lines
+        → ((u : ClockUnfolding) → clock_unfolded p ≡ Ok u → AreToldActivities form text p u s.world.plan (places_of s.world) x.lines x.has_waiting)
+        → status ≡ (if x.has_waiting then 1 else 0) → lines ≡ s.lines ++ x.lines → AreClockStepsOf form text status lines
     clock_steps_explained x status lines explains status_is lines_are =
         let (u, opens, same) = unfolding_of_plan p plan unfolds in
         let run = stepped u opens in

@@ -9,7 +9,6 @@ use Rattle.pl_core.specs.calls.Worlds.{WorldValue, places_of}
 use Rattle.pl_plan.specs.Unfolding.{plan_of}
 use Rattle.pl_syntax.specs.Grammar.{IsText}
 use Rattle.pl_syntax.specs.declared.tree.Program.{Program}
-use Rattle.explain_deadlock.specs.Explanations.{IsExplanationAt}
 use Rattle.explain_deadlock.specs.calls.RunEnds.{WaitersStay}
 use Rattle.explain_deadlock.specs.declared.explaining.Explanation.{Explanation}
 use Rattle.explain_deadlock.proofs.RestsAtEnd.{rests_at_end}
@@ -21,7 +20,8 @@ use Rattle.world_runs.specs.calls.EndWorlds.{IsEndWorld}
 use Rattle.program_io.specs.Texts.{Text}
 use Rattle.program_io.specs.Programs.{IsPlanOf}
 use Rattle.program_io.proofs.OnePlan.{checked_plan}
-use Rattle.explain.specs.Explained.{IsEndedRunOf, IsExplanationOf}
+use Rattle.explain.specs.Explained.{IsEndedRunOf, IsExplanationOf, IsToldAt}
+use Rattle.explain.specs.Requests.{Form}
 use Rattle.explain.specs.Stepped.{AreStepsOf}
 
 -- the whole serial run ends in the world to whose places it leads
@@ -38,7 +38,7 @@ serial_world plan w steps plan_is whole there = record {
 abbrev pub stepped_world : (text : Text) (p : Program) (plan : Plan) (s : SteppedRun) → IsSteppedRun text p plan s → IsEndWorld plan s.world
 stepped_world text p plan s run = serial_world plan s.world run.steps run.plan_is run.whole run.there
 
-module _ (file : Option Text) (text : Text) (p : Program) (plan : Plan) (reads : IsText text p) (unfolds : plan_of p ≡ Ok plan) where
+module _ (form : Form) (text : Text) (p : Program) (plan : Plan) (reads : IsText text p) (unfolds : plan_of p ≡ Ok plan) where
   plan_is : IsPlanOf text plan
   plan_is = (p, record { reads = reads; unfolds = unfolds })
 
@@ -54,15 +54,15 @@ module _ (file : Option Text) (text : Text) (p : Program) (plan : Plan) (reads :
     ended_run = record { plan_is = plan_is; run = end.run; maximal = end.maximal }
 
     -- what explains the world explains the places to which the run leads
-    explains_run : (lines : Text) (waits : Bool) → IsExplanationAt file text w.plan (places_of w) lines waits
-        → IsExplanationAt file text plan (places end.steps) lines waits
+    explains_run : (lines : Text) (waits : Bool) → IsToldAt form text w.plan (places_of w) lines waits
+        → IsToldAt form text plan (places end.steps) lines waits
     explains_run lines waits explains =
-        let by_plan : IsExplanationAt file text plan (places_of w) lines waits =
-        subst (λ (q : Plan). IsExplanationAt file text q (places_of w) lines waits) end.plan_is explains in
-        subst (λ (a : ℕ → Place). IsExplanationAt file text plan a lines waits) (sym (fun_ext end.there)) by_plan
+        let by_plan : IsToldAt form text plan (places_of w) lines waits =
+        subst (λ (q : Plan). IsToldAt form text q (places_of w) lines waits) end.plan_is explains in
+        subst (λ (a : ℕ → Place). IsToldAt form text plan a lines waits) (sym (fun_ext end.there)) by_plan
 
-    pub end_explained : (x : Explanation) (status : ℕ) → IsExplanationAt file text w.plan (places_of w) x.lines x.has_waiting
-        → status ≡ (if x.has_waiting then 1 else 0) → IsExplanationOf file text status x.lines
+    pub end_explained : (x : Explanation) (status : ℕ) → IsToldAt form text w.plan (places_of w) x.lines x.has_waiting
+        → status ≡ (if x.has_waiting then 1 else 0) → IsExplanationOf form text status x.lines
     end_explained x status explains status_is = record {
       plan = plan;
       steps = end.steps;
@@ -73,8 +73,8 @@ module _ (file : Option Text) (text : Text) (p : Program) (plan : Plan) (reads :
     }
 
   pub stepped_explained : (s : SteppedRun) → IsSteppedRun text p plan s → (x : Explanation) (status : ℕ) (lines : Text)
-      → IsExplanationAt file text s.world.plan (places_of s.world) x.lines x.has_waiting → status ≡ (if x.has_waiting then 1 else 0)
-      → lines ≡ s.lines ++ x.lines → AreStepsOf file text status lines
+      → IsToldAt form text s.world.plan (places_of s.world) x.lines x.has_waiting → status ≡ (if x.has_waiting then 1 else 0)
+      → lines ≡ s.lines ++ x.lines → AreStepsOf form text status lines
   stepped_explained s run x status lines explains status_is lines_are =
       let end = stepped_world text p plan s run in
       record {

@@ -21,7 +21,7 @@ use Rattle.explain.specs.ClockExplained.{AnswersClock, IsClockStatusOf}
 use Rattle.explain.specs.Stepped.{AreStepsOf}
 use Rattle.explain.specs.Avoided.{AvoidsSo, SomeStays}
 use Rattle.explain.specs.Refused.{HasSomeFault, IsRefusedWith}
-use Rattle.explain.specs.Requests.{Asked, avoided, clocks, explanation, help, nothing, steps, version}
+use Rattle.explain.specs.Requests.{Asked, Form, avoided, clocks, explanation, help, nothing, steps, version}
 use Rattle.explain.proofs.Staying.{tells_staying}
 use Rattle.explain.specs.Languages.{is_of_clocks}
 use Rattle.explain.proofs.ClockOutputs.{status_of_clocks}
@@ -47,14 +47,14 @@ one_state text Holds plan h one is =
     let ends = one_end plan is.steps h (checked_plan text plan one.plan_is) run one.run maximal one.maximal in
     subst Holds ends.1 is.holds
 
-pub status_of_text : (file : Option Text) (text : Text) (number : ℕ) (lines : Text) → AnswersText file text number lines → IsStatusOf text number
-status_of_text file text number lines (inl is) =
+pub status_of_text : (form : Form) (text : Text) (number : ℕ) (lines : Text) → AnswersText form text number lines → IsStatusOf text number
+status_of_text form text number lines (inl is) =
     status_of_end (HasSomeFault text) (EndsSo text) SomeWaits number (λ Holds is. plan_or_some_fault text is.plan is.ended.plan_is) (state_after is.steps)
     (λ Holds holds. record { plan = is.plan; steps = is.steps; ended = is.ended; holds = holds })
     (λ Holds ends. one_state text Holds is.plan is.steps is.ended ends)
-    is.waits is.status_is (tells_waiting file text is.plan is.steps lines is.waits is.ended is.explains)
-status_of_text file text number lines (inr (three, refused)) =
-    status_of_fault (HasSomeFault text) (EndsSo text) SomeWaits number (λ Holds is. plan_or_some_fault text is.plan is.ended.plan_is) three (refused_has file text lines refused)
+    is.waits is.status_is (tells_waiting form text is.plan is.steps lines is.waits is.ended is.explains)
+status_of_text form text number lines (inr (three, refused)) =
+    status_of_fault (HasSomeFault text) (EndsSo text) SomeWaits number (λ Holds is. plan_or_some_fault text is.plan is.ended.plan_is) three (refused_has form.file text lines refused)
 
 -- ---- the run that avoids deadlock
 
@@ -67,21 +67,21 @@ one_avoided_state text Holds plan h plan_is ended is =
     let same = one_serial_end plan is.steps h (checked_plan text plan plan_is) own ended in
     subst (λ (g : List Step). Holds (state_after g)) same is.holds
 
-status_of_avoided : (file : Option Text) (text : Text) (number : ℕ) (lines : Text) → AnswersAvoided file text number lines → IsAvoidedStatusOf text number
-status_of_avoided file text number lines (inl is) =
+status_of_avoided : (form : Form) (text : Text) (number : ℕ) (lines : Text) → AnswersAvoided form text number lines → IsAvoidedStatusOf text number
+status_of_avoided form text number lines (inl is) =
     status_of_end (HasSomeFault text) (AvoidsSo text) SomeStays number (λ Holds is. plan_or_some_fault text is.plan is.plan_is) (state_after is.steps)
-    (λ Holds holds. record { plan = is.plan; plan_is = is.plan_is; steps = is.steps; ended = is.explains.ended; holds = holds })
-    (λ Holds ends. one_avoided_state text Holds is.plan is.steps is.plan_is is.explains.ended ends)
-    is.stays is.status_is (tells_staying file text is.plan is.steps lines is.stays is.plan_is is.explains.ended is.explains)
-status_of_avoided file text number lines (inr (three, refused)) =
-    status_of_fault (HasSomeFault text) (AvoidsSo text) SomeStays number (λ Holds is. plan_or_some_fault text is.plan is.plan_is) three (refused_has file text lines refused)
+    (λ Holds holds. record { plan = is.plan; plan_is = is.plan_is; steps = is.steps; ended = is.explains.tells.ended; holds = holds })
+    (λ Holds ends. one_avoided_state text Holds is.plan is.steps is.plan_is is.explains.tells.ended ends)
+    is.stays is.status_is (tells_staying form.file text is.plan is.steps is.explains.whole is.stays is.plan_is is.explains.tells.ended is.explains.tells)
+status_of_avoided form text number lines (inr (three, refused)) =
+    status_of_fault (HasSomeFault text) (AvoidsSo text) SomeStays number (λ Holds is. plan_or_some_fault text is.plan is.plan_is) three (refused_has form.file text lines refused)
 
 -- ---- steps
 
 -- steps end with an explanation
-pub steps_explained : (file : Option Text) (text : Text) (status : ℕ) (lines : Text) → (is : AreStepsOf file text status lines)
-    → IsExplanationOf file text status is.explanation
-steps_explained file text status lines is = record {
+pub steps_explained : (form : Form) (text : Text) (status : ℕ) (lines : Text) → (is : AreStepsOf form text status lines)
+    → IsExplanationOf form text status is.explanation
+steps_explained form text status lines is = record {
   plan = is.plan;
   steps = is.steps;
   ended = is.ended;
@@ -91,39 +91,39 @@ steps_explained file text status lines is = record {
 }
 
 -- so their status is that of the explanation
-status_of_steps : (file : Option Text) (text : Text) (number : ℕ) (lines : Text) → AnswersStepsIn false file text number lines → IsStatusOf text number
-status_of_steps file text number lines (inl is) = status_of_text file text number is.explanation (inl (steps_explained file text number lines is))
-status_of_steps file text number lines (inr refused) = status_of_text file text number lines (inr refused)
+status_of_steps : (form : Form) (text : Text) (number : ℕ) (lines : Text) → AnswersStepsIn false form text number lines → IsStatusOf text number
+status_of_steps form text number lines (inl is) = status_of_text form text number is.explanation (inl (steps_explained form text number lines is))
+status_of_steps form text number lines (inr refused) = status_of_text form text number lines (inr refused)
 
 -- in either language
-status_in : (of_clocks : Bool) (file : Option Text) (text : Text) (number : ℕ) (lines : Text) → AnswersStepsIn of_clocks file text number lines
+status_in : (of_clocks : Bool) (form : Form) (text : Text) (number : ℕ) (lines : Text) → AnswersStepsIn of_clocks form text number lines
     → IsStatusIn of_clocks text number
-status_in true file text number lines is = status_of_clock_steps file text number lines is
-status_in false file text number lines is = status_of_steps file text number lines is
+status_in true form text number lines is = status_of_clock_steps form text number lines is
+status_in false form text number lines is = status_of_steps form text number lines is
 
 module _ (src : Passage) where
   -- a text that is answered with a status fixes this
-  text_fixed : (file : Option Text) (Answers : Text → ℕ → Text → Type 0) (IsStatus : Text → ℕ → Type 0) (number : ℕ) (lines : Text)
-      → ((text : Text) → Answers text number lines → IsStatus text number) → MayAnswer file Answers src number lines → FixesTextStatus IsStatus src number
-  text_fixed file Answers IsStatus number lines tells (inl (read, has, is)) = (
+  text_fixed : (form : Form) (Answers : Text → ℕ → Text → Type 0) (IsStatus : Text → ℕ → Type 0) (number : ℕ) (lines : Text)
+      → ((text : Text) → Answers text number lines → IsStatus text number) → MayAnswer form Answers src number lines → FixesTextStatus IsStatus src number
+  text_fixed form Answers IsStatus number lines tells (inl (read, has, is)) = (
     λ text offers. subst (λ (t : Text). IsStatus t number) (sym (same_input (Some MAX_TEXT_BYTES) src text read offers has)) (tells read is),
     λ more. absurd (not_long (Some MAX_TEXT_BYTES) src read more has),
   )
-  text_fixed file Answers IsStatus number lines tells (inr (much, three, line)) = (
+  text_fixed form Answers IsStatus number lines tells (inr (much, three, line)) = (
     λ text offers. absurd (not_more (Some MAX_TEXT_BYTES) src text offers much),
     λ more. three,
   )
 
   fixed : (asked : Asked) (number : ℕ) (lines : Text) → MayWrite asked src number lines → FixesStatus asked src number
-  fixed (explanation file) number lines may =
-      text_fixed file (AnswersText file) IsStatusOf number lines (λ text is. status_of_text file text number lines is) may
-  fixed (steps file) number lines may =
-      text_fixed file (AnswersStepsOf file) (λ text. IsStatusIn (is_of_clocks file text) text) number lines
-      (λ text is. status_in (is_of_clocks file text) file text number lines is) may
-  fixed (avoided file) number lines may =
-      text_fixed file (AnswersAvoided file) IsAvoidedStatusOf number lines (λ text is. status_of_avoided file text number lines is) may
-  fixed (clocks file) number lines may =
-      text_fixed file (AnswersClock file) IsClockStatusOf number lines (λ text is. status_of_clocks file text number lines is) may
+  fixed (explanation form) number lines may =
+      text_fixed form (AnswersText form) IsStatusOf number lines (λ text is. status_of_text form text number lines is) may
+  fixed (steps form) number lines may =
+      text_fixed form (AnswersStepsOf form) (λ text. IsStatusIn (is_of_clocks form.file text) text) number lines
+      (λ text is. status_in (is_of_clocks form.file text) form text number lines is) may
+  fixed (avoided form) number lines may =
+      text_fixed form (AnswersAvoided form) IsAvoidedStatusOf number lines (λ text is. status_of_avoided form text number lines is) may
+  fixed (clocks form) number lines may =
+      text_fixed form (AnswersClock form) IsClockStatusOf number lines (λ text is. status_of_clocks form text number lines is) may
   fixed help number lines is = is.0
   fixed version number lines is = is.0
   fixed nothing number lines is = is.0

@@ -1,3 +1,6 @@
+pub mod Fronts
+pub mod ShownShort
+pub mod Told
 pub mod EndExplained
 pub mod Waiting
 pub mod ClockEnds

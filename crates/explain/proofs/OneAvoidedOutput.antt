@@ -6,40 +6,39 @@ use Rattle.armus_base.specs.Serial.{IsSerialAvoidedEnd}
 use Rattle.armus_base.specs.States.{Step}
 use Rattle.armus_base.proofs.OneSerialEnd.{one_serial_end}
 use Rattle.world_runs.proofs.SerialExists.{serial_run_ends}
-use Rattle.explain_avoid.specs.AvoidedExplanations.{IsAvoidedExplanation}
-use Rattle.explain_avoid.proofs.AvoidedExists.{avoided_explanation_exists}
-use Rattle.explain_avoid.proofs.OneAvoided.{one_avoided_explanation}
 use Rattle.program_io.specs.Texts.{Text}
 use Rattle.program_io.specs.Programs.{IsPlanOf}
 use Rattle.program_io.proofs.OnePlan.{checked_plan, one_plan}
-use Rattle.explain.specs.Avoided.{IsAvoidedOf}
+use Rattle.explain.specs.Avoided.{IsAvoidedOf, IsToldAvoided}
 use Rattle.explain.specs.Outputs.{AnswersAvoided}
 use Rattle.explain.specs.Refused.{IsRefusedWith}
+use Rattle.explain.specs.Requests.{Form}
+use Rattle.explain.proofs.Told.{one_told_avoided, told_avoided_exists}
 use Rattle.explain.specs.calls.Laws.{EachHasOutput, IsOneOutput}
 use Rattle.explain.proofs.EachText.{IsMet, met}
 use Rattle.explain.proofs.Fixing.{plan_or_some_fault, refused_has}
 use Rattle.explain.proofs.OneOutput.{one_refused}
 use Rattle.explain.proofs.Statuses.{one_answer, one_status}
 
-module _ (file : Option Text) (text : Text) where
-  one_avoided : (status other : ℕ) (lines others : Text) → IsAvoidedOf file text status lines → IsAvoidedOf file text other others
+module _ (form : Form) (text : Text) where
+  one_avoided : (status other : ℕ) (lines others : Text) → IsAvoidedOf form text status lines → IsAvoidedOf form text other others
       → (status ≡ other) × (lines ≡ others)
   one_avoided status other lines others a b =
       let plans : b.plan ≡ a.plan = one_plan text b.plan a.plan b.plan_is a.plan_is in
-      let ended : IsSerialAvoidedEnd a.plan b.steps = subst (λ (q : Plan). IsSerialAvoidedEnd q b.steps) plans b.explains.ended in
-      let steps : b.steps ≡ a.steps = one_serial_end a.plan b.steps a.steps (checked_plan text a.plan a.plan_is) ended a.explains.ended in
-      let by_plan : IsAvoidedExplanation file text a.plan b.steps others b.stays =
-      subst (λ (q : Plan). IsAvoidedExplanation file text q b.steps others b.stays) plans b.explains in
-      let by_steps : IsAvoidedExplanation file text a.plan a.steps others b.stays =
-      subst (λ (h : List Step). IsAvoidedExplanation file text a.plan h others b.stays) steps by_plan in
-      let same = one_avoided_explanation file text a.plan a.steps lines others a.stays b.stays a.explains by_steps in
+      let ended : IsSerialAvoidedEnd a.plan b.steps = subst (λ (q : Plan). IsSerialAvoidedEnd q b.steps) plans b.explains.tells.ended in
+      let steps : b.steps ≡ a.steps = one_serial_end a.plan b.steps a.steps (checked_plan text a.plan a.plan_is) ended a.explains.tells.ended in
+      let by_plan : IsToldAvoided form text a.plan b.steps others b.stays =
+      subst (λ (q : Plan). IsToldAvoided form text q b.steps others b.stays) plans b.explains in
+      let by_steps : IsToldAvoided form text a.plan a.steps others b.stays =
+      subst (λ (h : List Step). IsToldAvoided form text a.plan h others b.stays) steps by_plan in
+      let same = one_told_avoided form text a.plan a.steps lines others a.stays b.stays a.explains by_steps in
       (one_status a.stays b.stays status other a.status_is b.status_is same.1, same.0)
 
-  avoided : (plan : Plan) → IsPlanOf text plan → IsMet file text (IsAvoidedOf file text)
+  avoided : (plan : Plan) → IsPlanOf text plan → IsMet form text (IsAvoidedOf form text)
   avoided plan (program, is) =
       let checked = checked_plan text plan (program, is) in
       let (state, final) = serial_run_ends plan checked in
-      let (lines, stays, explains) = avoided_explanation_exists file text program plan final.steps is.reads is.unfolds final.ended in (
+      let (lines, stays, explains) = told_avoided_exists form text program plan final.steps is.reads is.unfolds final.ended in (
         (if stays then 1 else 0),
         lines,
         inl (record {
@@ -53,9 +52,9 @@ module _ (file : Option Text) (text : Text) where
       )
 
 pub one_avoided_output : IsOneOutput AnswersAvoided
-one_avoided_output file text =
-    one_answer (IsAvoidedOf file text) (IsRefusedWith file text) (one_avoided file text) (one_refused file text)
-    (λ status lines others is refused. plan_or_some_fault text is.plan is.plan_is (refused_has file text others refused))
+one_avoided_output form text =
+    one_answer (IsAvoidedOf form text) (IsRefusedWith form.file text) (one_avoided form text) (one_refused form.file text)
+    (λ status lines others is refused. plan_or_some_fault text is.plan is.plan_is (refused_has form.file text others refused))
 
 pub each_text_is_avoided : EachHasOutput AnswersAvoided
-each_text_is_avoided file text = met file text (IsAvoidedOf file text) (avoided file text)
+each_text_is_avoided form text = met form text (IsAvoidedOf form text) (avoided form text)

@@ -15,14 +15,15 @@ use Rattle.explain.specs.Languages.{is_of_clocks}
 use Rattle.explain.specs.Outputs.{AnswersStepsIn, AnswersStepsOf}
 use Rattle.explain.specs.Refused.{IsRefusedWith}
 use Rattle.explain.specs.Stepped.{AreStepsOf}
+use Rattle.explain.specs.Requests.{Form}
 use Rattle.explain.proofs.ClockSteps.{one_clock_steps}
 use Rattle.explain.proofs.Fixing.{plan_or_some_fault, refused_has, steps_explained}
 use Rattle.explain.proofs.OneOutput.{one_explained, one_refused}
 use Rattle.explain.proofs.Statuses.{one_answer}
 
-one_stepped : (file : Option Text) (text : Text) (status other : ℕ) (lines others : Text) → AreStepsOf file text status lines → AreStepsOf file text other others
+one_stepped : (form : Form) (text : Text) (status other : ℕ) (lines others : Text) → AreStepsOf form text status lines → AreStepsOf form text other others
     → (status ≡ other) × (lines ≡ others)
-one_stepped file text status other lines others a b =
+one_stepped form text status other lines others a b =
     let plans : b.plan ≡ a.plan = one_plan text b.plan a.plan b.ended.plan_is a.ended.plan_is in
     let serial : IsSerialRun a.plan b.steps = subst (λ (q : Plan). IsSerialRun q b.steps) plans b.serial in
     let maximal : IsMaximal a.plan b.steps = subst (λ (q : Plan). IsMaximal q b.steps) plans b.ended.maximal in
@@ -32,8 +33,8 @@ one_stepped file text status other lines others a b =
     let by_plan : AreShown text b.program a.plan b.steps b.shown = subst (λ (q : Plan). AreShown text b.program q b.steps b.shown) plans b.are_shown in
     let by_steps : AreShown text b.program a.plan a.steps b.shown = subst (λ (h : List Step). AreShown text b.program a.plan h b.shown) steps by_plan in
     let shown : b.shown ≡ a.shown = one_showing text b.program a.program a.plan a.steps b.shown a.shown by_steps a.are_shown in
-    let same = one_explained file text status other a.explanation b.explanation (steps_explained file text status lines a)
-    (steps_explained file text other others b) in (
+    let same = one_explained form text status other a.explanation b.explanation (steps_explained form text status lines a)
+    (steps_explained form text other others b) in (
       same.0,
       a.lines_are
           ∙ ap (λ (s : Text). s ++ a.explanation) (sym shown)
@@ -41,12 +42,12 @@ one_stepped file text status other lines others a b =
           ∙ sym b.lines_are,
     )
 
-one_in : (of_clocks : Bool) (file : Option Text) (text : Text) (status other : ℕ) (lines others : Text) → AnswersStepsIn of_clocks file text status lines
-    → AnswersStepsIn of_clocks file text other others → (status ≡ other) × (lines ≡ others)
-one_in true file text = one_clock_steps file text
-one_in false file text =
-    one_answer (AreStepsOf file text) (IsRefusedWith file text) (one_stepped file text) (one_refused file text)
-    (λ status lines others is refused. plan_or_some_fault text is.plan is.ended.plan_is (refused_has file text others refused))
+one_in : (of_clocks : Bool) (form : Form) (text : Text) (status other : ℕ) (lines others : Text) → AnswersStepsIn of_clocks form text status lines
+    → AnswersStepsIn of_clocks form text other others → (status ≡ other) × (lines ≡ others)
+one_in true form text = one_clock_steps form text
+one_in false form text =
+    one_answer (AreStepsOf form text) (IsRefusedWith form.file text) (one_stepped form text) (one_refused form.file text)
+    (λ status lines others is refused. plan_or_some_fault text is.plan is.ended.plan_is (refused_has form.file text others refused))
 
 pub one_steps_output : IsOneOutput AnswersStepsOf
-one_steps_output file text = one_in (is_of_clocks file text) file text
+one_steps_output form text = one_in (is_of_clocks form.file text) form text

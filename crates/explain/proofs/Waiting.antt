@@ -21,7 +21,7 @@ use Rattle.armus_base.proofs.Stepping.{places_fix}
 use Rattle.report.specs.Standings.{AreStandings, Stands}
 use Rattle.report.specs.declared.standing.Standing.{Standing}
 use Rattle.report.specs.declared.standing.Standing.TheVariants as way
-use Rattle.explain_deadlock.specs.Explanations.{Explains, IsExplanationAt}
+use Rattle.explain_deadlock.specs.Explanations.{Explains}
 use Rattle.explain_tasks.specs.Facts.{FactsValue, forking_of, is_waiting, situation_by, situation_of, tasks_that}
 use Rattle.explain_tasks.proofs.Filters.{passed_from}
 use Rattle.explain_deadlock.proofs.SomebodyWaits.{waits}
@@ -29,7 +29,8 @@ use Rattle.explain_deadlock.proofs.Starts.{that_is}
 use Rattle.explain_deadlock.proofs.TasksThat.{task_below}
 use Rattle.program_io.specs.Texts.{Text}
 use Rattle.program_io.proofs.OnePlan.{checked_plan}
-use Rattle.explain.specs.Explained.{IsEndedRunOf, WaitsIn}
+use Rattle.explain.specs.Explained.{IsEndedRunOf, IsToldAt, WaitsIn}
+use Rattle.explain.specs.Requests.{Form}
 
 -- a task that waits by its standing is blocked
 waiting_end : (IsDead : Type 0) (end : TaskEnd) (standing : Standing) (fork : Option Forked) → Stands IsDead end standing
@@ -88,11 +89,11 @@ module _ (plan : Plan) (state : State) (f : FactsValue) (of_plan : IsOfPlan plan
       (λ on. waiting_task (both.0 (sym is.tells ∙ on)), λ one. is.tells ∙ both.1 (task_waiting one))
 
 -- somebody waits by the explanation of a run just where a task of the state in which it ends waits
-pub tells_waiting : (file : Option Text) (text : Text) (plan : Plan) (steps : List Step) (lines : List ℕ) (some : Bool) → IsEndedRunOf text plan steps
-    → IsExplanationAt file text plan (places steps) lines some → (some ≡ true) ↔ ((t : ℕ) × WaitsIn (state_after steps) t)
-tells_waiting file text plan steps lines some ended is =
+pub tells_waiting : (form : Form) (text : Text) (plan : Plan) (steps : List Step) (lines : List ℕ) (some : Bool) → IsEndedRunOf text plan steps
+    → IsToldAt form text plan (places steps) lines some → (some ≡ true) ↔ ((t : ℕ) × WaitsIn (state_after steps) t)
+tells_waiting form text plan steps lines some ended is =
     let checked = checked_plan text plan ended.plan_is in
     let fixed : state_after steps ≡ state_at plan (places steps) = (places_fix plan checked steps ended.run.0).0 in
     let of_plan : IsOfPlan plan (state_at plan (places steps)) = subst (IsOfPlan plan) fixed (run_is_of_plan plan steps checked ended.run.0) in
-    let told = explains_waiting plan (state_at plan (places steps)) _ of_plan is.explains.stand _ _ lines some is.explains.explains in
+    let told = explains_waiting plan (state_at plan (places steps)) _ of_plan is.tells.explains.stand _ _ is.whole some is.tells.explains.explains in
     subst (λ (s : State). (some ≡ true) ↔ ((t : ℕ) × WaitsIn s t)) (sym fixed) told

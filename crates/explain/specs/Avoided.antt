@@ -9,15 +9,21 @@ use Rattle.program_io.specs.Texts.{Text}
 use Rattle.program_io.specs.Programs.{IsPlanOf}
 use Rattle.explain.specs.Explained.{WaitsIn}
 use Rattle.explain_avoid.specs.AvoidedExplanations.{IsAvoidedExplanation}
+use Rattle.explain.specs.Requests.{Form}
+use Rattle.explain.specs.Shortened.{IsDisplayed}
 
--- The lines explain the serial avoided run of a text, of the file with this name or of none: its refusals, and how its tasks stand where it has ended; and the
+-- the lines show, in this form, the explanation of these steps of the text's plan, a run that avoids deadlock, and it tells whether somebody was refused or waits
+abbrev pub IsToldAvoided : Form → Text → Plan → List Step → Text → Bool → Type 0
+IsToldAvoided form text plan steps lines stays = IsDisplayed form.all (λ whole. IsAvoidedExplanation form.file text plan steps whole stays) lines
+
+-- The lines explain the serial avoided run of a text, told in this form: its refusals, and how its tasks stand where it has ended; and the
 -- status is 1 where by them somebody was refused or waits for ever, else 0.
-pub record IsAvoidedOf (file : Option Text) (text : Text) (status : ℕ) (lines : Text) : Type 0 where
+pub record IsAvoidedOf (form : Form) (text : Text) (status : ℕ) (lines : Text) : Type 0 where
   pub plan : Plan
   pub plan_is : IsPlanOf text plan
   pub steps : List Step
   pub stays : Bool
-  pub explains : IsAvoidedExplanation file text plan steps lines stays
+  pub explains : IsToldAvoided form text plan steps lines stays
   pub status_is : status ≡ (if stays then 1 else 0)
 
 -- task t was refused in the state

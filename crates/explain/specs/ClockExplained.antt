@@ -1,6 +1,7 @@
 -- What is written where a clock text is explained or refused.
 use Rattle.std.specs.Prelude.{◌≡◌, ◌⊎◌, ℕ, Bool, if◌then◌else◌, List, Option, Ok, Err}
-use Rattle.armus_base.specs.Runs.{IsMaximal, IsPlainRun, places, state_after}
+use Rattle.armus_base.specs.Plans.{Plan}
+use Rattle.armus_base.specs.Runs.{IsMaximal, IsPlainRun, Place, places, state_after}
 use Rattle.armus_base.specs.States.{State, Step}
 use Rattle.pl_syntax.specs.declared.fault.SyntaxFault.{SyntaxFault}
 use Rattle.pl_plan.specs.declared.fault.CheckFault.{CheckFault}
@@ -13,6 +14,8 @@ use Rattle.explain_clock.specs.ClockExplanations.{ExplainsActivities}
 use Rattle.explain_clock.specs.ClockRefusals.{clock_fault_lines, clock_syntax_lines}
 use Rattle.program_io.specs.Texts.{Text}
 use Rattle.explain.specs.Explained.{IsStatusBy, SomeWaits}
+use Rattle.explain.specs.Requests.{Form}
+use Rattle.explain.specs.Shortened.{IsDisplayed}
 
 -- The text is this clock program, which has this unfolding, and these steps are a run of the unfolding's plan up to its end. Where it ends, each task has
 -- ended as its activity stands at the ends of the machine on the text.
@@ -23,15 +26,19 @@ pub record IsMaximalClockRun (text : Text) (program : ClockTree) (unfolded : Clo
   pub maximal : IsMaximal (plan_of_moves unfolded) steps
   pub told : EndsAreTold program unfolded (state_after steps)
 
--- the lines explain how the activities stand where a run of the clock text, of the file with this name or of none, has ended; and the status is 1 where one
+-- the lines show, in this form, the explanation of how the activities stand at these places of the plan of the program's unfolding, and it tells whether one waits
+abbrev pub AreToldActivities : Form → Text → ClockTree → ClockUnfolding → Plan → (ℕ → Place) → Text → Bool → Type 0
+AreToldActivities form text p u plan a lines waits = IsDisplayed form.all (λ whole. ExplainsActivities form.file text p u plan a whole waits) lines
+
+-- the lines explain how the activities stand where a run of the clock text, told in this form, has ended; and the status is 1 where one
 -- of them waits, else 0
-pub record IsClockExplanationOf (file : Option Text) (text : Text) (status : ℕ) (lines : Text) : Type 0 where
+pub record IsClockExplanationOf (form : Form) (text : Text) (status : ℕ) (lines : Text) : Type 0 where
   pub program : ClockTree
   pub unfolded : ClockUnfolding
   pub steps : List Step
   pub ended : IsMaximalClockRun text program unfolded steps
   pub waits : Bool
-  pub explains : ExplainsActivities file text program unfolded (plan_of_moves unfolded) (places steps) lines waits
+  pub explains : AreToldActivities form text program unfolded (plan_of_moves unfolded) (places steps) lines waits
   pub status_is : status ≡ (if waits then 1 else 0)
 
 -- the lines of a clock text that is refused: for its first syntax fault, or else for the first fault of its unfolding
@@ -41,9 +48,9 @@ IsClockRefusedWith file text lines =
     ⊎ ((program : ClockTree) × (fault : CheckFault) × IsClockText text program × (clock_unfolded program ≡ Err fault)
     × (lines ≡ clock_fault_lines file text (clock_offsets text program) fault))
 
--- a whole output for this clock text, of the file with this name or of none, with its status: 0 or 1 with its explanation, or 3 with the lines of a refusal
-abbrev pub AnswersClock : Option Text → Text → ℕ → Text → Type 0
-AnswersClock file text status lines = IsClockExplanationOf file text status lines ⊎ ((status ≡ 3) × IsClockRefusedWith file text lines)
+-- a whole output for this clock text, told in this form, with its status: 0 or 1 with its explanation, or 3 with the lines of a refusal
+abbrev pub AnswersClock : Form → Text → ℕ → Text → Type 0
+AnswersClock form text status lines = IsClockExplanationOf form text status lines ⊎ ((status ≡ 3) × IsClockRefusedWith form.file text lines)
 
 -- ---- statuses
 

@@ -2,11 +2,17 @@
 use Rattle.std.specs.Prelude.{◌≡◌, ◌↔◌, ℕ, Bool, if◌then◌else◌, List, Option, Some}
 use Rattle.armus_base.specs.declared.event.Event.{Event}
 use Rattle.armus_base.specs.Plans.{Plan}
-use Rattle.armus_base.specs.Runs.{IsMaximal, IsPlainRun, places, state_after}
+use Rattle.armus_base.specs.Runs.{IsMaximal, IsPlainRun, Place, places, state_after}
 use Rattle.armus_base.specs.States.{State, Step}
 use Rattle.explain_deadlock.specs.Explanations.{IsExplanationAt}
 use Rattle.program_io.specs.Texts.{Text}
 use Rattle.program_io.specs.Programs.{IsPlanOf}
+use Rattle.explain.specs.Requests.{Form}
+use Rattle.explain.specs.Shortened.{IsDisplayed}
+
+-- the lines show, in this form, the explanation of how the tasks of the text's plan stand at these places, and it tells whether somebody waits for ever
+abbrev pub IsToldAt : Form → Text → Plan → (ℕ → Place) → Text → Bool → Type 0
+IsToldAt form text plan a lines waits = IsDisplayed form.all (λ whole. IsExplanationAt form.file text plan a whole waits) lines
 
 -- these steps are a run of the text's plan up to its end: a plain one that is maximal
 pub record IsEndedRunOf (text : Text) (plan : Plan) (steps : List Step) : Type 0 where
@@ -14,14 +20,14 @@ pub record IsEndedRunOf (text : Text) (plan : Plan) (steps : List Step) : Type 0
   pub run : IsPlainRun plan steps
   pub maximal : IsMaximal plan steps
 
--- the lines explain how the tasks stand where a run of the text, of the file with this name or of none, has ended; and the status is 1 where by them somebody
+-- the lines explain how the tasks stand where a run of the text, told in this form, has ended; and the status is 1 where by them somebody
 -- waits for ever, else 0
-pub record IsExplanationOf (file : Option Text) (text : Text) (status : ℕ) (lines : Text) : Type 0 where
+pub record IsExplanationOf (form : Form) (text : Text) (status : ℕ) (lines : Text) : Type 0 where
   pub plan : Plan
   pub steps : List Step
   pub ended : IsEndedRunOf text plan steps
   pub waits : Bool
-  pub explains : IsExplanationAt file text plan (places steps) lines waits
+  pub explains : IsToldAt form text plan (places steps) lines waits
   pub status_is : status ≡ (if waits then 1 else 0)
 
 -- task t waits in the state

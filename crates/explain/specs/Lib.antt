@@ -1,5 +1,6 @@
 -- What a reader of the repository has to believe.
 pub mod Requests
+pub mod Shortened
 pub mod Explained
 pub mod Stepped
 pub mod Avoided

@@ -12,50 +12,50 @@ use Rattle.explain.specs.Explained.{EndsSo, IsExplanationOf, IsStatusBy, SomeWai
 use Rattle.explain.specs.Stepped.{AreStepsOf}
 use Rattle.explain.specs.Avoided.{AvoidsSo, IsAvoidedOf, SomeStays}
 use Rattle.explain.specs.Refused.{HasSomeFault, IsRefusedWith}
-use Rattle.explain.specs.Requests.{Asked, avoided, clocks, explain_usage_line, explanation, help, help_lines, nothing, steps, version, version_line}
+use Rattle.explain.specs.Requests.{Asked, Form, avoided, clocks, explain_usage_line, explanation, help, help_lines, nothing, steps, version, version_line}
 
--- a whole output for this text, of the file with this name or of none, with its status: 0 or 1 with its explanation, or 3 with the lines of a refusal
-abbrev pub AnswersText : Option Text → Text → ℕ → Text → Type 0
-AnswersText file text status lines = IsExplanationOf file text status lines ⊎ ((status ≡ 3) × IsRefusedWith file text lines)
+-- a whole output for this text, told in this form, with its status: 0 or 1 with its explanation, or 3 with the lines of a refusal
+abbrev pub AnswersText : Form → Text → ℕ → Text → Type 0
+AnswersText form text status lines = IsExplanationOf form text status lines ⊎ ((status ≡ 3) × IsRefusedWith form.file text lines)
 
 -- the same where the steps of its run are wanted, of a text that is one of clocks, or is not: 0 or 1 with them and with its explanation, or 3 with the lines of a
 -- refusal
-abbrev pub AnswersStepsIn : (of_clocks : Bool) → Option Text → Text → ℕ → Text → Type 0
-AnswersStepsIn true file text status lines = AreClockStepsOf file text status lines ⊎ ((status ≡ 3) × IsClockRefusedWith file text lines)
-AnswersStepsIn false file text status lines = AreStepsOf file text status lines ⊎ ((status ≡ 3) × IsRefusedWith file text lines)
+abbrev pub AnswersStepsIn : (of_clocks : Bool) → Form → Text → ℕ → Text → Type 0
+AnswersStepsIn true form text status lines = AreClockStepsOf form text status lines ⊎ ((status ≡ 3) × IsClockRefusedWith form.file text lines)
+AnswersStepsIn false form text status lines = AreStepsOf form text status lines ⊎ ((status ≡ 3) × IsRefusedWith form.file text lines)
 
 -- the same for a text of either language
-abbrev pub AnswersStepsOf : Option Text → Text → ℕ → Text → Type 0
-AnswersStepsOf file text = AnswersStepsIn (is_of_clocks file text) file text
+abbrev pub AnswersStepsOf : Form → Text → ℕ → Text → Type 0
+AnswersStepsOf form text = AnswersStepsIn (is_of_clocks form.file text) form text
 
 -- the same where its run that avoids deadlock is wanted: 0 or 1 with the explanation of this run, or 3 with the lines of a refusal
-abbrev pub AnswersAvoided : Option Text → Text → ℕ → Text → Type 0
-AnswersAvoided file text status lines = IsAvoidedOf file text status lines ⊎ ((status ≡ 3) × IsRefusedWith file text lines)
+abbrev pub AnswersAvoided : Form → Text → ℕ → Text → Type 0
+AnswersAvoided form text status lines = IsAvoidedOf form text status lines ⊎ ((status ≡ 3) × IsRefusedWith form.file text lines)
 
 -- what may be written where a text is read that is answered so: the output of the text that the source has given, or, where it gives more than a text may have, 3
 -- with one line
-abbrev pub MayAnswer : Option Text → (Text → ℕ → Text → Type 0) → Passage → ℕ → Text → Type 0
-MayAnswer file Answers src status lines =
+abbrev pub MayAnswer : Form → (Text → ℕ → Text → Type 0) → Passage → ℕ → Text → Type 0
+MayAnswer form Answers src status lines =
     ((text : Text) × HasInput (Some MAX_TEXT_BYTES) src text × Answers text status lines)
-    ⊎ (GaveTooMuch (Some MAX_TEXT_BYTES) src × (status ≡ 3) × (lines ≡ length_refusal file))
+    ⊎ (GaveTooMuch (Some MAX_TEXT_BYTES) src × (status ≡ 3) × (lines ≡ length_refusal form.file))
 
 -- What may be written, with which status, where this is asked for. For an explanation, for steps, for the run that avoids deadlock, and for a clock text: such an
 -- output. The lines of help and of the version with 0, and the line of usage with 2.
 abbrev pub MayWrite : Asked → Passage → ℕ → Text → Type 0
-MayWrite (explanation file) src status lines = MayAnswer file (AnswersText file) src status lines
-MayWrite (steps file) src status lines = MayAnswer file (AnswersStepsOf file) src status lines
-MayWrite (avoided file) src status lines = MayAnswer file (AnswersAvoided file) src status lines
-MayWrite (clocks file) src status lines = MayAnswer file (AnswersClock file) src status lines
+MayWrite (explanation form) src status lines = MayAnswer form (AnswersText form) src status lines
+MayWrite (steps form) src status lines = MayAnswer form (AnswersStepsOf form) src status lines
+MayWrite (avoided form) src status lines = MayAnswer form (AnswersAvoided form) src status lines
+MayWrite (clocks form) src status lines = MayAnswer form (AnswersClock form) src status lines
 MayWrite help src status lines = (status ≡ 0) × (lines ≡ help_lines)
 MayWrite version src status lines = (status ≡ 0) × (lines ≡ version_line)
 MayWrite nothing src status lines = (status ≡ 2) × (lines ≡ explain_usage_line)
 
 -- the most bytes of a text, where one is read
 abbrev pub text_limit : Asked → Option ℕ
-text_limit (explanation file) = Some MAX_TEXT_BYTES
-text_limit (steps file) = Some MAX_TEXT_BYTES
-text_limit (avoided file) = Some MAX_TEXT_BYTES
-text_limit (clocks file) = Some MAX_TEXT_BYTES
+text_limit (explanation form) = Some MAX_TEXT_BYTES
+text_limit (steps form) = Some MAX_TEXT_BYTES
+text_limit (avoided form) = Some MAX_TEXT_BYTES
+text_limit (clocks form) = Some MAX_TEXT_BYTES
 text_limit asked = None
 
 -- the status of a text that is not too long: 1 exactly where a task of its final state waits
@@ -78,10 +78,10 @@ FixesTextStatus IsStatus src number =
 
 -- where this is asked for, and the source tells its bytes, these fix the status
 abbrev pub FixesStatus : Asked → Passage → ℕ → Type 0
-FixesStatus (explanation file) src number = FixesTextStatus IsStatusOf src number
-FixesStatus (steps file) src number = FixesTextStatus (λ text. IsStatusIn (is_of_clocks file text) text) src number
-FixesStatus (avoided file) src number = FixesTextStatus IsAvoidedStatusOf src number
-FixesStatus (clocks file) src number = FixesTextStatus IsClockStatusOf src number
+FixesStatus (explanation form) src number = FixesTextStatus IsStatusOf src number
+FixesStatus (steps form) src number = FixesTextStatus (λ text. IsStatusIn (is_of_clocks form.file text) text) src number
+FixesStatus (avoided form) src number = FixesTextStatus IsAvoidedStatusOf src number
+FixesStatus (clocks form) src number = FixesTextStatus IsClockStatusOf src number
 FixesStatus help src number = number ≡ 0
 FixesStatus version src number = number ≡ 0
 FixesStatus nothing src number = number ≡ 2

@@ -1,16 +1,21 @@
 -- What the words behind the program's name ask for, and the lines that do not come of a text.
-use Rattle.std.specs.Prelude.{Bool, false, not, ◌==◌, if◌then◌else◌, List, [], ◌∷◌, ◌++◌, codes, Option, Some, None}
+use Rattle.std.specs.Prelude.{Bool, true, false, not, ◌==◌, if◌then◌else◌, List, [], ◌∷◌, ◌++◌, codes, Option, Some, None}
 use Rattle.std.specs.Str.{bytes_eq}
 use Rattle.pl_syntax.specs.Printed.{line}
 use Rattle.program_io.specs.Texts.{Text}
 
--- what may be asked for: to explain a text, of the file with this name or of standard input; to show the steps of its run before; to explain its run that avoids
--- deadlock; to explain a clock text; the lines of help; the line of the version; or nothing
+-- in which form a text is told of: the name of its file, if it comes from one, and whether all of its explanation is wanted
+pub record Form : Type 0 where
+  pub file : Option Text
+  pub all : Bool
+
+-- what may be asked for: to explain a text, in this form; to show the steps of its run before; to explain its run that avoids deadlock; to explain a clock text;
+-- the lines of help; the line of the version; or nothing
 pub data Asked : Type 0 where
-  explanation : Option Text → Asked
-  steps : Option Text → Asked
-  avoided : Option Text → Asked
-  clocks : Option Text → Asked
+  explanation : Form → Asked
+  steps : Form → Asked
+  avoided : Form → Asked
+  clocks : Form → Asked
   help : Asked
   version : Asked
   nothing : Asked
@@ -20,32 +25,42 @@ abbrev pub names_file : Text → Bool
 names_file [] = false
 names_file (first ∷ more) = not (first == 45)
 
+-- the form of a text of this file, or of standard input
+abbrev pub form_of : Bool → Option Text → Form
+form_of all file = record { file = file; all = all }
+
 -- what a word asks for that stands where the file is named of which this is wanted
-abbrev pub file_asked : (Option Text → Asked) → Text → Asked
-file_asked wanted word = if names_file word then wanted (Some word) else nothing
+abbrev pub file_asked : Bool → (Form → Asked) → Text → Asked
+file_asked all wanted word = if names_file word then wanted (form_of all (Some word)) else nothing
 
 -- what one word asks for
-abbrev pub word_asked : Text → Asked
-word_asked word =
-    if bytes_eq word (codes "run") then explanation None
-    else (if bytes_eq word (codes "steps") then steps None
-    else (if bytes_eq word (codes "avoid") then avoided None
-    else (if bytes_eq word (codes "clock") then clocks None
-    else (if bytes_eq word (codes "--help") then help else (if bytes_eq word (codes "--version") then version else file_asked explanation word)))))
+abbrev pub word_asked : Bool → Text → Asked
+word_asked all word =
+    if bytes_eq word (codes "run") then explanation (form_of all None)
+    else (if bytes_eq word (codes "steps") then steps (form_of all None)
+    else (if bytes_eq word (codes "avoid") then avoided (form_of all None)
+    else (if bytes_eq word (codes "clock") then clocks (form_of all None)
+    else (if bytes_eq word (codes "--help") then help
+    else (if bytes_eq word (codes "--version") then version else file_asked all explanation word)))))
+
+-- what the words ask for, behind --all or without it
+abbrev pub asked_so : Bool → List Text → Asked
+asked_so all [] = explanation (form_of all None)
+asked_so all (word ∷ []) = word_asked all word
+asked_so all (word ∷ file ∷ []) =
+    if bytes_eq word (codes "run") then file_asked all explanation file else (if bytes_eq word (codes "steps") then file_asked all steps file
+    else (if bytes_eq word (codes "avoid") then file_asked all avoided file
+    else (if bytes_eq word (codes "clock") then file_asked all clocks file else nothing)))
+asked_so all words = nothing
 
 -- what the words ask for
 abbrev pub asked : List Text → Asked
-asked [] = explanation None
-asked (word ∷ []) = word_asked word
-asked (word ∷ file ∷ []) =
-    if bytes_eq word (codes "run") then file_asked explanation file else (if bytes_eq word (codes "steps") then file_asked steps file
-    else (if bytes_eq word (codes "avoid") then file_asked avoided file
-    else (if bytes_eq word (codes "clock") then file_asked clocks file else nothing)))
-asked words = nothing
+asked [] = asked_so false []
+asked (word ∷ words) = if bytes_eq word (codes "--all") then asked_so true words else asked_so false (word ∷ words)
 
 -- the line of usage
 abbrev pub explain_usage_line : Text
-explain_usage_line = line (codes "usage: armus_explain [run|steps|avoid|clock] [FILE]")
+explain_usage_line = line (codes "usage: armus_explain [--all] [run|steps|avoid|clock] [FILE]")
 
 -- the lines of help
 abbrev pub help_lines : Text
@@ -59,6 +74,8 @@ help_lines =
     ++ line (codes "With avoid it tells which tasks are refused in the run that avoids deadlock, where,")
     ++ line (codes "and which deadlock each of them would have closed.")
     ++ line (codes "With clock it reads a clock text, and tells the same of its activities.")
+    ++ line (codes "Of an explanation at most 60 lines are shown, and at most 499 bytes of each line;")
+    ++ line (codes "with --all in front all of it is.")
     ++ line (codes "A text that is refused gets the place of its first fault and what is wrong there.")
     ++ line (codes "Status: 0 nobody waits for ever, 1 somebody does or is refused, 2 other words,")
     ++ line (codes "3 the text is refused, 4 it cannot be read, 5 it cannot be written, 6 no memory.")

@@ -5,7 +5,7 @@ ghost use Rattle.pl_syntax.specs.Tree.{count};
 ghost use Rattle.program_io.specs.calls.Passages.{passage};
 ghost use Rattle.program_io.specs.declared.text_limit.TheConstants.{MAX_TEXT_BYTES};
 ghost use Rattle.explain.specs.inside.Ending.{AnswersSource, EndsUnanswered, IsAnswerTo, IsPlAnswerTo};
-ghost use Rattle.explain.specs.calls.Requested.{file_bytes};
+ghost use Rattle.explain.specs.calls.Requested.{file_bytes, form_with};
 
 use crate::answer::{Answer, AnswerEnd, ClockWanted, PlWanted, WantedOutput};
 use crate::checked_text::CheckedText;
@@ -23,6 +23,7 @@ use std::alloc::Global;
 fn answer_program(
     alloc: Global,
     wanted: PlWanted,
+    all: bool,
     places: TextPlaces,
     file: Option<&[u8]>,
     program: &Program,
@@ -30,13 +31,14 @@ fn answer_program(
     requires short { length places ≤ MAX_TEXT_BYTES }
     requires few { count program.now.body ≤ length places }
     requires reads { IsText places program.now }
-    ensures answers { IfOk result (IsPlAnswerTo wanted (file_bytes file.entry) places.entry) }
+    ensures answers { IfOk result (IsPlAnswerTo wanted (form_with file.entry all) places.entry) }
 {
     match unfold(alloc, program) {
         Ok(unfolded) => {
             let checked = CheckedText {
                 places: &places,
                 file,
+                all,
                 program,
                 unfolded,
             };
@@ -52,15 +54,16 @@ fn answer_program(
 fn answer_pl(
     alloc: Global,
     wanted: PlWanted,
+    all: bool,
     file: Option<&[u8]>,
     text: &[u8],
 ) -> Result<Answer, NoMemory>
     requires short { length text.now ≤ MAX_TEXT_BYTES }
-    ensures answers { IfOk result (IsPlAnswerTo wanted (file_bytes file.entry) text.now) }
+    ensures answers { IfOk result (IsPlAnswerTo wanted (form_with file.entry all) text.now) }
 {
     let places = TextPlaces::new(alloc, text)?;
     match parse(alloc, text) {
-        Ok(program) => answer_program(alloc, wanted, places, file, &program),
+        Ok(program) => answer_program(alloc, wanted, all, places, file, &program),
         Err(ParseEnd::Syntax(fault)) => refuse_syntax(alloc, text, &places, file, fault),
         Err(ParseEnd::NoMemory) => Err(NoMemory),
     }
@@ -70,23 +73,24 @@ fn answer_pl(
 fn answer_text(
     alloc: Global,
     wanted: WantedOutput,
+    all: bool,
     file: Option<&[u8]>,
     text: &[u8],
 ) -> Result<Answer, NoMemory>
     requires short { length text.now ≤ MAX_TEXT_BYTES }
-    ensures answers { IfOk result (IsAnswerTo wanted (file_bytes file.entry) text.now) }
+    ensures answers { IfOk result (IsAnswerTo wanted (form_with file.entry all) text.now) }
 {
     match wanted {
-        WantedOutput::Explanation => answer_pl(alloc, PlWanted::Explanation, file, text),
+        WantedOutput::Explanation => answer_pl(alloc, PlWanted::Explanation, all, file, text),
         WantedOutput::Steps => {
             if is_of_clocks(file, text) {
-                answer_clocks(alloc, ClockWanted::Steps, file, text)
+                answer_clocks(alloc, ClockWanted::Steps, all, file, text)
             } else {
-                answer_pl(alloc, PlWanted::Steps, file, text)
+                answer_pl(alloc, PlWanted::Steps, all, file, text)
             }
         }
-        WantedOutput::Avoided => answer_pl(alloc, PlWanted::Avoided, file, text),
-        WantedOutput::Clocks => answer_clocks(alloc, ClockWanted::Explanation, file, text),
+        WantedOutput::Avoided => answer_pl(alloc, PlWanted::Avoided, all, file, text),
+        WantedOutput::Clocks => answer_clocks(alloc, ClockWanted::Explanation, all, file, text),
     }
 }
 
@@ -94,15 +98,16 @@ fn answer_text(
 pub(crate) fn answer_source<S: Source>(
     alloc: Global,
     wanted: WantedOutput,
+    all: bool,
     file: Option<&[u8]>,
     src: &mut S,
 ) -> Result<Answer, AnswerEnd>
-    ensures answers { IfOk result (AnswersSource wanted (file_bytes file.entry) (passage S.left S.faults src.old src.new)) }
+    ensures answers { IfOk result (AnswersSource wanted (form_with file.entry all) (passage S.left S.faults src.old src.new)) }
     ensures ends { IfErr result (EndsUnanswered (passage S.left S.faults src.old src.new)) }
 {
     match read_all(alloc, src, MAX_TEXT_BYTES) {
         Ok(text) => {
-            let answer = answer_text(alloc, wanted, file, text.as_slice())?;
+            let answer = answer_text(alloc, wanted, all, file, text.as_slice())?;
             Ok(answer)
         }
         Err(ReadEnd::TooLong) => {

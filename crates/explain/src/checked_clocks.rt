@@ -2,16 +2,16 @@
 ghost use Rattle.std.specs.Prelude.{◌≡◌, IfOk, Ok};
 ghost use Rattle.armus_base.specs.Finals.{final_of};
 ghost use Rattle.clock_semantics.specs.Unfolding.{ClockUnfolding, clock_unfolded};
-ghost use Rattle.explain_clock.specs.ClockExplanations.{ExplainsActivities};
 ghost use Rattle.pl_core.specs.calls.Worlds.{places_of, state_of};
 ghost use Rattle.program_io.specs.calls.ExitNumbers.{number_of_status};
-ghost use Rattle.explain.specs.ClockExplained.{IsClockExplanationOf};
+ghost use Rattle.explain.specs.ClockExplained.{AreToldActivities, IsClockExplanationOf};
 ghost use Rattle.explain.specs.ClockStepped.{AreClockStepsOf};
-ghost use Rattle.explain.specs.calls.Requested.{file_bytes};
+ghost use Rattle.explain.specs.calls.Requested.{form_with};
 ghost use Rattle.explain.specs.inside.Checked.{IsCheckedClocks};
 ghost use Rattle.explain.specs.inside.Ending.{IsClockAnswerTo};
 
 use crate::answer::{Answer, ClockWanted, with_steps};
+use crate::shortened::displayed;
 use armus_base::{Final, NoMemory, Plan};
 use clock_pl::ClockProgram;
 use explain_clock::{ClockExplanation, clock_explanation_of};
@@ -29,6 +29,8 @@ pub(crate) struct CheckedClocks<'t> {
     pub(crate) places: &'t TextPlaces<'t>,
     /// The name of its file, if it comes from one.
     pub(crate) file: Option<&'t [u8]>,
+    /// Whether all of its explanation is wanted.
+    pub(crate) all: bool,
     /// Its program.
     pub(crate) program: &'t ClockProgram,
     /// The plan to which the program unfolds.
@@ -47,7 +49,7 @@ impl<'t> CheckedClocks<'t> {
         requires plan { world.now.plan ≡ self.now.plan }
         requires end { end.now ≡ final_of self.now.plan (state_of world.now) }
         ensures { IfOk result (λ e. (u : ClockUnfolding) → clock_unfolded self.now.program.now.body ≡ Ok u →
-            ExplainsActivities (file_bytes self.now.file) self.now.places.now self.now.program.now.body u world.now.plan (places_of world.now) e.lines e.has_waiting) }
+            AreToldActivities (form_with self.now.file self.now.all) self.now.places.now self.now.program.now.body u world.now.plan (places_of world.now) e.lines e.has_waiting) }
     {
         let explanation = clock_explanation_of(
             alloc,
@@ -57,13 +59,16 @@ impl<'t> CheckedClocks<'t> {
             world,
             end,
         )?;
-        Ok(explanation)
+        Ok(ClockExplanation {
+            lines: displayed(alloc, self.all, explanation.lines)?,
+            has_waiting: explanation.has_waiting,
+        })
     }
 
     // Its explanation.
     fn explain(&self, alloc: Global) -> Result<Answer, NoMemory>
         requires known { IsCheckedClocks self.now }
-        ensures explains { IfOk result (λ a. IsClockExplanationOf (file_bytes self.now.file) self.now.places.now (number_of_status a.status) a.lines) }
+        ensures explains { IfOk result (λ a. IsClockExplanationOf (form_with self.now.file self.now.all) self.now.places.now (number_of_status a.status) a.lines) }
     {
         let ended = run_to_world(alloc, &self.plan)?;
         let explanation = self.standing(alloc, &ended.world, &ended.end)?;
@@ -76,7 +81,7 @@ impl<'t> CheckedClocks<'t> {
     // The steps of its run, and behind them its explanation.
     fn steps(&self, alloc: Global) -> Result<Answer, NoMemory>
         requires known { IsCheckedClocks self.now }
-        ensures steps { IfOk result (λ a. AreClockStepsOf (file_bytes self.now.file) self.now.places.now (number_of_status a.status) a.lines) }
+        ensures steps { IfOk result (λ a. AreClockStepsOf (form_with self.now.file self.now.all) self.now.places.now (number_of_status a.status) a.lines) }
     {
         let ran = clock_steps_through(alloc, self.places, self.program, &self.plan)?;
         let explanation = self.standing(alloc, &ran.world, &ran.end)?;
@@ -87,7 +92,7 @@ impl<'t> CheckedClocks<'t> {
     /// The whole output for it, of which this is wanted.
     pub(crate) fn answer(&self, alloc: Global, wanted: ClockWanted) -> Result<Answer, NoMemory>
         requires known { IsCheckedClocks self.now }
-        ensures answers { IfOk result (IsClockAnswerTo wanted (file_bytes self.now.file) self.now.places.now) }
+        ensures answers { IfOk result (IsClockAnswerTo wanted (form_with self.now.file self.now.all) self.now.places.now) }
     {
         match wanted {
             ClockWanted::Explanation => self.explain(alloc),

@@ -6,7 +6,7 @@ ghost use Rattle.clock_semantics.specs.Unfolding.{clock_plan_of};
 ghost use Rattle.program_io.specs.declared.text_limit.TheConstants.{MAX_TEXT_BYTES};
 ghost use Rattle.clock_pl.specs.calls.ClockPlanning.{as_fault};
 ghost use Rattle.explain.specs.inside.Ending.{IsClockAnswerTo, IsClockRefusalOf};
-ghost use Rattle.explain.specs.calls.Requested.{file_bytes};
+ghost use Rattle.explain.specs.calls.Requested.{file_bytes, form_with};
 
 use crate::answer::{Answer, ClockWanted};
 use crate::checked_clocks::CheckedClocks;
@@ -38,6 +38,7 @@ fn refuse_unfolding(
 fn answer_clock_program(
     alloc: Global,
     wanted: ClockWanted,
+    all: bool,
     places: &TextPlaces,
     file: Option<&[u8]>,
     program: &ClockProgram,
@@ -45,13 +46,14 @@ fn answer_clock_program(
     requires short { length places.now ≤ MAX_TEXT_BYTES }
     requires few { clock_count program.now.body ≤ length places.now }
     requires reads { IsClockText places.now program.now.body }
-    ensures answers { IfOk result (IsClockAnswerTo wanted (file_bytes file.entry) places.now) }
+    ensures answers { IfOk result (IsClockAnswerTo wanted (form_with file.entry all) places.now) }
 {
     match clock_plan(alloc, program) {
         Ok(plan) => {
             let checked = CheckedClocks {
                 places,
                 file,
+                all,
                 program,
                 plan,
             };
@@ -67,15 +69,16 @@ fn answer_clock_program(
 pub(crate) fn answer_clocks(
     alloc: Global,
     wanted: ClockWanted,
+    all: bool,
     file: Option<&[u8]>,
     text: &[u8],
 ) -> Result<Answer, NoMemory>
     requires short { length text.now ≤ MAX_TEXT_BYTES }
-    ensures answers { IfOk result (IsClockAnswerTo wanted (file_bytes file.entry) text.now) }
+    ensures answers { IfOk result (IsClockAnswerTo wanted (form_with file.entry all) text.now) }
 {
     let places = TextPlaces::new(alloc, text)?;
     match clock_parse(alloc, text) {
-        Ok(program) => answer_clock_program(alloc, wanted, &places, file, &program),
+        Ok(program) => answer_clock_program(alloc, wanted, all, &places, file, &program),
         Err(ParseEnd::Syntax(fault)) => {
             let lines = clock_syntax_refusal(alloc, &places, file, fault)?;
             Ok(refused(lines))

@@ -1,7 +1,7 @@
 // Laws of the outputs of a text, as contracts of functions with an empty body.
 ghost use Rattle.explain.specs.ClockExplained.{AnswersClock};
 ghost use Rattle.explain.specs.Outputs.{AnswersAvoided, AnswersStepsOf, AnswersText};
-ghost use Rattle.explain.specs.calls.Laws.{EachHasOutput, IsOneOutput};
+ghost use Rattle.explain.specs.calls.Laws.{EachHasOutput, IsOneOutput, IsShownShort};
 
 /// A text has one whole output at most, with one status; and it has one: it is explained, or refused.
 pub fn one_output()
@@ -26,4 +26,9 @@ pub fn one_avoided_output()
 pub fn one_clock_output()
     ensures one { IsOneOutput AnswersClock }
     ensures exists { EachHasOutput AnswersClock }
+{}
+
+/// Of an explanation at most 60 lines are shown, where not all of it is wanted.
+pub fn shown_short()
+    ensures { IsShownShort }
 {}

@@ -12,9 +12,10 @@ mod language;
 mod laws;
 mod refusing;
 mod request;
+mod shortened;
 mod top;
 
 pub use answer::WantedOutput;
-pub use laws::{one_avoided_output, one_clock_output, one_output, one_steps_output};
+pub use laws::{one_avoided_output, one_clock_output, one_output, one_steps_output, shown_short};
 pub use request::{Request, request_of};
 pub use top::explain;

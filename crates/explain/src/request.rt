@@ -1,9 +1,11 @@
 // What the words ask for.
 ghost use Rattle.std.specs.Prelude.{◌≡◌, [], ◌∷◌, map, string_bytes};
-ghost use Rattle.explain.specs.Requests.{asked, file_asked, names_file, word_asked};
+ghost use Rattle.explain.specs.Requests.{asked, asked_so, file_asked, names_file, word_asked};
 ghost use Rattle.explain.specs.calls.Requested.{asked_for, requested, wanted_by_word};
 
 use crate::answer::WantedOutput;
+
+const ALL: &str = "--all";
 
 const RUN: &str = "run";
 
@@ -20,8 +22,15 @@ const VERSION: &str = "--version";
 /// What the words ask for.
 #[derive(Clone, Copy, Debug)]
 pub enum Request<'w> {
-    /// This of a text, from the file with this name, or from standard input.
-    Text(WantedOutput, Option<&'w str>),
+    /// This of a text.
+    Text {
+        /// Which output.
+        wanted: WantedOutput,
+        /// Whether all of its explanation is wanted, or as much as is shown of a long one.
+        all: bool,
+        /// The name of the file with the text, which is read from standard input where there is none.
+        file: Option<&'w str>,
+    },
     /// The lines of help.
     Help,
     /// The line of the version.
@@ -32,11 +41,15 @@ pub enum Request<'w> {
 
 impl<'w> Request<'w> {
     // What is asked for where a word can only be the name of the file with the text of which this is wanted.
-    fn of_file(wanted: WantedOutput, word: &'w str) -> Request<'w>
-        ensures { requested result ≡ file_asked (asked_for wanted) word.now }
+    fn of_file(all: bool, wanted: WantedOutput, word: &'w str) -> Request<'w>
+        ensures { requested result ≡ file_asked all (asked_for wanted) word.now }
     {
         if names_file(word) {
-            Request::Text(wanted, Some(word))
+            Request::Text {
+                wanted,
+                all,
+                file: Some(word),
+            }
         } else {
             Request::Usage
         }
@@ -73,11 +86,15 @@ fn wanted_by_word(word: &str) -> Option<WantedOutput>
 }
 
 // What one word asks for.
-fn word_request(word: &str) -> Request<'_>
-    ensures { requested result ≡ word_asked word.now }
+fn word_request(all: bool, word: &str) -> Request<'_>
+    ensures { requested result ≡ word_asked all word.now }
 {
     if let Some(wanted) = wanted_by_word(word) {
-        return Request::Text(wanted, None);
+        return Request::Text {
+            wanted,
+            all,
+            file: None,
+        };
     }
     if word == HELP {
         return Request::Help;
@@ -85,16 +102,32 @@ fn word_request(word: &str) -> Request<'_>
     if word == VERSION {
         return Request::Version;
     }
-    Request::of_file(WantedOutput::Explanation, word)
+    Request::of_file(all, WantedOutput::Explanation, word)
 }
 
 // What two words ask for.
-fn words_request<'w>(word: &'w str, file: &'w str) -> Request<'w>
-    ensures { requested result ≡ asked (word.now ∷ file.now ∷ []) }
+fn words_request<'w>(all: bool, word: &'w str, file: &'w str) -> Request<'w>
+    ensures { requested result ≡ asked_so all (word.now ∷ file.now ∷ []) }
 {
     match wanted_by_word(word) {
-        Some(wanted) => Request::of_file(wanted, file),
+        Some(wanted) => Request::of_file(all, wanted, file),
         None => Request::Usage,
+    }
+}
+
+// What the words ask for, behind `--all` or without it.
+fn request_so(all: bool, words: &[String]) -> Request<'_>
+    ensures { requested result ≡ asked_so all (map string_bytes words.now) }
+{
+    match words {
+        [] => Request::Text {
+            wanted: WantedOutput::Explanation,
+            all,
+            file: None,
+        },
+        [word] => word_request(all, word.as_str()),
+        [word, file] => words_request(all, word.as_str(), file.as_str()),
+        _ => Request::Usage,
     }
 }
 
@@ -103,9 +136,13 @@ pub fn request_of(words: &[String]) -> Request<'_>
     ensures asked { requested result ≡ asked (map string_bytes words.now) }
 {
     match words {
-        [] => Request::Text(WantedOutput::Explanation, None),
-        [word] => word_request(word.as_str()),
-        [word, file] => words_request(word.as_str(), file.as_str()),
-        _ => Request::Usage,
+        [] => request_so(false, words),
+        [first, rest @ ..] => {
+            if first.as_str() == ALL {
+                request_so(true, rest)
+            } else {
+                request_so(false, words)
+            }
+        }
     }
 }

@@ -1,5 +1,5 @@
 -- An explanation of a text and the report of its run agree.
-use Rattle.std.proofs.Common.{◌≡◌, ◌∙◌, ◌++◌, ℕ, Bool, List, Option, true, ap, append_assoc, arith, inl, inr, refl, subst, sym}
+use Rattle.std.proofs.Common.{◌≡◌, ◌∙◌, ◌++◌, ℕ, Bool, List, true, ap, append_assoc, arith, inl, inr, refl, subst, sym}
 use Rattle.std.specs.Prelude.{if◌then◌else◌}
 use Rattle.armus_base.specs.Deadlocks.{IsDeadBy, IsDeadIn}
 use Rattle.armus_base.specs.declared.ids.TaskId.{TaskId}
@@ -31,6 +31,7 @@ use Rattle.armus_top.specs.Runs.{IsRunOf as IsReportedRun}
 use Rattle.program_io.proofs.OnePlan.{checked_plan}
 use Rattle.report_laws.specs.Explained.{BeginAlike, ExplainsAsRun}
 use Rattle.explain.specs.Explained.{IsExplanationOf}
+use Rattle.explain.specs.Requests.{Form}
 
 some_dead : (state : State) (number : ℕ) → TellsDead state number → number ≡ 1 → (t : ℕ) × IsDeadIn state t
 some_dead state number (inl (one, dead)) is = dead
@@ -42,7 +43,7 @@ first_of_three a b c = append_assoc a b c
 first_of_four : (a b c d : List ℕ) → a ++ b ++ c ++ d ≡ a ++ (b ++ c ++ d)
 first_of_four a b c d = simp append_assoc refl
 
-module _ (file : Option Text) (text : Text) (status number : ℕ) (lines report : Text) (g : Wanted) (e : IsExplanationOf file text status lines)
+module _ (form : Form) (text : Text) (status number : ℕ) (lines report : Text) (g : Wanted) (e : IsExplanationOf form text status lines)
     (run : IsReportedRun e.plan g number report) where
   abbrev plan : Plan
   plan = e.plan
@@ -59,16 +60,16 @@ module _ (file : Option Text) (text : Text) (status number : ℕ) (lines report 
       subst (IsOfPlan plan) (run.every e.steps e.ended.run e.ended.maximal)
       (run_is_of_plan plan e.steps (checked_plan text plan e.ended.plan_is) e.ended.run.0)
 
-  stands : run.report_is.standings ≡ e.explains.explains.standings
+  stands : run.report_is.standings ≡ e.explains.tells.explains.standings
   stands =
-      let x = e.explains.explains in
+      let x = e.explains.tells.explains in
       one_standings (IsDeadBy (final_of plan run.state).blocked) (final_of plan run.state).ends run.report_is.standings x.standings run.report_is.stand
       (subst (λ (s : State). AreStandings (IsDeadBy (final_of plan s).blocked) (final_of plan s).ends x.standings) (sym same_state) x.stand)
 
-  begin_alike : BeginAlike lines report
+  begin_alike : BeginAlike e.explains.whole report
   begin_alike =
-      let x = e.explains.explains in
-      let f = facts_of text file e.explains.account x.standings in
+      let x = e.explains.tells.explains in
+      let f = facts_of text form.file e.explains.tells.account x.standings in
       let v = x.explains.verdict in
       let r = run.report_is in
       record {
@@ -82,11 +83,11 @@ module _ (file : Option Text) (text : Text) (status number : ℕ) (lines report 
       }
 
   abbrev facts : FactsValue
-  facts = facts_of text file e.explains.account e.explains.explains.standings
+  facts = facts_of text form.file e.explains.tells.account e.explains.tells.explains.standings
 
   facts_at : AreFactsAt plan a facts
   facts_at =
-      record { account = e.explains.is_account; reachable = leads_there plan e.steps e.ended.run.0; stand = e.explains.explains.stand }
+      record { account = e.explains.tells.is_account; reachable = leads_there plan e.steps e.ended.run.0; stand = e.explains.tells.explains.stand }
 
   -- some task is dead where the report has status 1
   dead_there : number ≡ 1 → IsSomeDead (final_of plan (state_at plan a)).blocked
@@ -94,9 +95,9 @@ module _ (file : Option Text) (text : Text) (status number : ℕ) (lines report 
       let (t, dead) = some_dead run.state number run.status_is one in
       subst (λ (s : State). IsSomeDead (final_of plan s).blocked) same_state (t, (dead_by_final plan run.state t of_plan).1 dead)
 
-  shows_cycle : number ≡ 1 → (cycle : List TaskId) × (run.report_is.cycle_text ≡ cycle_line cycle) × (e.explains.explains.explains.verdict ≡ Circle cycle)
+  shows_cycle : number ≡ 1 → (cycle : List TaskId) × (run.report_is.cycle_text ≡ cycle_line cycle) × (e.explains.tells.explains.explains.verdict ≡ Circle cycle)
   shows_cycle one =
-      let x = e.explains.explains.explains in
+      let x = e.explains.tells.explains.explains in
       let (cycle, is, reported) = deadlock_is_reported plan a facts x.verdict facts_at x.found (dead_there one) in
       let told : IsCycleText (final_of plan (state_at plan a)).blocked run.report_is.cycle_text =
       subst (λ (s : State). IsCycleText (final_of plan s).blocked run.report_is.cycle_text) same_state run.report_is.cycle in
@@ -104,15 +105,15 @@ module _ (file : Option Text) (text : Text) (status number : ℕ) (lines report 
 
   status_too : number ≡ 1 → status ≡ 1
   status_too one =
-      let x = e.explains.explains.explains in
+      let x = e.explains.tells.explains.explains in
       let (cycle, line, is) = shows_cycle one in
       let waits : e.waits ≡ true = x.tells ∙ ap somebody_waits is in
       e.status_is ∙ ap (λ (b : Bool). if b then 1 else 0) waits
 
 pub explains_as_run : ExplainsAsRun
-explains_as_run file text status number lines report g e run = (
-  begin_alike file text status number lines report g e run,
+explains_as_run form text status number lines report g e run = (
+  begin_alike form text status number lines report g e run,
   λ one.
-      let (cycle, line, is) = shows_cycle file text status number lines report g e run one in
-      (status_too file text status number lines report g e run one, cycle, line, is),
+      let (cycle, line, is) = shows_cycle form text status number lines report g e run one in
+      (status_too form text status number lines report g e run one, cycle, line, is),
 )

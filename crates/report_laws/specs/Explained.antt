@@ -1,5 +1,5 @@
 -- An explanation of a text and the report of its run agree.
-use Rattle.std.specs.Prelude.{◌≡◌, ◌++◌, ℕ, List, Option}
+use Rattle.std.specs.Prelude.{◌≡◌, ◌++◌, ℕ, List}
 use Rattle.armus_base.specs.declared.ids.TaskId.{TaskId}
 use Rattle.adaptive.specs.declared.analysis.Wanted.{Wanted}
 use Rattle.explain_deadlock.specs.declared.outcome.WaitVerdict.TheVariants.{Circle}
@@ -9,6 +9,7 @@ use Rattle.report.specs.Lines.{counts_line, cycle_line}
 use Rattle.program_io.specs.Texts.{Text}
 use Rattle.armus_top.specs.Runs.{IsRunOf as IsReportedRun}
 use Rattle.explain.specs.Explained.{IsExplanationOf}
+use Rattle.explain.specs.Requests.{Form}
 
 -- both begin with the same line, which counts how the tasks stand
 pub record BeginAlike (lines report : Text) : Type 0 where
@@ -18,11 +19,11 @@ pub record BeginAlike (lines report : Text) : Type 0 where
   pub lines_are : lines ≡ counts_line (counts_of standings) ++ rest
   pub report_is : report ≡ counts_line (counts_of standings) ++ others
 
--- A report of the run of the explained text, whatever graph is wanted, begins as its explanation does. Where the report has status 1, so has the explanation,
+-- A report of the run of the explained text, whatever graph is wanted, begins as its whole explanation does. Where the report has status 1, so has the explanation,
 -- and its verdict shows the tasks that the report's cycle line names.
 abbrev pub ExplainsAsRun : Type 0
 ExplainsAsRun =
-    (file : Option Text) (text : Text) (status number : ℕ) (lines report : Text) (g : Wanted) (e : IsExplanationOf file text status lines)
+    (form : Form) (text : Text) (status number : ℕ) (lines report : Text) (g : Wanted) (e : IsExplanationOf form text status lines)
     (run : IsReportedRun e.plan g number report) →
-    BeginAlike lines report
-    × (number ≡ 1 → (status ≡ 1) × (cycle : List TaskId) × (run.report_is.cycle_text ≡ cycle_line cycle) × (e.explains.explains.explains.verdict ≡ Circle cycle))
+    BeginAlike e.explains.whole report
+    × (number ≡ 1 → (status ≡ 1) × (cycle : List TaskId) × (run.report_is.cycle_text ≡ cycle_line cycle) × (e.explains.tells.explains.explains.verdict ≡ Circle cycle))

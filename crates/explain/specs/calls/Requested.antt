@@ -1,9 +1,9 @@
 -- What a request of the program asks for.
-use Rattle.std.specs.Prelude.{None, Option, Some, codes, if◌then◌else◌, option_map}
+use Rattle.std.specs.Prelude.{Bool, None, Option, Some, codes, if◌then◌else◌, option_map}
 use Rattle.std.specs.Borrow.{Bor}
 use Rattle.std.specs.Str.{bytes_eq}
 use Rattle.program_io.specs.Texts.{Text}
-use Rattle.explain.specs.Requests.{Asked, avoided, clocks, explanation, help, nothing, steps, version}
+use Rattle.explain.specs.Requests.{Asked, Form, avoided, clocks, explanation, form_of, help, nothing, steps, version}
 use Rattle.explain.specs.declared.answer.WantedOutput.{WantedOutput}
 use Rattle.explain.specs.declared.answer.WantedOutput.TheVariants.{Avoided, Clocks, Explanation, Steps}
 use Rattle.explain.specs.declared.request.Request as request
@@ -12,6 +12,10 @@ use Rattle.explain.specs.declared.request.Request.TheVariants as r
 -- the bytes of a name, where there is one
 abbrev pub file_bytes : Option (Bor Text) → Option Text
 file_bytes file = option_map (λ f. f.now) file
+
+-- the form in which a text is told of, by the name of its file, where there is one
+abbrev pub form_with : Option (Bor Text) → Bool → Form
+form_with file all = form_of all (file_bytes file)
 
 -- what a word asks for of a text, if it does
 abbrev pub wanted_by_word : Text → Option WantedOutput
@@ -22,15 +26,15 @@ wanted_by_word word =
     else (if bytes_eq word (codes "clock") then Some Clocks else None)))
 
 -- what is asked for where this is wanted of a text
-abbrev pub asked_for : WantedOutput → Option Text → Asked
-asked_for Explanation file = explanation file
-asked_for Steps file = steps file
-asked_for Avoided file = avoided file
-asked_for Clocks file = clocks file
+abbrev pub asked_for : WantedOutput → Form → Asked
+asked_for Explanation form = explanation form
+asked_for Steps form = steps form
+asked_for Avoided form = avoided form
+asked_for Clocks form = clocks form
 
 -- what the request asks for
 abbrev pub requested : request.Request → Asked
-requested (r.Text wanted file) = asked_for wanted (file_bytes file)
+requested (r.Text wanted all file) = asked_for wanted (form_with file all)
 requested r.Help = help
 requested r.Version = version
 requested r.Usage = nothing

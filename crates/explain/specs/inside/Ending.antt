@@ -15,6 +15,7 @@ use Rattle.explain.specs.declared.answer.PlWanted as pl
 use Rattle.explain.specs.declared.answer.PlWanted.TheVariants as p
 use Rattle.explain.specs.Outputs.{AnswersAvoided, AnswersStepsIn, AnswersStepsOf, AnswersText, MayWrite}
 use Rattle.explain.specs.Refused.{IsRefusedWith}
+use Rattle.explain.specs.Requests.{Form}
 use Rattle.explain.specs.ClockExplained.{AnswersClock, IsClockRefusedWith}
 use Rattle.explain.specs.calls.Requested.{asked_for}
 
@@ -23,30 +24,30 @@ abbrev pub IsRefusalOf : Option Text → Text → Answer → Type 0
 IsRefusalOf file text answer = (number_of_status answer.status ≡ 3) × IsRefusedWith file text answer.lines
 
 -- it is a whole output for this text of PL, of which this is wanted
-abbrev pub IsPlAnswerTo : pl.PlWanted → Option Text → Text → Answer → Type 0
-IsPlAnswerTo p.Explanation file text answer = AnswersText file text (number_of_status answer.status) answer.lines
-IsPlAnswerTo p.Steps file text answer = AnswersStepsIn false file text (number_of_status answer.status) answer.lines
-IsPlAnswerTo p.Avoided file text answer = AnswersAvoided file text (number_of_status answer.status) answer.lines
+abbrev pub IsPlAnswerTo : pl.PlWanted → Form → Text → Answer → Type 0
+IsPlAnswerTo p.Explanation form text answer = AnswersText form text (number_of_status answer.status) answer.lines
+IsPlAnswerTo p.Steps form text answer = AnswersStepsIn false form text (number_of_status answer.status) answer.lines
+IsPlAnswerTo p.Avoided form text answer = AnswersAvoided form text (number_of_status answer.status) answer.lines
 
 -- it is a refusal of this clock text
 abbrev pub IsClockRefusalOf : Option Text → Text → Answer → Type 0
 IsClockRefusalOf file text answer = (number_of_status answer.status ≡ 3) × IsClockRefusedWith file text answer.lines
 
 -- it is a whole output for this clock text, of which this is wanted
-abbrev pub IsClockAnswerTo : clocks_wanted.ClockWanted → Option Text → Text → Answer → Type 0
-IsClockAnswerTo c.Explanation file text answer = AnswersClock file text (number_of_status answer.status) answer.lines
-IsClockAnswerTo c.Steps file text answer = AnswersStepsIn true file text (number_of_status answer.status) answer.lines
+abbrev pub IsClockAnswerTo : clocks_wanted.ClockWanted → Form → Text → Answer → Type 0
+IsClockAnswerTo c.Explanation form text answer = AnswersClock form text (number_of_status answer.status) answer.lines
+IsClockAnswerTo c.Steps form text answer = AnswersStepsIn true form text (number_of_status answer.status) answer.lines
 
 -- it is a whole output for this text, of which this is wanted
-abbrev pub IsAnswerTo : WantedOutput → Option Text → Text → Answer → Type 0
-IsAnswerTo Explanation file text answer = AnswersText file text (number_of_status answer.status) answer.lines
-IsAnswerTo Steps file text answer = AnswersStepsOf file text (number_of_status answer.status) answer.lines
-IsAnswerTo Avoided file text answer = AnswersAvoided file text (number_of_status answer.status) answer.lines
-IsAnswerTo Clocks file text answer = AnswersClock file text (number_of_status answer.status) answer.lines
+abbrev pub IsAnswerTo : WantedOutput → Form → Text → Answer → Type 0
+IsAnswerTo Explanation form text answer = AnswersText form text (number_of_status answer.status) answer.lines
+IsAnswerTo Steps form text answer = AnswersStepsOf form text (number_of_status answer.status) answer.lines
+IsAnswerTo Avoided form text answer = AnswersAvoided form text (number_of_status answer.status) answer.lines
+IsAnswerTo Clocks form text answer = AnswersClock form text (number_of_status answer.status) answer.lines
 
 -- it is a whole output for what the source gave, which did not fail
-abbrev pub AnswersSource : WantedOutput → Option Text → Passage → Answer → Type 0
-AnswersSource wanted file src answer = MayWrite (asked_for wanted file) src (number_of_status answer.status) answer.lines × IsSound src
+abbrev pub AnswersSource : WantedOutput → Form → Passage → Answer → Type 0
+AnswersSource wanted form src answer = MayWrite (asked_for wanted form) src (number_of_status answer.status) answer.lines × IsSound src
 
 -- there is no output: the source failed, or memory was wanting
 abbrev pub EndsUnanswered : Passage → AnswerEnd → Type 0

@@ -1,5 +1,5 @@
 use Rattle.program_io.specs.calls.ExitNumbers.{number_of_status}
-use Rattle.explain.specs.calls.Requested.{file_bytes}
+use Rattle.explain.specs.calls.Requested.{form_with}
 use Rattle.explain.proofs.EndExplained.{end_explained}
 use Rattle.explain.proofs.checked_text.CheckedText.explain.Goals as goal
 
@@ -7,7 +7,7 @@ pub returns : goal.returns
 returns c =
     let text = c.args.self.now in
     record {
-      explains = end_explained (file_bytes text.file) text.places.now text.program.now text.unfolded.plan c.requires.known.reads c.requires.known.plan
+      explains = end_explained (form_with text.file text.all) text.places.now text.program.now text.unfolded.plan c.requires.known.reads c.requires.known.plan
           c.in_ok-ended.ended.world c.in_ok-ended.ensures.end.world c.in_ok-explanation.explanation (number_of_status c.status_of.result)
           c.in_ok-explanation.ensures c.status_of.ensures;
     }

@@ -1,5 +1,5 @@
 use Rattle.program_io.specs.calls.ExitNumbers.{number_of_status}
-use Rattle.explain.specs.calls.Requested.{file_bytes}
+use Rattle.explain.specs.calls.Requested.{form_with}
 use Rattle.explain.proofs.EndExplained.{stepped_explained, stepped_world}
 use Rattle.explain.proofs.checked_text.CheckedText.steps.Goals as goal
 
@@ -12,7 +12,7 @@ pub returns : goal.returns
 returns c =
     let text = c.args.self.now in
     record {
-      steps = stepped_explained (file_bytes text.file) text.places.now text.program.now text.unfolded.plan c.requires.known.reads c.requires.known.plan
+      steps = stepped_explained (form_with text.file text.all) text.places.now text.program.now text.unfolded.plan c.requires.known.reads c.requires.known.plan
           c.in_ok-ran.ran c.in_ok-ran.ensures.run c.in_ok-explanation.explanation (number_of_status c.in_ok-answer.answer.status) c.in_ok-answer.answer.lines
           c.in_ok-explanation.ensures c.in_ok-answer.ensures.status c.in_ok-answer.ensures.lines;
     }

@@ -1,0 +1,65 @@
+-- How much of an explanation is shown.
+use Rattle.std.specs.Prelude.{◌≡◌, ℕ, zero, suc, ◌-◌, ◌==◌, ◌&&◌, not, Bool, true, false, List, [], ◌∷◌, ◌++◌, codes, count_by, decimal, drop, if◌then◌else◌, length, nat_lt, slice_index, take}
+use Rattle.pl_syntax.specs.Printed.{line}
+use Rattle.source_map.specs.TextPlaces.{is_line_feed}
+use Rattle.program_io.specs.Texts.{Text}
+
+-- how many lines these bytes have, of which each ends with a line feed
+abbrev pub line_total : Text → ℕ
+line_total text = count_by is_line_feed text
+
+-- a paragraph ends with the first k bytes: the last of them ends a line, and the next line does not begin with a blank
+abbrev pub ends_paragraph : Text → ℕ → Bool
+ends_paragraph text zero = false
+ends_paragraph text (suc k) = is_line_feed (slice_index text k) && not (slice_index text (suc k) == 32)
+
+-- the first k bytes are whole paragraphs, which have fewer than 60 lines
+abbrev pub are_few_paragraphs : Text → ℕ → Bool
+are_few_paragraphs text k = ends_paragraph text k && nat_lt (line_total (take k text)) 60
+
+-- the greatest number up to n that passes this test, or 0 where none does
+abbrev pub last_passing : (ℕ → Bool) → ℕ → ℕ
+last_passing test zero = 0
+last_passing test (suc n) = if test (suc n) then suc n else last_passing test n
+
+-- how many bytes of a long explanation are shown: as many whole paragraphs as have fewer than 60 lines
+abbrev pub displayed_bytes : Text → ℕ
+displayed_bytes whole = last_passing (are_few_paragraphs whole) (length whole)
+
+-- the line that counts the lines that are left out
+abbrev pub left_out_line : ℕ → Text
+left_out_line count = line (codes "and " ++ decimal count ++ codes " more lines: --all shows them")
+
+-- an explanation up to its byte k, and how many lines of it are left out
+abbrev pub displayed_up_to : ℕ → Text → Text
+displayed_up_to k whole = take k whole ++ left_out_line (line_total (drop k whole))
+
+-- what is shown of an explanation: all lines where they are at most 60, and else the first paragraphs
+abbrev pub shortened : Text → Text
+shortened whole = if nat_lt 60 (line_total whole) then displayed_up_to (displayed_bytes whole) whole else whole
+
+-- what is shown of a byte of a line, of which so many bytes have room: in place of the last one two dots, and nothing behind them
+abbrev pub displayed_byte : ℕ → ℕ → Text
+displayed_byte zero byte = if is_line_feed byte then byte ∷ [] else []
+displayed_byte (suc zero) byte = if is_line_feed byte then byte ∷ [] else codes ".."
+displayed_byte (suc (suc room)) byte = byte ∷ []
+
+-- how many bytes have room behind this one: in a line so many as are left of 500
+abbrev pub room_behind : ℕ → ℕ → ℕ
+room_behind room byte = if is_line_feed byte then 500 else room - 1
+
+-- the bytes that are shown of these, where so many have room in the line: of a line of 500 bytes and more the first 499, and two dots
+abbrev pub narrowed_from : ℕ → Text → Text
+narrowed_from room [] = []
+narrowed_from room (byte ∷ rest) = displayed_byte room byte ++ narrowed_from (room_behind room byte) rest
+
+-- what is shown of an explanation, of which all is wanted or not
+abbrev pub displayed : Bool → Text → Text
+displayed true whole = whole
+displayed false whole = narrowed_from 500 (shortened whole)
+
+-- the lines show what is told so, all of it or not
+pub record IsDisplayed (all : Bool) (Tells : Text → Type 0) (lines : Text) : Type 0 where
+  pub whole : Text
+  pub tells : Tells whole
+  pub lines_are : lines ≡ displayed all whole

@@ -1,0 +1,143 @@
+// How much of an explanation is shown.
+ghost use Rattle.std.specs.Prelude.{◌≡◌, suc, string_bytes, ◌==◌, ◌≤◌, ◌<◌, ◌&&◌, ◌++◌, IfOk, OnOk, if◌then◌else◌, length, nat_lt};
+ghost use Rattle.explain.specs.Shortened.{are_few_paragraphs, displayed, displayed_bytes, displayed_byte, displayed_up_to, ends_paragraph, left_out_line, line_total, narrowed_from, room_behind, shortened};
+
+use armus_base::{List, NoMemory};
+use std::alloc::Global;
+
+// How many lines an explanation has at most that is shown as it is.
+const MOST_LINES: usize = 60;
+
+// Of a line of so many bytes and more the last one that is shown is none: two dots stand for it and for all behind it.
+const MOST_BYTES: usize = 500;
+
+// How many lines these bytes have.
+fn line_total(text: &[u8]) -> usize
+    ensures { result ≡ line_total text.now }
+{
+    text.iter().filter(|byte| **byte == b'\n').count()
+}
+
+// Whether the byte at this index is the last one of a paragraph.
+fn ends_paragraph(text: &[u8], index: usize) -> bool
+    requires { index < length text.now }
+    ensures { result ≡ ends_paragraph text.now (suc index) }
+{
+    if text[index] != b'\n' {
+        return false;
+    }
+    match text.get(index + 1) {
+        Some(next) => *next != b' ',
+        None => true,
+    }
+}
+
+// How many lines the byte ends.
+fn line_feed(byte: u8) -> usize
+    ensures { result ≡ (if byte == 10 then 1 else 0) }
+{
+    if byte == b'\n' { 1 } else { 0 }
+}
+
+// How many bytes are shown of those up to this index, before which so many are, and with which so many lines have ended.
+fn displayed_with(text: &[u8], index: usize, lines: usize, before: usize) -> usize
+    requires { index < length text.now }
+    ensures { result ≡ (if ends_paragraph text.now (suc index) && nat_lt lines 60 then suc index else before) }
+{
+    if ends_paragraph(text, index) && lines < MOST_LINES {
+        index + 1
+    } else {
+        before
+    }
+}
+
+// How many bytes of a long explanation are shown.
+fn displayed_bytes(whole: &[u8]) -> usize
+    ensures value { result ≡ displayed_bytes whole.now }
+    ensures within { result ≤ length whole.now }
+{
+    let mut lines = 0;
+    let mut shown = 0;
+    for (index, byte) in whole.iter().enumerate() {
+        lines += line_feed(*byte);
+        shown = displayed_with(whole, index, lines, shown);
+    }
+    shown
+}
+
+// The line that counts the lines that are left out.
+fn left_out_line(alloc: Global, count: usize) -> Result<String, NoMemory>
+    ensures { IfOk result (λ text. string_bytes text ≡ left_out_line count) }
+{
+    let text = format!(in alloc; "and {count} more lines: --all shows them\n")?;
+    Ok(text)
+}
+
+// The first paragraphs of a long explanation, and how many lines of it are left out.
+fn displayed_front(alloc: Global, whole: &[u8]) -> Result<Vec<u8>, NoMemory>
+    ensures { IfOk result (λ lines. lines.items ≡ displayed_up_to (displayed_bytes whole.now) whole.now) }
+{
+    let (shown, left) = whole.split_at(displayed_bytes(whole));
+    let mut out = Vec::from_slice(alloc, shown)?;
+    out.extend_from_slice(left_out_line(alloc, line_total(left))?.as_bytes())?;
+    Ok(out)
+}
+
+// The lines of an explanation that are shown.
+fn shortened(alloc: Global, whole: List<u8>) -> Result<Vec<u8>, NoMemory>
+    ensures { IfOk result (λ lines. lines.items ≡ shortened whole) }
+{
+    if line_total(whole.as_slice()) <= MOST_LINES {
+        return Ok(whole.into_vec());
+    }
+    displayed_front(alloc, whole.as_slice())
+}
+
+// Appends what is shown of a byte of a line, of which so many bytes have room.
+fn put_displayed(out: &mut Vec<u8>, byte: u8, room: usize) -> Result<(), NoMemory>
+    ensures { OnOk result (out.new.items ≡ out.old.items ++ displayed_byte room byte) }
+{
+    if byte == b'\n' || room > 1 {
+        out.push(byte)?;
+        return Ok(());
+    }
+    if room == 1 {
+        out.extend_from_slice(b"..")?;
+    }
+    Ok(())
+}
+
+// How many bytes have room behind this one.
+fn room_behind(byte: u8, room: usize) -> usize
+    ensures { result ≡ room_behind room byte }
+{
+    if byte == b'\n' {
+        MOST_BYTES
+    } else {
+        room.saturating_sub(1)
+    }
+}
+
+// What is shown of lines that may be long.
+fn narrowed(alloc: Global, lines: &[u8]) -> Result<List<u8>, NoMemory>
+    ensures { IfOk result (λ shown. shown ≡ narrowed_from 500 lines.now) }
+{
+    let mut out = Vec::new(alloc);
+    let mut room = MOST_BYTES;
+    for byte in lines {
+        put_displayed(&mut out, *byte, room)?;
+        room = room_behind(*byte, room);
+    }
+    Ok(List::from_vec(out))
+}
+
+/// What is shown of an explanation, of which all is wanted or not. The time is linear in its bytes; the only error is want of memory.
+pub(crate) fn displayed(alloc: Global, all: bool, whole: List<u8>) -> Result<List<u8>, NoMemory>
+    ensures { IfOk result (λ lines. lines ≡ displayed all whole) }
+{
+    if all {
+        return Ok(whole);
+    }
+    let lines = shortened(alloc, whole)?;
+    narrowed(alloc, &lines)
+}
