@@ -82,4 +82,4 @@ help_lines =
 
 -- the line of the version
 abbrev pub version_line : Text
-version_line = line (codes "armus_explain 1.0.0")
+version_line = line (codes "armus_explain 2.0.0")

@@ -15,7 +15,7 @@ use std::alloc::Global;
 
 const USAGE: &str = "usage: armus_explain [--all] [run|steps|avoid|clock] [FILE]\n";
 
-const VERSION: &str = "armus_explain 1.0.0\n";
+const VERSION: &str = "armus_explain 2.0.0\n";
 
 const HELP: &str = "\
 usage: armus_explain [--all] [run|steps|avoid|clock] [FILE]

@@ -64,4 +64,4 @@ monitor_help_lines =
 
 -- the line of the version
 abbrev pub monitor_version_line : List ℕ
-monitor_version_line = message_line (codes "armus_monitor 1.0.0")
+monitor_version_line = message_line (codes "armus_monitor 2.0.0")

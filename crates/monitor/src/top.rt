@@ -23,7 +23,7 @@ const PIECE: usize = 4096;
 
 const USAGE: &str = "usage: armus_monitor [--guard] [--keep-going] [FILE]\n";
 
-const VERSION: &str = "armus_monitor 1.0.0\n";
+const VERSION: &str = "armus_monitor 2.0.0\n";
 
 const HELP: &str = "\
 usage: armus_monitor [--guard] [--keep-going] [FILE]
