@@ -66,20 +66,19 @@ module _ (form : Form) (text : Text) (status number : ℕ) (lines report : Text)
       one_standings (IsDeadBy (final_of plan run.state).blocked) (final_of plan run.state).ends run.report_is.standings x.standings run.report_is.stand
       (subst (λ (s : State). AreStandings (IsDeadBy (final_of plan s).blocked) (final_of plan s).ends x.standings) (sym same_state) x.stand)
 
-  begin_alike : BeginAlike e.explains.whole report
+  begin_alike : BeginAlike run.report_is.standings e.explains.whole report
   begin_alike =
       let x = e.explains.tells.explains in
       let f = facts_of text form.file e.explains.tells.account x.standings in
       let v = x.explains.verdict in
       let r = run.report_is in
       record {
-        standings = x.standings;
         rest = verdict_line f v ++ paragraphs f (state_at plan a).phases (shown_of v);
         others = task_lines r.standings ++ r.cycle_text ++ r.graph_text;
         lines_are = x.explains.is_it
-            ∙ first_of_three (counts_line (counts_of x.standings)) (verdict_line f v) (paragraphs f (state_at plan a).phases (shown_of v));
-        report_is = r.lines ∙ first_of_four (counts_line (counts_of r.standings)) (task_lines r.standings) r.cycle_text r.graph_text
-            ∙ ap (λ s. counts_line (counts_of s) ++ (task_lines r.standings ++ r.cycle_text ++ r.graph_text)) stands;
+            ∙ first_of_three (counts_line (counts_of x.standings)) (verdict_line f v) (paragraphs f (state_at plan a).phases (shown_of v))
+            ∙ ap (λ s. counts_line (counts_of s) ++ (verdict_line f v ++ paragraphs f (state_at plan a).phases (shown_of v))) (sym stands);
+        report_is = r.lines ∙ first_of_four (counts_line (counts_of r.standings)) (task_lines r.standings) r.cycle_text r.graph_text;
       }
 
   abbrev facts : FactsValue
@@ -112,6 +111,7 @@ module _ (form : Form) (text : Text) (status number : ℕ) (lines report : Text)
 
 pub explains_as_run : ExplainsAsRun
 explains_as_run form text status number lines report g e run = (
+  sym (stands form text status number lines report g e run),
   begin_alike form text status number lines report g e run,
   λ one.
       let (cycle, line, is) = shows_cycle form text status number lines report g e run one in

@@ -12,3 +12,8 @@ pub mod LiveLines
 pub mod TasksLeft
 pub mod EndedLeave
 pub mod Explained
+pub mod ExplainedSteps
+pub mod ExplainedAvoid
+pub mod ToldTasks
+pub mod AfterRefusal
+pub mod RefusalsTold

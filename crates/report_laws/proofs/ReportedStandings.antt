@@ -41,6 +41,12 @@ blocked_by false None None e is = absurd (cc)
 published_ends : (s : State) (t : ℕ) (e : Event) → s.published t ≡ Some e → end_of s t ≡ ends.Blocked e
 published_ends s t e is = ap (λ o. end_by (s.forked t) o (s.refused t)) is
 
+-- who is not refused has not ended so
+pub not_refused : (forked : Bool) (published : Option Event) (e : Event) → end_by forked published None ≡ ends.Refused e → ⊥
+not_refused forked (Some v) e is = cc
+not_refused true None e is = cc
+not_refused false None e is = cc
+
 -- a dead task is published
 pub dead_waits : (s : State) (t : ℕ) → IsDeadIn s t → (e : Event) × IsPublishedOn s t e
 dead_waits s t dead = let impeded = dead.deadlocked.each t dead.inside in (impeded.event, impeded.waits)

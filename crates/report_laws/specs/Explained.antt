@@ -11,19 +11,18 @@ use Rattle.armus_top.specs.Runs.{IsRunOf as IsReportedRun}
 use Rattle.explain.specs.Explained.{IsExplanationOf}
 use Rattle.explain.specs.Requests.{Form}
 
--- both begin with the same line, which counts how the tasks stand
-pub record BeginAlike (lines report : Text) : Type 0 where
-  pub standings : List Standing
+-- both begin with the same line, which counts these standings
+pub record BeginAlike (standings : List Standing) (lines report : Text) : Type 0 where
   pub rest : Text
   pub others : Text
   pub lines_are : lines ≡ counts_line (counts_of standings) ++ rest
   pub report_is : report ≡ counts_line (counts_of standings) ++ others
 
--- A report of the run of the explained text, whatever graph is wanted, begins as its whole explanation does. Where the report has status 1, so has the explanation,
--- and its verdict shows the tasks that the report's cycle line names.
+-- The whole explanation of a text, and a report of its run, whatever graph is wanted, know one standing of each task, and begin with the same line. Where the report has
+-- status 1, so has the explanation, and its verdict shows the tasks that the report's cycle line names.
 abbrev pub ExplainsAsRun : Type 0
 ExplainsAsRun =
     (form : Form) (text : Text) (status number : ℕ) (lines report : Text) (g : Wanted) (e : IsExplanationOf form text status lines)
     (run : IsReportedRun e.plan g number report) →
-    BeginAlike e.explains.whole report
+    (e.explains.tells.explains.standings ≡ run.report_is.standings) × BeginAlike run.report_is.standings e.explains.whole report
     × (number ≡ 1 → (status ≡ 1) × (cycle : List TaskId) × (run.report_is.cycle_text ≡ cycle_line cycle) × (e.explains.tells.explains.explains.verdict ≡ Circle cycle))

@@ -6,5 +6,9 @@ pub mod Avoided
 pub mod Cycles
 pub mod Held
 pub mod Explained
+pub mod ExplainedSteps
+pub mod ExplainedAvoid
+pub mod ToldTasks
+pub mod RefusalsTold
 -- Words of contracts further down, which no promise of a program needs.
 pub mod calls

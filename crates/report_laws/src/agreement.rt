@@ -1,6 +1,9 @@
 // Laws of agreement between what two commands answer for one input.
 ghost use Rattle.report_laws.specs.Avoided.{AvoidTellsAsRun};
 ghost use Rattle.report_laws.specs.Explained.{ExplainsAsRun};
+ghost use Rattle.report_laws.specs.ExplainedAvoid.{ExplainsAsAvoid};
+ghost use Rattle.report_laws.specs.ExplainedSteps.{StepsEndAsExplained};
+ghost use Rattle.report_laws.specs.calls.ExplainedSteps.{ClockStepsEndAsExplained};
 ghost use Rattle.report_laws.specs.calls.Avoided.{WhoGainsAndPays};
 ghost use Rattle.report_laws.specs.calls.Replayed.{ReplayTellsAsRun};
 
@@ -19,8 +22,20 @@ pub fn replay_tells_as_run()
     ensures { ReplayTellsAsRun }
 {}
 
-/// The explanation of a text begins with the first line of the report of its run, which counts how the tasks stand; and where the report has status 1, so has
-/// the explanation, whose verdict shows the tasks of the report's cycle.
+/// The explanation of a text knows of each task the standing that the report of its run has, and begins with the first line of that report; and where the report
+/// has status 1, so has the explanation, whose verdict shows the tasks of the report's cycle.
 pub fn explains_as_run()
     ensures { ExplainsAsRun }
+{}
+
+/// The explanation of the serial avoided run knows of each task the standing that the report of `avoid` with one worker has, begins with the first line of that
+/// report, and names in its second line the tasks that the report has as refused; and where the report has status 1, so has the explanation.
+pub fn explains_as_avoid()
+    ensures { ExplainsAsAvoid }
+{}
+
+/// What is written where the steps of a text are shown is these steps, and behind them the bytes of its explanation, in either language; and the status is one.
+pub fn steps_end_as_explained()
+    ensures text { StepsEndAsExplained }
+    ensures clocks { ClockStepsEndAsExplained }
 {}

@@ -1,13 +1,18 @@
 //! Laws of what the programs answer: one answer for one input, avoidance agrees with the run, an explanation with the report, a cycle is the proof of a
-//! deadlock, and more. Each is the contract of a function with an empty body, over the definitions by which the top calls answer.
+//! deadlock, an explanation tells of each task, and more. Each is the contract of a function with an empty body, over the definitions by which the top calls answer.
 //!
 //! It stands on both top calls, and nothing stands on it.
 #![tactic(auto)]
 
 mod agreement;
 mod answers;
+mod explanations;
 mod reports;
 
-pub use agreement::{avoid_tells_as_run, explains_as_run, replay_tells_as_run, who_gains_and_pays};
+pub use agreement::{
+    avoid_tells_as_run, explains_as_avoid, explains_as_run, replay_tells_as_run,
+    steps_end_as_explained, who_gains_and_pays,
+};
 pub use answers::{live_tells_as_run, one_answer, printing_keeps_meaning, texts_go_by_plan};
+pub use explanations::{each_task_is_told, refusals_are_so};
 pub use reports::{cycle_is_proof, held_tasks_have_end, stand_as_reported};
