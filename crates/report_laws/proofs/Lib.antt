@@ -14,6 +14,7 @@ pub mod EndedLeave
 pub mod Explained
 pub mod ExplainedSteps
 pub mod ExplainedAvoid
+pub mod ExplainedClocks
 pub mod ToldTasks
 pub mod AfterRefusal
 pub mod RefusalsTold

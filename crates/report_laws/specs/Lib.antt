@@ -8,6 +8,7 @@ pub mod Held
 pub mod Explained
 pub mod ExplainedSteps
 pub mod ExplainedAvoid
+pub mod ExplainedClocks
 pub mod ToldTasks
 pub mod RefusalsTold
 -- Words of contracts further down, which no promise of a program needs.

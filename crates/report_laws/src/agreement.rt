@@ -2,6 +2,7 @@
 ghost use Rattle.report_laws.specs.Avoided.{AvoidTellsAsRun};
 ghost use Rattle.report_laws.specs.Explained.{ExplainsAsRun};
 ghost use Rattle.report_laws.specs.ExplainedAvoid.{ExplainsAsAvoid};
+ghost use Rattle.report_laws.specs.ExplainedClocks.{ExplainsAsClock};
 ghost use Rattle.report_laws.specs.ExplainedSteps.{StepsEndAsExplained};
 ghost use Rattle.report_laws.specs.calls.ExplainedSteps.{ClockStepsEndAsExplained};
 ghost use Rattle.report_laws.specs.calls.Avoided.{WhoGainsAndPays};
@@ -32,6 +33,11 @@ pub fn explains_as_run()
 /// report, and names in its second line the tasks that the report has as refused; and where the report has status 1, so has the explanation.
 pub fn explains_as_avoid()
     ensures { ExplainsAsAvoid }
+{}
+
+/// The explanation of a clock text has the status of `clock`, and the counts of its report.
+pub fn explains_as_clock()
+    ensures { ExplainsAsClock }
 {}
 
 /// What is written where the steps of a text are shown is these steps, and behind them the bytes of its explanation, in either language; and the status is one.

@@ -10,7 +10,7 @@ mod explanations;
 mod reports;
 
 pub use agreement::{
-    avoid_tells_as_run, explains_as_avoid, explains_as_run, replay_tells_as_run,
+    avoid_tells_as_run, explains_as_avoid, explains_as_clock, explains_as_run, replay_tells_as_run,
     steps_end_as_explained, who_gains_and_pays,
 };
 pub use answers::{live_tells_as_run, one_answer, printing_keeps_meaning, texts_go_by_plan};
