@@ -77,7 +77,8 @@ impl MonitorState {
 
     /// The members of phasers that do not run, and the tasks that wait there, by phase.
     pub fn index(&self) -> &MemberIndex
-        ensures { IsIndexOf self.now.list result.now }
+        ensures members { IsIndexOf self.now.list result.now }
+        ensures lawful { IsLawfulState self.now }
     {
         let _ = &self.memberships;
         self.listing.index()
