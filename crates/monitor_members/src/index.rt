@@ -70,8 +70,8 @@ impl PhaserIndex {
         }
     }
 
-    // The pairs of a phase and a number that are noted at phaser p, in their order; none where nobody is noted there.
-    fn at(&self, p: &[u8]) -> Option<&BTreeSet<(u32, u64)>>
+    /// The pairs of a phase and a number that are noted at phaser p, in their order; none where nobody is noted there.
+    pub fn pairs_at(&self, p: &[u8]) -> Option<&BTreeSet<(u32, u64)>>
         ensures { pairs_of (option_copied result) ≡ pairs_at self.now.by_phaser p.now }
     {
         self.by_phaser.get(p)
@@ -82,7 +82,7 @@ impl PhaserIndex {
         ensures some { result ≡ true → (m : ℕ) × (k : ℕ) × (m < n) × (is_noted self.now p.now m k ≡ true) }
         ensures none { result ≡ false → (m k : ℕ) → m < n → is_noted self.now p.now m k ≡ false }
     {
-        match self.at(p) {
+        match self.pairs_at(p) {
             None => false,
             Some(pairs) => has_below(pairs, n),
         }
@@ -93,7 +93,7 @@ impl PhaserIndex {
         ensures some { result ≡ true → (m : ℕ) × (k : ℕ) × (n < m) × (is_noted self.now p.now m k ≡ true) }
         ensures none { result ≡ false → (m k : ℕ) → n < m → is_noted self.now p.now m k ≡ false }
     {
-        match self.at(p) {
+        match self.pairs_at(p) {
             None => false,
             Some(pairs) => has_above(pairs, n),
         }

@@ -5,6 +5,7 @@ pub mod Groups
 pub mod KeptByTable
 pub mod LeastPhases
 pub mod LeftByLines
+pub mod NoWildcards
 pub mod NumberSearch
 pub mod OneChanged
 pub mod Parted

@@ -2,18 +2,17 @@
 ghost use Rattle.std.specs.Prelude.{◌≡◌, ◌&&◌, ◌==◌, true, not};
 ghost use Rattle.std.specs.List.{list_any};
 ghost use Rattle.trace_lines.specs.Values.{line_value};
-ghost use Rattle.monitor_laws.specs.Stuck.{has_phase_below};
 ghost use Rattle.monitor_state.specs.Values.{condition_value};
 ghost use Rattle.monitor_search.specs.Known.{KeepsStuck};
 ghost use Rattle.monitor_search.specs.inside.Cascades.{HasLiveNumber};
 ghost use Rattle.monitor_search.specs.inside.Keeping.{LeavesStuck, LeavesStuckBy, StaysOut};
-ghost use Rattle.monitor_search.specs.inside.Leaving.{HasNoPhase, asks_for_ended, ends_quietly, frees_nobody, has_ended_as, is_for_any, is_freed, is_surely_out, is_unfreed_below, lives_with_number, runs_as_one_of, runs_beside, runs_now};
+ghost use Rattle.monitor_search.specs.inside.Leaving.{HasNoPhase, asks_for_ended, ends_quietly, frees_nobody, has_ended_as, is_for_any, is_freed, is_surely_out, is_unfreed, is_unfreed_below, lives_with_number, passes_below, passes_numbered, runs_as_one_of, runs_beside, runs_now};
 
 use crate::StuckTasks;
 use crate::numbered::numbered;
-use crate::parting::has_phase_below;
 use crate::waits::waits_unneeded;
 use monitor_state::{ListedCondition, ListedParticipant, MonitorState};
+use std::collections::BTreeSet;
 use trace_lines::TraceLine;
 
 // Whether it is of a task that runs.
@@ -79,24 +78,39 @@ fn has_ended_as(u: &ListedParticipant, t: &[u8]) -> bool
     matches!(u.condition(), ListedCondition::Ended) && t == u.name()
 }
 
-// Whether u is a member of phaser p with a phase below n, and not freed.
-fn is_unfreed_below(state: &MonitorState, u: &ListedParticipant, p: &[u8], n: u32) -> bool
-    ensures { result ≡ is_unfreed_below state.now.list p.now n u.now }
+// Whether who has this number is not freed.
+fn is_unfreed_number(state: &MonitorState, k: u64) -> bool
+    ensures { result ≡ passes_numbered (is_unfreed state.now.list) state.now.list k }
 {
-    has_phase_below(u, p, n) && !is_freed(state, u.condition())
+    match numbered(state, k) {
+        None => false,
+        Some(u) => !is_freed(state, u.condition()),
+    }
+}
+
+// Whether a phase below n stands among these with the number of somebody who is not freed.
+fn some_unfreed_at(state: &MonitorState, pairs: &BTreeSet<(u32, u64)>, n: u32) -> bool
+    ensures { result ≡ passes_below (passes_numbered (is_unfreed state.now.list) state.now.list) n pairs.now.keys }
+{
+    for pair in pairs {
+        if n <= pair.0 {
+            return false;
+        }
+        if is_unfreed_number(state, pair.1) {
+            return true;
+        }
+    }
+    false
 }
 
 // Whether somebody who is not freed is a member of phaser p with a phase below n.
 fn some_unfreed_below(state: &MonitorState, p: &[u8], n: u32) -> bool
     ensures { result ≡ list_any (is_unfreed_below state.now.list p.now n) state.now.list }
 {
-    if !state.index().rests_below(p, n) {
-        return false;
+    match state.index().resting_at(p) {
+        None => false,
+        Some(pairs) => some_unfreed_at(state, pairs, n),
     }
-    state
-        .participants()
-        .iter()
-        .any(|u| is_unfreed_below(state, u, p, n))
 }
 
 // Whether who is in this condition is freed, or waits and all who keep it waiting are freed.
@@ -113,10 +127,16 @@ fn is_surely_out(state: &MonitorState, condition: &ListedCondition) -> bool
 }
 
 // Whether any task may play a wildcard of the list.
-fn some_for_any(list: &[ListedParticipant]) -> bool
-    ensures { result ≡ list_any (λ u. is_for_any u.condition) list.now }
+fn some_for_any(state: &MonitorState) -> bool
+    ensures { result ≡ list_any (λ u. is_for_any u.condition) state.now.list }
 {
-    list.iter().any(|u| is_for_any(u.condition()))
+    if !state.has_wildcards() {
+        return false;
+    }
+    state
+        .participants()
+        .iter()
+        .any(|u| is_for_any(u.condition()))
 }
 
 /// Whether the task with this number is in the list and has not ended.
@@ -159,6 +179,9 @@ fn asks_for_ended(state: &MonitorState, condition: &ListedCondition) -> bool
 fn some_asks_for_ended(state: &MonitorState) -> bool
     ensures { result ≡ list_any (λ v. asks_for_ended state.now.list v.condition) state.now.list }
 {
+    if !state.has_wildcards() {
+        return false;
+    }
     state
         .participants()
         .iter()
@@ -180,7 +203,7 @@ fn frees_nobody(state: &MonitorState, was: &StuckTasks, u: &ListedParticipant) -
     let list = state.participants();
     u.condition().is_live_wildcard()
         || was.is_empty()
-        || !some_for_any(list)
+        || !some_for_any(state)
         || somebody_runs_beside(list, u.number())
 }
 
@@ -219,7 +242,7 @@ fn ends_quietly(state: &MonitorState, was: &StuckTasks, t: &[u8]) -> bool
     if !was.is_empty() || some_ended_as(list, t) || some_asks_for_ended(state) {
         return false;
     }
-    somebody_runs(list) || !some_for_any(list)
+    somebody_runs(list) || !some_for_any(state)
 }
 
 // Whether after a line of t surely the same are stuck as before it.

@@ -2,14 +2,15 @@
 ghost use Rattle.std.specs.Prelude.{◌≡◌, ◌&&◌, ◌==◌, false};
 ghost use Rattle.std.specs.List.{list_any};
 ghost use Rattle.monitor_state.specs.Values.{condition_value};
-ghost use Rattle.monitor_laws.specs.States.{is_live_wildcard};
-ghost use Rattle.monitor_search.specs.inside.Waits.{NobodyAwaits, is_inside_below, is_unstuck, is_unstuck_of, needs_in, needs_other, waits_unneeded, was_outside};
+ghost use Rattle.monitor_search.specs.inside.Leaving.{passes_below, passes_numbered};
+ghost use Rattle.monitor_search.specs.inside.Waits.{NobodyAwaits, is_inside_below, is_unstuck, is_unstuck_of, may_stand_inside, needs_in, needs_other, waits_unneeded, was_outside};
 
 use crate::StuckTasks;
 use crate::leaving::{somebody_runs, somebody_runs_of};
 use crate::numbered::numbered;
 use crate::parting::{has_phase_below, is_among};
 use monitor_state::{ListedCondition, ListedParticipant, MonitorState};
+use std::collections::BTreeSet;
 
 // Whether u is a task that has not ended and was not stuck.
 fn is_unstuck(was: &StuckTasks, u: &ListedParticipant) -> bool
@@ -59,28 +60,45 @@ fn was_outside(
     }
 }
 
-// Whether v is a member of phaser p with a phase below n that may have stood in a closed set, or is the task with number k.
-fn is_inside_below(
+// Whether who has this number may have stood in a closed set, or is the task with number k.
+fn is_inside_number(state: &MonitorState, was: &StuckTasks, k: u64, number: u64) -> bool
+    ensures { result ≡ passes_numbered (may_stand_inside state.now.list was.now k) state.now.list number }
+{
+    match numbered(state, number) {
+        None => false,
+        Some(v) => !was_outside(state, was, k, v.number(), v.condition()),
+    }
+}
+
+// Whether a phase below n stands among these with the number of somebody who may have stood in a closed set, or of the task with number k.
+fn some_inside_at(
     state: &MonitorState,
     was: &StuckTasks,
     k: u64,
-    p: &[u8],
+    pairs: &BTreeSet<(u32, u64)>,
     n: u32,
-    v: &ListedParticipant,
 ) -> bool
-    ensures { result ≡ is_inside_below state.now.list was.now k p.now n v.now }
+    ensures { result ≡ passes_below (passes_numbered (may_stand_inside state.now.list was.now k) state.now.list) n pairs.now.keys }
 {
-    has_phase_below(v, p, n) && !was_outside(state, was, k, v.number(), v.condition())
+    for pair in pairs {
+        if n <= pair.0 {
+            return false;
+        }
+        if is_inside_number(state, was, k, pair.1) {
+            return true;
+        }
+    }
+    false
 }
 
-// Whether somebody of the list is such a member.
+// Whether such a one is a member of phaser p with a phase below n.
 fn some_inside_below(state: &MonitorState, was: &StuckTasks, k: u64, p: &[u8], n: u32) -> bool
     ensures { result ≡ list_any (is_inside_below state.now.list was.now k p.now n) state.now.list }
 {
-    state
-        .participants()
-        .iter()
-        .any(|v| is_inside_below(state, was, k, p, n, v))
+    match state.index().resting_at(p) {
+        None => false,
+        Some(pairs) => some_inside_at(state, was, k, pairs, n),
+    }
 }
 
 // Whether who has this number and is in this condition was not stuck, and may come into a closed set because u does.
@@ -128,22 +146,17 @@ fn is_awaited(state: &MonitorState, u: &ListedParticipant) -> bool
     false
 }
 
-// Whether a wildcard of the list is not gone.
-fn some_wildcard(list: &[ListedParticipant]) -> bool
-    ensures { result ≡ list_any (λ v. is_live_wildcard v.condition) list.now }
-{
-    list.iter().any(|v| v.condition().is_live_wildcard())
-}
-
 // Whether somebody else of the list needs u.
 fn is_needed(state: &MonitorState, was: &StuckTasks, u: &ListedParticipant) -> bool
     ensures { result ≡ list_any (needs_other state.now.list was.now u.now) state.now.list }
 {
-    let list = state.participants();
-    if !is_awaited(state, u) && !some_wildcard(list) {
+    if !is_awaited(state, u) && !state.has_wildcards() {
         return false;
     }
-    list.iter().any(|v| needs_other(state, was, u, v))
+    state
+        .participants()
+        .iter()
+        .any(|v| needs_other(state, was, u, v))
 }
 
 /// Whether u waits for nobody who may have stood in a closed set, and nobody else needs it.

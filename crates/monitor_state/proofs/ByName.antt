@@ -1,8 +1,6 @@
 -- Who is there with a name, by the number of the name: where it stands, and what a change makes of it.
 use Rattle.std.proofs.Common.{◌≡◌, ℕ, zero, suc, ◌<◌, ◌≤◌, Bool, true, false, ◌||◌, not, Some, None, Option, Result, Ok, Err, IfOk, IfErr, IfSome, IfNone, List, [], ◌∷◌, ◌++◌, length, get_or, drop, set, map, refl, sym, ◌∙◌, ap, subst, inl, inr, ◌⊎◌, arith}
 use Rattle.std.specs.Prelude.{◌==◌, bytes_eq, eqb, filter, find, if◌then◌else◌}
-use Rattle.std.specs.Global.{Vec}
-use Rattle.std.specs.BTreeMap.{BTreeMap}
 use Rattle.std.specs.List.{list_any, remove, starts_with}
 use Rattle.std.specs.List.Sorted.{IsBinarySearchResult, IsNonDecreasingBy, IsSearchInRange}
 use Rattle.std.specs.Option.{option_map, option_or}
@@ -23,7 +21,7 @@ use Rattle.monitor_laws.specs.States.{announced_by}
 use Rattle.monitor_laws.specs.Lawful.{AreAscending}
 use Rattle.monitor_state.specs.inside.Changes.{changed_value, put_at}
 use Rattle.monitor_state.specs.inside.FirstPlaces.{IsFirstAt}
-use Rattle.monitor_state.specs.inside.Numbers.{HasNumbersOf, HasEachNameOnce, number_by_name}
+use Rattle.monitor_state.specs.inside.Numbers.{HasNumbersOf, HasEachNameOnce}
 use Rattle.monitor_state.specs.inside.Players.{participant_number}
 use Rattle.monitor_state.proofs.ListChanges.{none_behind}
 use Rattle.monitor_state.proofs.OnePassing.{first_place, first_tail, found_first, found_none}
@@ -45,8 +43,8 @@ numbers_ascend (u ∷ us) zero (suc j) d up less within = up.0 (get_or us j d) (
 numbers_ascend (u ∷ us) (suc i) (suc j) d up less within = numbers_ascend us i j d up.1 (omega arith) (omega arith)
 
 -- who is there with a name has the number that a search looks for
-module _ (us : List Participant) (order : HasEachNameOnce us) (numbers : BTreeMap (Vec ℕ) ℕ) (has : HasNumbersOf us numbers) (t : List ℕ) where
-  pub nobody_by_name : number_by_name numbers t ≡ None → list_any (is_there_as t) us ≡ false
+module _ (us : List Participant) (order : HasEachNameOnce us) (number : List ℕ → Option ℕ) (has : HasNumbersOf us number) (t : List ℕ) where
+  pub nobody_by_name : number t ≡ None → list_any (is_there_as t) us ≡ false
   nobody_by_name none = elim (cases_Bool (list_any (is_there_as t) us)) [
     | inr off ↦ off
     | inl some ↦ absurd (
@@ -57,7 +55,7 @@ module _ (us : List Participant) (order : HasEachNameOnce us) (numbers : BTreeMa
         cc)
   ]
 
-  module _ (n : ℕ) (is : number_by_name numbers t ≡ Some n) where
+  module _ (n : ℕ) (is : number t ≡ Some n) where
     -- somebody of this number is there with the name
     somebody : (i : ℕ) × IsFirstAt (is_there_as t) us i × ((d : Participant) → (get_or us i d).number ≡ n)
     somebody = elim (cases_Bool (list_any (is_there_as t) us)) [
@@ -111,6 +109,21 @@ module _ (us : List Participant) (order : HasEachNameOnce us) (numbers : BTreeMa
             let a : i < at → (get_or us i d).number < n = λ lt. ranked _ n _ (sym ((parted rise).0 i d (omega arith) lt)) in
             let b : at ≤ i → n < (get_or us i d).number = λ le. ranked _ n _ (sym ((parted rise).1 i d le first.within)) in
             grind (arith)
+
+-- who is there with the name at a place is the first who is
+pub first_there : (us : List Participant) → HasEachNameOnce us → (t : List ℕ) (at : ℕ) → at < length us → ((d : Participant) → is_there_as t (get_or us at d) ≡ true) → IsFirstAt (is_there_as t) us at
+first_there us order t at within here = record {
+  within = within;
+  before = λ k d less. elim (cases_Bool (is_there_as t (get_or us k d))) [
+    | inr off ↦ off
+    | inl on ↦ absurd (
+        let same : get_or us k d ≡ get_or us at d = order.one_name t (get_or us k d) (get_or us at d) (Contains-get_or us k d (omega arith)) (Contains-get_or us at d within) on (here d) in
+        let number : (get_or us k d).number ≡ (get_or us at d).number = ap (λ (y : Participant). y.number) same in
+        let less : (get_or us k d).number < (get_or us at d).number = numbers_ascend us k at d order.ascending less within in
+        omega arith)
+  ];
+  here = here;
+}
 
 -- a change of one for whom a test fails before and after is not seen by the test
 module _ {A : Type 0} (p : A → Bool) where

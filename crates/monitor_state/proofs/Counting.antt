@@ -24,29 +24,39 @@ none_had (OneOf names tasks) phases gone = absurd (let e : true ≡ false = gone
 gone_has_none : (v : Participant) → stays_listed v ≡ false → memberships_had v ≡ 0
 gone_has_none v gone = none_had v.condition v.phases gone
 
--- one of the list has no more than all
+-- what is counted of each, and of nobody who does not stay
+module _ (part : Participant → ℕ) (none : (v : Participant) → stays_listed v ≡ false → part v ≡ 0) where
+  -- one of the list has no more than all
+  pub part_within : (us : List Participant) (i : ℕ) (u : Participant) → i < length us → u ≡ get_or us i u → part u ≤ sum_by part us
+  part_within us i u within read =
+      let sum = sum_by-remove part us i u within in
+      let same = ap part read in
+      omega arith
+
+  pub part_put :
+      (us : List Participant) (i : ℕ) (u v : Participant) → i < length us → u ≡ get_or us i u →
+      sum_by part (put_at us i v) + part u ≡ sum_by part us + part v
+  part_put us i u v within read = elim (cases_Bool (stays_listed v)) [
+    | inl stays ↦ (
+        let put : sum_by part (put_at us i v) ≡ sum_by part (set us i v) = ap (sum_by part) (cond-true (stays_listed v) (set us i v) (remove us i) stays) in
+        let sum = sum_by-set part us i v u within in
+        let same = ap part read in
+        omega arith)
+    | inr gone ↦ (
+        let put : sum_by part (put_at us i v) ≡ sum_by part (remove us i) = ap (sum_by part) (cond-false (stays_listed v) (set us i v) (remove us i) gone) in
+        let sum = sum_by-remove part us i u within in
+        let same = ap part read in
+        let zero = none v gone in
+        omega arith)
+  ]
+
 pub had_within : (us : List Participant) (i : ℕ) (u : Participant) → i < length us → u ≡ get_or us i u → memberships_had u ≤ sum_by memberships_had us
-had_within us i u within read =
-    let sum = sum_by-remove memberships_had us i u within in
-    let same = ap memberships_had read in
-    omega arith
+had_within = part_within memberships_had gone_has_none
 
 pub counted_at :
     (us : List Participant) (i : ℕ) (u v : Participant) → i < length us → u ≡ get_or us i u →
     sum_by memberships_had (put_at us i v) + memberships_had u ≡ sum_by memberships_had us + memberships_had v
-counted_at us i u v within read = elim (cases_Bool (stays_listed v)) [
-  | inl stays ↦ (
-      let put : sum_by memberships_had (put_at us i v) ≡ sum_by memberships_had (set us i v) = ap (sum_by memberships_had) (cond-true (stays_listed v) (set us i v) (remove us i) stays) in
-      let sum = sum_by-set memberships_had us i v u within in
-      let same = ap memberships_had read in
-      omega arith)
-  | inr gone ↦ (
-      let put : sum_by memberships_had (put_at us i v) ≡ sum_by memberships_had (remove us i) = ap (sum_by memberships_had) (cond-false (stays_listed v) (set us i v) (remove us i) gone) in
-      let sum = sum_by-remove memberships_had us i u within in
-      let same = ap memberships_had read in
-      let none = gone_has_none v gone in
-      omega arith)
-]
+counted_at = part_put memberships_had gone_has_none
 
 pub counted_behind : (us : List Participant) (v : Participant) → sum_by memberships_had (put_behind us v) ≡ sum_by memberships_had us + memberships_had v
 counted_behind us v = elim (cases_Bool (stays_listed v)) [

@@ -1,8 +1,6 @@
 -- The index of the list, after one of it has changed.
-use Rattle.std.proofs.Common.{◌≡◌, ℕ, ◌<◌, Bool, true, false, ◌&&◌, ◌||◌, ◌+◌, take, map, List, [], ◌∷◌, ◌++◌, length, get_or, refl, sym, ◌∙◌, ap, subst}
+use Rattle.std.proofs.Common.{◌≡◌, ℕ, ◌<◌, Bool, true, false, Option, ◌&&◌, ◌||◌, ◌+◌, take, map, List, [], ◌∷◌, ◌++◌, length, get_or, refl, sym, ◌∙◌, ap, subst}
 use Rattle.std.specs.Prelude.{◌==◌, eqb, filter, if◌then◌else◌}
-use Rattle.std.specs.Global.{Vec}
-use Rattle.std.specs.BTreeMap.{BTreeMap}
 use Rattle.std.specs.List.{list_any, starts_with}
 use Rattle.std.proofs.lemmas.List.{map-append, take_more}
 use Rattle.std.proofs.lemmas.List.Folds.{list_any-append}
@@ -40,9 +38,10 @@ same_index us vs old new of same is = subst (λ l. IsIndexOf l new) (sym is) (re
   waiting = λ q n j. same.waiting q n j ∙ of.waiting q n j;
 })
 
-pub same_listing : (us vs : List Participant) (numbers : BTreeMap (Vec ℕ) ℕ) (old new : MemberIndex) → IsListing us numbers old → IsSameIndex old new → vs ≡ us → IsListing vs numbers new
-same_listing us vs numbers old new kept same is =
-    subst (λ l. IsListing l numbers new) (sym is) (record { numbers = kept.numbers; index = same_index us us old new kept.index same refl })
+pub same_listing : (us vs : List Participant) (number : List ℕ → Option ℕ) (wildcards : ℕ) (old new : MemberIndex) → IsListing us number old wildcards → IsSameIndex old new → vs ≡ us →
+    IsListing vs number new wildcards
+same_listing us vs number wildcards old new kept same is =
+    subst (λ l. IsListing l number new wildcards) (sym is) (record { numbers = kept.numbers; index = same_index us us old new kept.index same refl; counted = kept.counted })
 
 -- who comes rests nowhere and waits for nothing
 pub pushed_index : (us vs : List Participant) (number : ℕ) (t : List ℕ) (index : MemberIndex) → IsIndexOf us index → vs ≡ us ++ new_participant number t ∷ [] → IsIndexOf vs index

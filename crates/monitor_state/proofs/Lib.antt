@@ -6,6 +6,7 @@ pub mod Counting
 pub mod KeptStates
 pub mod LegalLines
 pub mod TableRows
+pub mod WildcardCounts
 pub mod GoneOnes
 pub mod EachWord
 pub mod NumbersByName

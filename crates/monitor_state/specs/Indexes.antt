@@ -4,7 +4,7 @@ use Rattle.std.specs.List.{list_any}
 use Rattle.monitor_laws.specs.States.{Condition, Running, Waiting, Ended, AnyTask, OneOf, Participant}
 use Rattle.monitor_laws.specs.Faults.{phase_on}
 use Rattle.monitor_laws.specs.Stuck.{has_phase_below}
-use Rattle.monitor_members.specs.Noted.{is_noted}
+use Rattle.monitor_members.specs.Noted.{has_pair, is_noted}
 use Rattle.monitor_state.specs.declared.member_index.MemberIndex.{MemberIndex}
 
 -- a task runs in this condition
@@ -56,3 +56,7 @@ waits_above p n u = is_wait_above p n u.condition
 pub record IsIndexOf (us : List Participant) (index : MemberIndex) : Type 0 where
   pub resting : (q : List ℕ) (n j : ℕ) → is_noted index.resting q n j ≡ list_any (λ u. u.number == j && rests_at q n u) us
   pub waiting : (q : List ℕ) (n j : ℕ) → is_noted index.waiting q n j ≡ list_any (λ u. u.number == j && awaits_phase q n u) us
+
+-- these pairs are the phases on p of those who do not run, each with its number
+abbrev pub AreResting : List Participant → List ℕ → List (ℕ × ℕ) → Type 0
+AreResting us p pairs = (m k : ℕ) → has_pair pairs m k ≡ list_any (λ u. u.number == k && rests_at p m u) us

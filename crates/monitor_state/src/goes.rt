@@ -1,7 +1,7 @@
 // The list, where all of a process are gone.
 ghost use Rattle.std.specs.Prelude.{◌≡◌, ◌≤◌, IfOk, filter, length, map, sum_by, vec_len};
 ghost use Rattle.monitor_laws.specs.Faults.{most_memberships};
-ghost use Rattle.monitor_laws.specs.States.{gone_by, stays_listed};
+ghost use Rattle.monitor_laws.specs.States.{gone_by, is_live_wildcard, stays_listed};
 ghost use Rattle.monitor_state.specs.Indexes.{IsIndexOf};
 ghost use Rattle.monitor_state.specs.inside.Changes.{memberships_had};
 
@@ -39,6 +39,15 @@ pub(crate) fn index_of_gone(
         participant.note_gone(alloc, &mut index, beginning)?;
     }
     Ok(index)
+}
+
+/// How many of them are wildcards that are not gone.
+pub(crate) fn wildcards_of(list: &[ListedParticipant]) -> usize
+    ensures { result ≡ length (filter (λ u. is_live_wildcard u.condition) list.now) }
+{
+    list.iter()
+        .filter(|u| u.condition().is_live_wildcard())
+        .count()
 }
 
 /// How many memberships they have in all.

@@ -4,7 +4,7 @@ ghost use Rattle.std.specs.List.{list_any};
 ghost use Rattle.std.specs.Option.{option_copied, option_map};
 ghost use Rattle.monitor_laws.specs.Lines.{Announces, AreGone, PlaysAny, PlaysOneOf};
 ghost use Rattle.monitor_laws.specs.Faults.{faults_of, first_fault, has_no_room, is_wildcard_in, memberships_in, most_listed, most_memberships, participant_in};
-ghost use Rattle.monitor_laws.specs.States.{after_line, changed_at, is_there_as, nobody_named, task_numbers};
+ghost use Rattle.monitor_laws.specs.States.{after_line, changed_at, is_live_wildcard, is_there_as, nobody_named, task_numbers};
 ghost use Rattle.trace_lines.specs.Values.{line_value, place_value, said_value};
 ghost use Rattle.monitor_laws.specs.Lawful.{AreAscending, IsLawfulState};
 ghost use Rattle.monitor_state.specs.Taking.{taken_state};
@@ -77,10 +77,19 @@ impl MonitorState {
 
     /// The members of phasers that do not run, and the tasks that wait there, by phase.
     pub fn index(&self) -> &MemberIndex
-        ensures { IsIndexOf self.now.list result.now }
+        ensures members { IsIndexOf self.now.list result.now }
+        ensures lawful { IsLawfulState self.now }
     {
         let _ = &self.memberships;
         self.listing.index()
+    }
+
+    /// Whether a wildcard of the list is not gone.
+    pub fn has_wildcards(&self) -> bool
+        ensures { result ≡ list_any (λ u. is_live_wildcard u.condition) self.now.list }
+    {
+        let _ = &self.memberships;
+        self.listing.has_wildcards()
     }
 
     #[tactic(none)]

@@ -1,5 +1,5 @@
 -- Lines by which nobody becomes stuck and nobody is stuck no longer.
-use Rattle.std.specs.Prelude.{◌≡◌, ℕ, Bool, true, false, not, ◌&&◌, ◌||◌, ◌==◌, List, [], ◌∷◌, Contains, bytes_eq, length}
+use Rattle.std.specs.Prelude.{◌≡◌, ℕ, Bool, true, false, not, ◌&&◌, ◌||◌, ◌==◌, List, [], ◌∷◌, Contains, bytes_eq, length, nat_lt}
 use Rattle.std.specs.List.{list_any}
 use Rattle.monitor_laws.specs.States.{Condition, Running, Waiting, Ended, AnyTask, OneOf, Participant, is_live_task, is_live_wildcard, is_there_as}
 use Rattle.monitor_laws.specs.Stuck.{has_phase_below}
@@ -33,9 +33,21 @@ is_freed list Ended = false
 is_freed list AnyTask = list_any (λ u. runs_now u.condition) list
 is_freed list (OneOf names tasks) = list_any (runs_as_one_of tasks) list
 
+-- one that is not freed
+abbrev pub is_unfreed : List Participant → Participant → Bool
+is_unfreed list u = not (is_freed list u.condition)
+
 -- a member of p with a phase below n that is not freed
 abbrev pub is_unfreed_below : List Participant → List ℕ → ℕ → Participant → Bool
-is_unfreed_below list p n u = has_phase_below u p n && not (is_freed list u.condition)
+is_unfreed_below list p n u = has_phase_below u p n && is_unfreed list u
+
+-- one of the list that passes has this number
+abbrev pub passes_numbered : (Participant → Bool) → List Participant → ℕ → Bool
+passes_numbered test list k = list_any (λ u. test u && u.number == k) list
+
+-- of these pairs of a phase and a number, one has a phase below n and a number that passes
+abbrev pub passes_below : (ℕ → Bool) → ℕ → List (ℕ × ℕ) → Bool
+passes_below test n pairs = list_any (λ e. nat_lt e.0 n && test e.1) pairs
 
 -- who is in this condition is freed, or waits and all who keep it waiting are freed
 abbrev pub is_surely_out : List Participant → Condition → Bool

@@ -23,9 +23,13 @@ was_outside list known k number Ended = false
 was_outside list known k number AnyTask = list_any (λ u. runs_now u.condition) list
 was_outside list known k number (OneOf names tasks) = list_any (is_unstuck_of known tasks) list
 
--- a member of p with a phase below n that may have stood in a closed set, or is the task with number k
+-- one that may have stood in a closed set, or is the task with number k
+abbrev pub may_stand_inside : List Participant → List (ℕ × List ℕ) → ℕ → Participant → Bool
+may_stand_inside list known k v = not (was_outside list known k v.number v.condition)
+
+-- such a one that is a member of p with a phase below n
 abbrev pub is_inside_below : List Participant → List (ℕ × List ℕ) → ℕ → List ℕ → ℕ → Participant → Bool
-is_inside_below list known k p n v = has_phase_below v p n && not (was_outside list known k v.number v.condition)
+is_inside_below list known k p n v = has_phase_below v p n && may_stand_inside list known k v
 
 -- who has this number and is in this condition was not stuck, and may come into a closed set because u does
 abbrev pub needs_in : List Participant → List (ℕ × List ℕ) → Participant → ℕ → Condition → Bool

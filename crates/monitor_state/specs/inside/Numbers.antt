@@ -1,23 +1,21 @@
 -- The numbers of those who are there, by name.
-use Rattle.std.specs.Prelude.{◌≡◌, ℕ, true, false, List, Option, None, Some, Contains, find}
+use Rattle.std.specs.Prelude.{◌≡◌, ℕ, true, false, List, Option, None, Some, Contains, bytes_eq, find}
 use Rattle.std.specs.Global.{Vec}
-use Rattle.std.specs.BTreeMap.{BTreeMap, get_by}
-use Rattle.std.specs.Cmp.Lexicographic.{slice_cmp}
+use Rattle.std.specs.HashMap.{HashMap, get_by}
 use Rattle.std.specs.List.{list_any}
 use Rattle.std.specs.Option.{option_map}
-use Rattle.std.specs.Ordering.{nat_cmp}
 use Rattle.monitor_laws.specs.States.{Participant, is_there_as}
 use Rattle.monitor_laws.specs.Lawful.{AreAscending}
 use Rattle.monitor_state.specs.inside.FirstPlaces.{IsFirstAt}
 use Rattle.monitor_state.specs.inside.Players.{participant_number}
 
 -- the number that a name has
-abbrev pub number_by_name : BTreeMap (Vec ℕ) ℕ → List ℕ → Option ℕ
-number_by_name numbers t = get_by (λ k. slice_cmp nat_cmp t k.items) numbers
+abbrev pub number_by_name : {S : Type 0} → HashMap (Vec ℕ) ℕ S → List ℕ → Option ℕ
+number_by_name numbers t = get_by (λ k. bytes_eq t k.items) numbers
 
 -- each name has the number of who is there with it
-abbrev pub HasNumbersOf : List Participant → BTreeMap (Vec ℕ) ℕ → Type 0
-HasNumbersOf us numbers = (t : List ℕ) → number_by_name numbers t ≡ option_map participant_number (find (is_there_as t) us)
+abbrev pub HasNumbersOf : List Participant → (List ℕ → Option ℕ) → Type 0
+HasNumbersOf us number = (t : List ℕ) → number t ≡ option_map participant_number (find (is_there_as t) us)
 
 -- where who is there with the name t stands, if somebody is there with it
 abbrev pub IsPlaceOfName : List Participant → List ℕ → Option ℕ → Type 0

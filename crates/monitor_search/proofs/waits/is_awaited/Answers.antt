@@ -17,6 +17,6 @@ loop-membership-preserved c =
     let same = c.as_slice-membership-items.ensures ∙ c.memberships.ensures in
     let is : m ≡ get_or items i m = c.membership-item.is ∙ ap (λ (l : List (List ℕ × ℕ)). get_or l i m) same in
     let inside : i < length items = search rules in
-    let none : list_any (waits_above c.phaser.result.now c.phase.result) list ≡ false = sym (c.is_awaited_above.ensures list c.index-index.ensures) ∙ c.if-is_awaited_above.false in
+    let none : list_any (waits_above c.phaser.result.now c.phase.result) list ≡ false = sym (c.is_awaited_above.ensures list c.index-index.ensures.members) ∙ c.if-is_awaited_above.false in
     awaited_more list items i m inside is
     (ap (λ p. list_any (waits_above p m.1) list) (sym c.phaser.ensures) ∙ ap (λ n. list_any (waits_above c.phaser.result.now n) list) (sym c.phase.ensures) ∙ none) c.loop-membership.invariant

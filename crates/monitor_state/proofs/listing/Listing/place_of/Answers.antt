@@ -6,15 +6,19 @@ use Rattle.std.specs.Ordering.{nat_cmp}
 use Rattle.std.proofs.lemmas.List.Sorted.{answers_always}
 use Rattle.monitor_laws.specs.States.{is_there_as}
 use Rattle.monitor_state.specs.inside.FirstPlaces.{IsFirstAt}
-use Rattle.monitor_state.specs.inside.Numbers.{HasEachNameOnce}
-use Rattle.monitor_state.proofs.ByName.{never_none, nobody_by_name, ok_at, searched}
+use Rattle.monitor_state.specs.inside.Numbers.{HasEachNameOnce, number_by_name}
+use Rattle.monitor_state.proofs.ByName.{first_there, never_none, nobody_by_name, ok_at, searched}
 use Rattle.monitor_state.proofs.listing.Listing.place_of.Goals as goal
+
+pub returns-then-is_there_at-clause-at : goal.returns-then-is_there_at-clause-at
+returns-then-is_there_at-clause-at c =
+    first_there c.args.self.now c.requires c.args.t.now c.self.inside.last (c.is_there_at.ensures.within c.if-is_there_at.true) (c.is_there_at.ensures.there c.if-is_there_at.true)
 
 pub returns-in-None-clause-none : goal.returns-in-None-clause-none
 returns-in-None-clause-none c =
     let order : HasEachNameOnce c.self.inside.list.items = subst HasEachNameOnce (sym c.self.view_is) c.requires in
     subst (λ us. list_any (is_there_as c.args.t.now) us ≡ false) c.self.view_is
-    (nobody_by_name c.self.inside.list.items order c.self.inside.numbers c.self.invariant.numbers c.args.t.now (sym c.number_by_name.ensures ∙ c.in-None.is))
+    (nobody_by_name c.self.inside.list.items order (number_by_name c.self.inside.numbers) c.self.invariant.numbers c.args.t.now (sym c.number_by_name.ensures ∙ c.in-None.is))
 
 pub returns-in-Some-clause-at : goal.returns-in-Some-clause-at
 returns-in-Some-clause-at c =
@@ -22,7 +26,7 @@ returns-in-Some-clause-at c =
     let facts = c.binary_search_by_key.ensures in
     let by_number = facts.position (λ u. u.number) (answers_always _ _ _ (λ f a r g called. search rules)) in
     let found =
-    searched c.self.inside.list.items order c.self.inside.numbers c.self.invariant.numbers c.args.t.now c.in-Some.number (sym c.number_by_name.ensures ∙ c.in-Some.is) c.binary_search_by_key.result
+    searched c.self.inside.list.items order (number_by_name c.self.inside.numbers) c.self.invariant.numbers c.args.t.now c.in-Some.number (sym c.number_by_name.ensures ∙ c.in-Some.is) c.binary_search_by_key.result
     (subst (λ us. IsSearchInRange c.binary_search_by_key.result (length us)) c.deref.ensures.value facts.bound)
     (subst (λ us. IsBinarySearchResult (λ u. nat_cmp u.number c.in-Some.number) us c.binary_search_by_key.result) c.deref.ensures.value by_number) in
     subst (λ (o : Option ℕ). IfSome o (IsFirstAt (is_there_as c.args.t.now) c.args.self.now)) (sym c.ok.ensures.value)
@@ -34,7 +38,7 @@ returns-in-Some-clause-none c =
     let facts = c.binary_search_by_key.ensures in
     let by_number = facts.position (λ u. u.number) (answers_always _ _ _ (λ f a r g called. search rules)) in
     let found =
-    searched c.self.inside.list.items order c.self.inside.numbers c.self.invariant.numbers c.args.t.now c.in-Some.number (sym c.number_by_name.ensures ∙ c.in-Some.is) c.binary_search_by_key.result
+    searched c.self.inside.list.items order (number_by_name c.self.inside.numbers) c.self.invariant.numbers c.args.t.now c.in-Some.number (sym c.number_by_name.ensures ∙ c.in-Some.is) c.binary_search_by_key.result
     (subst (λ us. IsSearchInRange c.binary_search_by_key.result (length us)) c.deref.ensures.value facts.bound)
     (subst (λ us. IsBinarySearchResult (λ u. nat_cmp u.number c.in-Some.number) us c.binary_search_by_key.result) c.deref.ensures.value by_number) in
     subst (λ (o : Option ℕ). IfNone o (list_any (is_there_as c.args.t.now) c.args.self.now ≡ false)) (sym c.ok.ensures.value)
