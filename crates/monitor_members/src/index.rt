@@ -3,7 +3,7 @@ ghost use Rattle.std.specs.Prelude.{◌≡◌, ◌<◌, ◌&&◌, ◌||◌, ◌=
 ghost use Rattle.std.specs.Option.{option_copied};
 ghost use Rattle.monitor_members.specs.Noted.{has_pair, is_here, is_noted, pairs_at, pairs_of};
 
-use crate::pairs::{has_above, has_below, one_pair, put_pair, take_pair};
+use crate::pairs::{has_above, one_pair, put_pair, take_pair};
 use std::alloc::{AllocError, Global};
 use std::collections::{BTreeSet, HashMap};
 
@@ -75,17 +75,6 @@ impl PhaserIndex {
         ensures { pairs_of (option_copied result) ≡ pairs_at self.now.by_phaser p.now }
     {
         self.by_phaser.get(p)
-    }
-
-    /// Whether somebody is noted at a phase of phaser p below n.
-    pub fn has_below(&self, p: &[u8], n: u32) -> bool
-        ensures some { result ≡ true → (m : ℕ) × (k : ℕ) × (m < n) × (is_noted self.now p.now m k ≡ true) }
-        ensures none { result ≡ false → (m k : ℕ) → m < n → is_noted self.now p.now m k ≡ false }
-    {
-        match self.pairs_at(p) {
-            None => false,
-            Some(pairs) => has_below(pairs, n),
-        }
     }
 
     /// Whether somebody is noted at a phase of phaser p above n.

@@ -30,17 +30,6 @@ pub(crate) fn one_pair(alloc: Global, m: u32, k: u64) -> Result<BTreeSet<(u32, u
     Ok(pairs)
 }
 
-/// Whether a number stands at a phase below n.
-pub(crate) fn has_below(pairs: &BTreeSet<(u32, u64)>, n: u32) -> bool
-    ensures some { result ≡ true → (m : ℕ) × (k : ℕ) × (m < n) × (has_pair pairs.now.keys m k ≡ true) }
-    ensures none { result ≡ false → (m k : ℕ) → m < n → has_pair pairs.now.keys m k ≡ false }
-{
-    match pairs.first() {
-        None => false,
-        Some(pair) => pair.0 < n,
-    }
-}
-
 /// Whether a number stands at a phase above n.
 pub(crate) fn has_above(pairs: &BTreeSet<(u32, u64)>, n: u32) -> bool
     ensures some { result ≡ true → (m : ℕ) × (k : ℕ) × (n < m) × (has_pair pairs.now.keys m k ≡ true) }

@@ -1,6 +1,5 @@
 -- Where the list has no wildcard that is not gone, nobody passes a test that only such pass.
 use Rattle.std.proofs.Common.{◌≡◌, Bool, true, false, List, refl, sym, inl, inr}
-use Rattle.std.specs.Prelude.{Contains}
 use Rattle.std.specs.List.{list_any}
 use Rattle.std.proofs.lemmas.Bool.{cases_Bool}
 use Rattle.monitor_laws.specs.States.{Condition, Running, Waiting, Ended, AnyTask, OneOf, Participant, is_live_wildcard}

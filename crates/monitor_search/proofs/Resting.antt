@@ -1,5 +1,5 @@
 -- Whether somebody who does not run stands below a phase and passes a test, by the numbers of those who do not run.
-use Rattle.std.proofs.Common.{◌≡◌, ◌==◌, ℕ, ◌<◌, ◌≤◌, Bool, true, false, not, ◌&&◌, ◌||◌, List, [], ◌∷◌, refl, sym, ◌∙◌, ap, subst, inl, inr, arith}
+use Rattle.std.proofs.Common.{◌≡◌, ◌==◌, ℕ, ◌≤◌, Bool, true, false, not, ◌&&◌, ◌||◌, List, [], ◌∷◌, refl, sym, ◌∙◌, ap, subst, inl, inr, arith}
 use Rattle.std.specs.Prelude.{Contains, nat_lt}
 use Rattle.std.specs.List.{list_any}
 use Rattle.std.specs.List.Sorted.{IsStrictlySortedBy}
@@ -13,12 +13,9 @@ use Rattle.monitor_laws.proofs.Filters.{any_from, any_is}
 use Rattle.monitor_members.specs.Noted.{has_pair}
 use Rattle.monitor_members.proofs.PairSets.{pair_cmp}
 use Rattle.monitor_state.specs.Indexes.{AreResting, is_running, rests_at}
-use Rattle.monitor_state.proofs.Beyond.{rests_from, rests_to}
+use Rattle.monitor_state.proofs.Beyond.{less_tested, rests_from, rests_to}
 use Rattle.monitor_search.specs.inside.Leaving.{is_freed, passes_below, passes_numbered}
 use Rattle.monitor_search.specs.inside.Waits.{was_outside}
-
-less_tested : (m n : ℕ) → m < n → nat_lt m n ≡ true
-less_tested m n less = grind (arith, nat_tests)
 
 not_less : (m n k : ℕ) → m ≤ k → nat_lt m n ≡ false → nat_lt k n ≡ false
 not_less m n k le off = grind (arith, nat_tests)

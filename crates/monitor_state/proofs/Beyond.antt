@@ -8,7 +8,7 @@ use Rattle.std.proofs.lemmas.List.Folds.{Any-from_list_any, list_any_at}
 use Rattle.monitor_laws.specs.States.{Condition, Running, Waiting, Ended, AnyTask, OneOf, Participant}
 use Rattle.monitor_laws.specs.Faults.{phase_on}
 use Rattle.monitor_laws.specs.Stuck.{has_phase_below, is_phase_below}
-use Rattle.monitor_state.specs.Indexes.{is_phase, is_running, is_wait_above, is_wait_for, rests_at, rests_below, waits_above, awaits_phase}
+use Rattle.monitor_state.specs.Indexes.{is_phase, is_running, is_wait_above, is_wait_for, rests_at, waits_above, awaits_phase}
 
 self_number : (k : ℕ) → (k == k) ≡ true
 self_number k = grind (arith, nat_tests)
@@ -16,7 +16,7 @@ self_number k = grind (arith, nat_tests)
 same_phase : (m n : ℕ) → (m == n) ≡ true → m ≡ n
 same_phase m n same = grind (arith, nat_tests)
 
-less_tested : (m n : ℕ) → m < n → nat_lt m n ≡ true
+pub less_tested : (m n : ℕ) → m < n → nat_lt m n ≡ true
 less_tested m n less = grind (arith, nat_tests)
 
 module _ (us : List Participant) (noted : ℕ → ℕ → Bool) (at : ℕ → Participant → Bool) (of : (m k : ℕ) → noted m k ≡ list_any (λ u. u.number == k && at m u) us)
@@ -50,6 +50,10 @@ below_phase (Some k) n below = (k, ltb-true k n below, self_number k)
 both : (a b : Bool) → a ≡ true → b ≡ true → (a && b) ≡ true
 both true b on too = too
 both false b on too = on
+
+-- does not run, and is a member of p with a phase below n
+abbrev pub rests_below : List ℕ → ℕ → Participant → Bool
+rests_below p n u = not (is_running u.condition) && has_phase_below u p n
 
 pub rests_to : (p : List ℕ) (n : ℕ) (u : Participant) (m : ℕ) → rests_at p m u ≡ true → m < n → rests_below p n u ≡ true
 rests_to p n u m rests less =

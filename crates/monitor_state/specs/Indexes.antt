@@ -3,7 +3,6 @@ use Rattle.std.specs.Prelude.{◌≡◌, ℕ, Bool, true, false, not, ◌&&◌, 
 use Rattle.std.specs.List.{list_any}
 use Rattle.monitor_laws.specs.States.{Condition, Running, Waiting, Ended, AnyTask, OneOf, Participant}
 use Rattle.monitor_laws.specs.Faults.{phase_on}
-use Rattle.monitor_laws.specs.Stuck.{has_phase_below}
 use Rattle.monitor_members.specs.Noted.{has_pair, is_noted}
 use Rattle.monitor_state.specs.declared.member_index.MemberIndex.{MemberIndex}
 
@@ -35,10 +34,6 @@ rests_at q n u = not (is_running u.condition) && is_phase (phase_on u q) n
 -- a task that waits for phase n of q
 abbrev pub awaits_phase : List ℕ → ℕ → Participant → Bool
 awaits_phase q n u = is_wait_for q n u.condition
-
--- does not run, and is a member of p with a phase below n
-abbrev pub rests_below : List ℕ → ℕ → Participant → Bool
-rests_below p n u = not (is_running u.condition) && has_phase_below u p n
 
 -- a task waits for a phase of p above n in this condition
 abbrev pub is_wait_above : List ℕ → ℕ → Condition → Bool

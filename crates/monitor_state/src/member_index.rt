@@ -17,7 +17,7 @@ impl MemberIndex {
     ghost use Rattle.std.specs.Option.{option_copied};
     ghost use Rattle.monitor_laws.specs.States.{Participant as Listed};
     ghost use Rattle.monitor_members.specs.Noted.{pairs_of};
-    ghost use Rattle.monitor_state.specs.Indexes.{AreResting, IsIndexOf, rests_below, waits_above};
+    ghost use Rattle.monitor_state.specs.Indexes.{AreResting, IsIndexOf, waits_above};
 
     /// Nobody.
     pub(crate) fn new(alloc: Global) -> MemberIndex
@@ -27,13 +27,6 @@ impl MemberIndex {
             resting: PhaserIndex::new(alloc),
             waiting: PhaserIndex::new(alloc),
         }
-    }
-
-    /// Whether somebody who does not run is a member of phaser p with a phase below n.
-    pub fn rests_below(&self, p: &[u8], n: u32) -> bool
-        ensures { (us : List Listed) → IsIndexOf us self.now → result ≡ list_any (rests_below p.now n) us }
-    {
-        self.resting.has_below(p, n)
     }
 
     /// The phases that those who do not run have on phaser p, each with a number, in their order; none where all its members run.

@@ -1,5 +1,5 @@
 -- What comes behind a refusal in an avoided run that has ended.
-use Rattle.std.proofs.Common.{◌≡◌, ◌≢◌, ◌∙◌, ◌++◌, ◌≤◌, ℕ, Bool, true, false, Option, Some, None, List, [], ◌∷◌, ap, arith, inl, inr, length, refl, subst, sym}
+use Rattle.std.proofs.Common.{◌≡◌, ◌≢◌, ◌∙◌, ◌++◌, ◌≤◌, ℕ, true, false, Option, Some, None, List, [], ◌∷◌, ap, arith, inl, inr, refl, subst, sym}
 use Rattle.std.specs.Prelude.{◌↔◌, ◌⊎◌, ◌==◌, Contains, IsSome}
 use Rattle.std.proofs.lemmas.Bool.{cases_Bool, cases_eq, eqb-true, false≢true, or_cases}
 use Rattle.armus_base.specs.declared.ending.TaskEnd.TheVariants as ends
@@ -13,7 +13,7 @@ use Rattle.armus_base.specs.calls.FinalLaws.{Tells as EndTells}
 use Rattle.armus_base.specs.Finals.{end_by, end_of}
 use Rattle.armus_base.specs.Plans.{Action, Advances, Aim, Blocks, Drops, Forks, Makes, Passes, Plan, Refuses, Registers}
 use Rattle.armus_base.specs.Runs.{IsLegalRun, IsMaximal, state_after}
-use Rattle.armus_base.specs.States.{IsActive, IsLegal, IsMember, IsReached, Phases, State, Step, after, awaited, if_published, next_phase, updated, with_phase}
+use Rattle.armus_base.specs.States.{IsActive, IsLegal, IsReached, Phases, State, Step, after, awaited, if_published, next_phase, with_phase}
 use Rattle.armus_base.proofs.Elements.{Contains-cons_cases, Contains-head, Contains-tail, nothing_in_nil}
 use Rattle.armus_base.proofs.EndsTell.{ends_tell}
 use Rattle.armus_base.proofs.Members.{member_made, only_passes, published_member}

@@ -5,7 +5,7 @@ use Rattle.std.proofs.lemmas.Bool.{cases_Bool, cases_lt, false≢true}
 use Rattle.std.proofs.lemmas.List.{get_or_past}
 use Rattle.std.proofs.lemmas.Option.{slice_get-get_or, slice_get_past}
 use Rattle.armus_base.specs.declared.ending.TaskEnd.TheVariants.{Done}
-use Rattle.armus_base.specs.AgreementLaws.{WaitsForEnded, WaitsForTask}
+use Rattle.armus_base.specs.AgreementLaws.{WaitsForEnded}
 use Rattle.armus_base.specs.AgreementLaws as ended
 use Rattle.armus_base.specs.CheckedPlans.{IsCheckedPlan}
 use Rattle.armus_base.specs.Finals.{end_of}

@@ -1,12 +1,11 @@
 -- The explanation of a clock text, and the report of `clock`.
-use Rattle.std.proofs.Common.{◌≡◌, ◌∙◌, ◌++◌, ◌+◌, ℕ, suc, Bool, true, false, Option, Some, None, List, [], ◌∷◌, ap, append_assoc, arith, cond, inl, inr, length, refl, subst, sym}
-use Rattle.std.specs.Prelude.{◌↔◌, IsSome, Ok, codes, count_by, decimal, if◌then◌else◌, slice_get, slice_index_or}
+use Rattle.std.proofs.Common.{◌≡◌, ◌∙◌, ◌++◌, ◌+◌, ℕ, suc, Bool, true, false, Some, None, List, [], ◌∷◌, ap, append_assoc, arith, cond, inl, inr, length, refl, subst, sym}
+use Rattle.std.specs.Prelude.{◌↔◌, IsSome, Ok, codes, count_by, decimal, if◌then◌else◌, slice_get}
 use Rattle.std.proofs.lemmas.List.Sums.{sum_by-cons}
 use Rattle.armus_base.specs.declared.ending.TaskEnd.{TaskEnd}
 use Rattle.armus_base.specs.declared.ending.TaskEnd.TheVariants as ends
 use Rattle.armus_base.specs.declared.event.Event.{Event}
-use Rattle.armus_base.specs.CheckedPlans.{IsCheckedPlan}
-use Rattle.armus_base.specs.Deadlocks.{IsDeadBy, IsDeadIn}
+use Rattle.armus_base.specs.Deadlocks.{IsDeadBy}
 use Rattle.armus_base.specs.Finals.{end_by, end_of, final_of}
 use Rattle.armus_base.specs.Places.{state_at}
 use Rattle.armus_base.specs.Plans.{Plan}

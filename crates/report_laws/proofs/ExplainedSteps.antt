@@ -1,5 +1,5 @@
 -- The steps of a text end with its explanation.
-use Rattle.std.proofs.Common.{◌≡◌, ◌∙◌, ◌++◌, ℕ, ap}
+use Rattle.std.proofs.Common.{◌∙◌, ◌++◌, ℕ, ap}
 use Rattle.program_io.specs.Texts.{Text}
 use Rattle.explain.specs.ClockExplained.{IsClockExplanationOf}
 use Rattle.explain.specs.ClockStepped.{AreClockStepsOf}

@@ -1,9 +1,8 @@
 -- What an explanation of the serial avoided run tells of a refusal is so.
-use Rattle.std.proofs.Common.{◌≡◌, ◌∙◌, ◌++◌, ◌<◌, ℕ, Bool, Option, Some, None, List, ◌∷◌, arith, length, refl, subst, sym}
-use Rattle.std.specs.Prelude.{◌↔◌, Contains, IsSome, option_map}
+use Rattle.std.proofs.Common.{◌≡◌, ◌∙◌, ◌++◌, ℕ, Bool, Option, Some, None, List, ◌∷◌, arith, length, refl, subst, sym}
+use Rattle.std.specs.Prelude.{Contains, IsSome, option_map}
 use Rattle.std.proofs.lemmas.Bool.{false≢true}
 use Rattle.std.proofs.lemmas.Option.{slice_get_within}
-use Rattle.armus_base.specs.declared.event.Event.{Event}
 use Rattle.armus_base.specs.declared.ids.TaskId.{TaskId}
 use Rattle.armus_base.specs.Avoidance.{IsAvoidedRun}
 use Rattle.armus_base.specs.CheckedPlans.{IsCheckedPlan}
@@ -11,7 +10,7 @@ use Rattle.armus_base.specs.calls.FinalLaws.{IsOfPlan}
 use Rattle.armus_base.specs.Deadlocks.{IsAtPhase, IsDeadlockedSet, IsPublishedOn}
 use Rattle.armus_base.specs.AgreementLaws.{has_task}
 use Rattle.armus_base.specs.Finals.{final_of}
-use Rattle.armus_base.specs.Plans.{Action, Aim, Drops, Passes, Plan, Refuses}
+use Rattle.armus_base.specs.Plans.{Aim, Plan, Refuses}
 use Rattle.armus_base.specs.Runs.{IsMaximal, state_after}
 use Rattle.armus_base.specs.States.{IsReached, Phases, State, Step, if_published}
 use Rattle.armus_base.proofs.Below.{given_from, given_is}

@@ -1,30 +1,27 @@
 -- How a report says that tasks stand, and how they stand in its state.
 use Rattle.std.proofs.Common.{◌≡◌, ◌∙◌, ◌<◌, ℕ, Bool, true, false, Option, Some, None, List, ap, inl, inr, length, refl, subst, sym}
-use Rattle.std.specs.Prelude.{◌↔◌, ◌⊎◌, Contains, IsSome, slice_get, slice_index_or}
+use Rattle.std.specs.Prelude.{◌↔◌, Contains, IsSome, slice_get, slice_index_or}
 use Rattle.std.proofs.lemmas.Option.{get_or_from_slice_get, slice_get-get_or, slice_get_within}
 use Rattle.armus_base.specs.declared.ending.TaskEnd.{TaskEnd}
 use Rattle.armus_base.specs.declared.ending.TaskEnd.TheVariants as ends
 use Rattle.armus_base.specs.declared.event.Event.{Event}
-use Rattle.armus_base.specs.declared.ids.TaskId.{TaskId}
 use Rattle.armus_base.specs.declared.status.Dead.{Dead as NamedTask}
 use Rattle.armus_base.specs.declared.status.Status.{Status}
 use Rattle.armus_base.specs.CheckedPlans.{IsCheckedPlan}
-use Rattle.armus_base.specs.Deadlocks.{IsDeadBy, IsDeadIn, IsListedOn, IsPublishedOn}
+use Rattle.armus_base.specs.Deadlocks.{IsDeadBy, IsDeadIn, IsPublishedOn}
 use Rattle.armus_base.specs.calls.FinalLaws.{AreStatuses, IsOfPlan}
 use Rattle.armus_base.specs.Finals.{end_by, end_of, final_of, is_awaited}
 use Rattle.armus_base.specs.Plans.{Plan}
-use Rattle.armus_base.specs.Runs.{IsFinal, IsLegalRun, state_after}
+use Rattle.armus_base.specs.Runs.{IsLegalRun, state_after}
 use Rattle.armus_base.specs.States.{State, Step}
 use Rattle.armus_base.proofs.DeadByStatuses.{dead_by_final, run_is_of_plan}
 use Rattle.armus_base.proofs.EndsTell.{ends_are}
 use Rattle.armus_base.proofs.NobodyIsDead.{avoided_legal}
 use Rattle.armus_base.proofs.StatusesAre.{statuses_are}
-use Rattle.adaptive.specs.declared.analysis.Wanted.{Wanted}
 use Rattle.report.specs.NamedDead.{AreTheDead}
 use Rattle.report.specs.Standings.{AreStandings, Stands}
 use Rattle.report.specs.declared.standing.Standing.{Standing}
 use Rattle.report.specs.declared.standing.Standing.TheVariants.{Done, Dead, Held, Refused, Unforked}
-use Rattle.program_io.specs.Texts.{Text}
 use Rattle.program_io.proofs.OnePlan.{checked_plan}
 use Rattle.armus_top.proofs.OneClockPlan.{checked_clock_plan}
 use Rattle.report_laws.specs.ReportedStandings.{AreStandingsIn, IsStandingIn, StandAsReported}

@@ -1,6 +1,6 @@
 -- What an explanation tells of each task where the run has ended.
-use Rattle.std.proofs.Common.{◌≡◌, ◌∙◌, ◌++◌, ◌<◌, ℕ, Bool, true, false, Option, Some, None, List, [], ◌∷◌, ap, append_assoc, arith, inl, inr, length, refl, subst, sym}
-use Rattle.std.specs.Prelude.{◌↔◌, ◌⊎◌, Contains, IsSome, flat_map, map, option_map, slice_get, slice_index_or}
+use Rattle.std.proofs.Common.{◌≡◌, ◌∙◌, ◌++◌, ◌<◌, ℕ, Bool, true, Option, Some, None, List, [], ◌∷◌, ap, inl, inr, length, refl, subst, sym}
+use Rattle.std.specs.Prelude.{◌⊎◌, Contains, flat_map, map, option_map, slice_get, slice_index_or}
 use Rattle.std.proofs.lemmas.Bool.{false≢true}
 use Rattle.std.proofs.lemmas.List.Elements.{Contains-append_cases, Contains-append_left, Contains-append_right}
 use Rattle.std.proofs.lemmas.Option.{slice_get-get_or}

@@ -1,5 +1,5 @@
 -- The explanation of the serial avoided run of a text, and the report of `avoid` with one worker.
-use Rattle.std.specs.Prelude.{◌≡◌, ◌↔◌, ◌<◌, ◌++◌, ℕ, AllPairs, Contains, List, Option, Some, slice_get}
+use Rattle.std.specs.Prelude.{◌≡◌, ◌↔◌, ◌<◌, ◌++◌, ℕ, AllPairs, Contains, List, Some, slice_get}
 use Rattle.armus_base.specs.declared.event.Event.{Event}
 use Rattle.armus_base.specs.declared.ids.TaskId.{TaskId}
 use Rattle.adaptive.specs.declared.analysis.Wanted.{Wanted}

@@ -4,7 +4,7 @@ use Rattle.armus_base.specs.declared.event.Event.{Event}
 use Rattle.armus_base.specs.declared.ids.TaskId.{TaskId}
 use Rattle.armus_base.specs.AgreementLaws.{has_task}
 use Rattle.armus_base.specs.Deadlocks.{IsAtPhase, IsDeadlockedSet, IsPublishedOn}
-use Rattle.armus_base.specs.Plans.{Action, Aim, Drops, Passes, Plan, Refuses}
+use Rattle.armus_base.specs.Plans.{Aim, Drops, Passes, Plan, Refuses}
 use Rattle.armus_base.specs.Runs.{state_after}
 use Rattle.armus_base.specs.States.{Step, if_published}
 use Rattle.explain_avoid.specs.AvoidedExplanations.{IsAvoidedExplanation}

@@ -1,5 +1,5 @@
 -- What an explanation tells of each task where the run has ended.
-use Rattle.std.specs.Prelude.{◌≡◌, ◌↔◌, ◌<◌, ◌++◌, ℕ, Contains, List, Option, flat_map, length, slice_get}
+use Rattle.std.specs.Prelude.{◌≡◌, ◌↔◌, ◌<◌, ◌++◌, ℕ, Contains, List, flat_map, length, slice_get}
 use Rattle.armus_base.specs.declared.ending.TaskEnd.TheVariants.{Done}
 use Rattle.armus_base.specs.declared.event.Event.{Event}
 use Rattle.armus_base.specs.declared.ids.TaskId.{TaskId}
@@ -11,8 +11,7 @@ use Rattle.armus_base.specs.Plans.{Plan}
 use Rattle.armus_base.specs.Runs.{state_after}
 use Rattle.armus_base.specs.States.{State}
 use Rattle.explain_deadlock.specs.ImpederLines.{group_line, rest_line}
-use Rattle.explain_deadlock.specs.Paragraphs.{lines_of_impeders, own_lines, sayings_of, tasks_of}
-use Rattle.explain_deadlock.specs.Verdicts.{shown_of}
+use Rattle.explain_deadlock.specs.Paragraphs.{lines_of_impeders, own_lines, tasks_of}
 use Rattle.explain_tasks.specs.Facts.{FactsValue, facts_of}
 use Rattle.explain_tasks.specs.Sayings.{Said, own_said}
 use Rattle.program_io.specs.Texts.{Text}

@@ -1,5 +1,5 @@
 -- The cycle of a report is the proof of a deadlock, and the graph that is wanted changes the last line alone.
-use Rattle.std.specs.Prelude.{◌≡◌, ◌++◌, ℕ, []}
+use Rattle.std.specs.Prelude.{◌≡◌, ◌++◌, ℕ}
 use Rattle.armus_base.specs.CheckedPlans.{IsCheckedPlan}
 use Rattle.armus_base.specs.Plans.{Plan}
 use Rattle.adaptive.specs.declared.analysis.Used.{Used}

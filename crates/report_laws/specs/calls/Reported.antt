@@ -1,5 +1,5 @@
 -- The other reports, and live lines: each says how tasks stand in its state.
-use Rattle.std.specs.Prelude.{◌≡◌, ◌↔◌, ℕ, Contains}
+use Rattle.std.specs.Prelude.{◌↔◌, ℕ, Contains}
 use Rattle.armus_base.specs.declared.status.Dead.{Dead}
 use Rattle.armus_base.specs.Deadlocks.{IsDeadIn, IsPublishedOn}
 use Rattle.armus_base.specs.Plans.{Plan}

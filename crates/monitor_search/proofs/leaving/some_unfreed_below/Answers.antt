@@ -1,8 +1,8 @@
-use Rattle.std.proofs.Common.{◌≡◌, ◌∙◌, ap, subst, [], sym}
+use Rattle.std.proofs.Common.{◌∙◌, subst, []}
 use Rattle.std.specs.Option.{option_copied}
 use Rattle.monitor_members.specs.Noted.{pairs_of}
 use Rattle.monitor_state.specs.Indexes.{AreResting}
-use Rattle.monitor_search.specs.inside.Leaving.{is_unfreed, passes_below, passes_numbered}
+use Rattle.monitor_search.specs.inside.Leaving.{is_unfreed}
 use Rattle.monitor_search.proofs.Resting.{resting_told, unfreed_rests}
 use Rattle.monitor_search.proofs.leaving.some_unfreed_below.Goals as goal
 

@@ -1,4 +1,4 @@
-use Rattle.std.proofs.Common.{◌≡◌, ◌∙◌, ap, subst, [], sym}
+use Rattle.std.proofs.Common.{◌∙◌, subst, []}
 use Rattle.std.specs.Option.{option_copied}
 use Rattle.monitor_members.specs.Noted.{pairs_of}
 use Rattle.monitor_state.specs.Indexes.{AreResting}
