@@ -8,7 +8,7 @@ use Rattle.std.proofs.lemmas.List.Sums.{sum_by-append}
 use Rattle.source_map.specs.TextPlaces.{is_line_feed}
 use Rattle.program_io.specs.Texts.{Text}
 use Rattle.explain.specs.Shortened.{are_few_paragraphs, displayed_byte, displayed_bytes, displayed_up_to, ends_paragraph, last_passing, left_out_line, line_total, narrowed_from, room_behind, shortened}
-use Rattle.explain.specs.calls.Laws.{IsShownShort}
+use Rattle.explain.specs.ShownShort.{IsShownShort}
 use Rattle.explain.proofs.Fronts.{ended_by, one_line}
 
 both_lines : (xs ys : Text) → line_total (xs ++ ys) ≡ line_total xs + line_total ys

@@ -1,6 +1,7 @@
 -- What a reader of the repository has to believe.
 pub mod Requests
 pub mod Shortened
+pub mod ShownShort
 pub mod Explained
 pub mod Stepped
 pub mod Avoided

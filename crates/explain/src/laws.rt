@@ -1,7 +1,8 @@
 // Laws of the outputs of a text, as contracts of functions with an empty body.
 ghost use Rattle.explain.specs.ClockExplained.{AnswersClock};
 ghost use Rattle.explain.specs.Outputs.{AnswersAvoided, AnswersStepsOf, AnswersText};
-ghost use Rattle.explain.specs.calls.Laws.{EachHasOutput, IsOneOutput, IsShownShort};
+ghost use Rattle.explain.specs.ShownShort.{IsShownShort};
+ghost use Rattle.explain.specs.calls.Laws.{EachHasOutput, IsOneOutput};
 
 /// A text has one whole output at most, with one status; and it has one: it is explained, or refused.
 pub fn one_output()
