@@ -10,7 +10,7 @@ public class BarrierAndMonitor {
                 await(meet);
             }
         }, "holder").start();
-        Thread.sleep(100);
+        while (meet.getNumberWaiting() == 0) Thread.yield();
         new Thread(() -> {
             synchronized (account) {
                 await(meet);
