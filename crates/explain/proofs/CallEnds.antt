@@ -10,7 +10,7 @@ use Rattle.program_io.proofs.EndsFinished.{ends_finished}
 use Rattle.program_io.specs.calls.ExitNumbers.{number_of_status}
 use Rattle.explain.specs.declared.answer.Answer.{Answer}
 use Rattle.explain.specs.Languages.{is_of_clocks}
-use Rattle.explain.specs.Outputs.{AnswersStepsIn, IsExplainCall, MayWrite, text_limit}
+use Rattle.explain.specs.Outputs.{AnswersStepsIn, AnswersTextIn, IsExplainCall, MayWrite, text_limit}
 use Rattle.explain.specs.Requests.{Asked, Form, avoided, clocks, explanation, help, nothing, steps, version}
 use Rattle.explain.specs.declared.answer.WantedOutput.{WantedOutput}
 use Rattle.explain.specs.declared.answer.WantedOutput.TheVariants.{Explanation}
@@ -23,6 +23,13 @@ small : (b : Bool) (status : ℕ) → status ≡ (if b then 1 else 0) → status
 small true status is = omega (arith, is)
 small false status is = omega (arith, is)
 
+-- an explanation has a status of 3 at most
+at_most_three_told : (of_clocks : Bool) (form : Form) (text : Text) (status : ℕ) (lines : Text) → AnswersTextIn of_clocks form text status lines → status ≤ 3
+at_most_three_told true form text status lines (inl is) = small is.waits status is.status_is
+at_most_three_told true form text status lines (inr (three, refused)) = omega (arith, three)
+at_most_three_told false form text status lines (inl is) = small is.waits status is.status_is
+at_most_three_told false form text status lines (inr (three, refused)) = omega (arith, three)
+
 -- an output with steps has a status of 3 at most
 at_most_three_in : (of_clocks : Bool) (form : Form) (text : Text) (status : ℕ) (lines : Text) → AnswersStepsIn of_clocks form text status lines → status ≤ 3
 at_most_three_in true form text status lines (inl is) = small is.waits status is.status_is
@@ -32,8 +39,7 @@ at_most_three_in false form text status lines (inr (three, refused)) = omega (ar
 
 -- a whole output has a status of 3 at most
 at_most_three : (asked : Asked) (src : Passage) (status : ℕ) (lines : Text) → MayWrite asked src status lines → status ≤ 3
-at_most_three (explanation form) src status lines (inl (text, has, inl is)) = small is.waits status is.status_is
-at_most_three (explanation form) src status lines (inl (text, has, inr (three, refused))) = omega (arith, three)
+at_most_three (explanation form) src status lines (inl (text, has, is)) = at_most_three_told (is_of_clocks form.file text) form text status lines is
 at_most_three (explanation form) src status lines (inr (much, three, line)) = omega (arith, three)
 at_most_three (steps form) src status lines (inl (text, has, is)) = at_most_three_in (is_of_clocks form.file text) form text status lines is
 at_most_three (steps form) src status lines (inr (much, three, line)) = omega (arith, three)

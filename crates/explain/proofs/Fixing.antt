@@ -16,7 +16,7 @@ use Rattle.program_io.specs.declared.text_limit.TheConstants.{MAX_TEXT_BYTES}
 use Rattle.program_io.proofs.Inputs.{not_long, not_more, rose_from, same_input}
 use Rattle.program_io.proofs.OnePlan.{checked_plan, one_plan, plan_or_fault}
 use Rattle.explain.specs.Explained.{EndsSo, IsExplanationOf, IsEndedRunOf, SomeWaits}
-use Rattle.explain.specs.Outputs.{AnswersAvoided, AnswersStepsIn, AnswersStepsOf, AnswersText, FixesStatus, FixesTextStatus, IsAvoidedStatusOf, IsStatusIn, IsStatusOf, MayAnswer, MayWrite, text_limit}
+use Rattle.explain.specs.Outputs.{AnswersAvoided, AnswersEither, AnswersStepsIn, AnswersStepsOf, AnswersText, AnswersTextIn, FixesStatus, FixesTextStatus, IsAvoidedStatusOf, IsStatusIn, IsStatusOf, MayAnswer, MayWrite, text_limit}
 use Rattle.explain.specs.ClockExplained.{AnswersClock, IsClockStatusOf}
 use Rattle.explain.specs.Stepped.{AreStepsOf}
 use Rattle.explain.specs.Avoided.{AvoidsSo, SomeStays}
@@ -55,6 +55,12 @@ status_of_text form text number lines (inl is) =
     is.waits is.status_is (tells_waiting form text is.plan is.steps lines is.waits is.ended is.explains)
 status_of_text form text number lines (inr (three, refused)) =
     status_of_fault (HasSomeFault text) (EndsSo text) SomeWaits number (λ Holds is. plan_or_some_fault text is.plan is.ended.plan_is) three (refused_has form.file text lines refused)
+
+-- of a text of either language
+explained_in : (of_clocks : Bool) (form : Form) (text : Text) (number : ℕ) (lines : Text) → AnswersTextIn of_clocks form text number lines
+    → IsStatusIn of_clocks text number
+explained_in true form text number lines is = status_of_clocks form text number lines is
+explained_in false form text number lines is = status_of_text form text number lines is
 
 -- ---- the run that avoids deadlock
 
@@ -116,7 +122,8 @@ module _ (src : Passage) where
 
   fixed : (asked : Asked) (number : ℕ) (lines : Text) → MayWrite asked src number lines → FixesStatus asked src number
   fixed (explanation form) number lines may =
-      text_fixed form (AnswersText form) IsStatusOf number lines (λ text is. status_of_text form text number lines is) may
+      text_fixed form (AnswersEither form) (λ text. IsStatusIn (is_of_clocks form.file text) text) number lines
+      (λ text is. explained_in (is_of_clocks form.file text) form text number lines is) may
   fixed (steps form) number lines may =
       text_fixed form (AnswersStepsOf form) (λ text. IsStatusIn (is_of_clocks form.file text) text) number lines
       (λ text is. status_in (is_of_clocks form.file text) form text number lines is) may

@@ -12,6 +12,7 @@ pub mod Fixing
 pub mod CallEnds
 pub mod OneOutput
 pub mod EachText
+pub mod EitherOutput
 pub mod SourceAnswers
 pub mod OneStepsOutput
 pub mod EachSteps

@@ -18,7 +18,7 @@ use Rattle.explain.specs.declared.answer.PlWanted.TheVariants as p
 use Rattle.explain.specs.ClockExplained.{IsClockExplanationOf, IsClockRefusedWith}
 use Rattle.explain.specs.ClockStepped.{AreClockStepsOf}
 use Rattle.explain.specs.Languages.{is_of_clocks}
-use Rattle.explain.specs.Outputs.{AnswersStepsIn}
+use Rattle.explain.specs.Outputs.{AnswersStepsIn, AnswersTextIn}
 use Rattle.explain.specs.Explained.{IsExplanationOf}
 use Rattle.explain.specs.Avoided.{IsAvoidedOf}
 use Rattle.explain.specs.Stepped.{AreStepsOf}
@@ -68,8 +68,20 @@ module _ (wanted : clocks.ClockWanted) (form : Form) (text : Text) where
   clock_steps_answer r wanted_is is = rw wanted_is (IfOk-weaker r _ (IsClockAnswerTo c.Steps form text) (λ a told. inl told) is)
 
 module _ (wanted : WantedOutput) (form : Form) (text : Text) where
-  pub text_is_explained : (r : Result Answer NoMemory) → wanted ≡ Explanation → IfOk r (IsPlAnswerTo p.Explanation form text) → IfOk r (IsAnswerTo wanted form text)
-  text_is_explained r wanted_is is = rw wanted_is is
+  explained_in : (of_clocks : Bool) (a : Answer) → is_of_clocks form.file text ≡ of_clocks
+      → AnswersTextIn of_clocks form text (number_of_status a.status) a.lines → wanted ≡ Explanation → IsAnswerTo wanted form text a
+  explained_in of_clocks a language is wanted_is =
+      let own : AnswersTextIn (is_of_clocks form.file text) form text (number_of_status a.status) a.lines =
+      subst (λ (b : Bool). AnswersTextIn b form text (number_of_status a.status) a.lines) (sym language) is in
+      subst (λ (w : WantedOutput). IsAnswerTo w form text a) (sym wanted_is) own
+
+  pub text_is_explained : (r : Result Answer NoMemory) → wanted ≡ Explanation → is_of_clocks form.file text ≡ false → IfOk r (IsPlAnswerTo p.Explanation form text)
+      → IfOk r (IsAnswerTo wanted form text)
+  text_is_explained r wanted_is language is = IfOk-weaker r _ (IsAnswerTo wanted form text) (λ a answer. explained_in false a language answer wanted_is) is
+
+  pub clock_text_is_explained : (r : Result Answer NoMemory) → wanted ≡ Explanation → is_of_clocks form.file text ≡ true → IfOk r (IsClockAnswerTo c.Explanation form text)
+      → IfOk r (IsAnswerTo wanted form text)
+  clock_text_is_explained r wanted_is language is = IfOk-weaker r _ (IsAnswerTo wanted form text) (λ a answer. explained_in true a language answer wanted_is) is
 
   steps_in : (of_clocks : Bool) (a : Answer) → is_of_clocks form.file text ≡ of_clocks
       → AnswersStepsIn of_clocks form text (number_of_status a.status) a.lines → wanted ≡ Steps → IsAnswerTo wanted form text a

@@ -14,9 +14,18 @@ use Rattle.explain.specs.Avoided.{AvoidsSo, IsAvoidedOf, SomeStays}
 use Rattle.explain.specs.Refused.{HasSomeFault, IsRefusedWith}
 use Rattle.explain.specs.Requests.{Asked, Form, avoided, clocks, explain_usage_line, explanation, help, help_lines, nothing, steps, version, version_line}
 
--- a whole output for this text, told in this form, with its status: 0 or 1 with its explanation, or 3 with the lines of a refusal
+-- a whole output for this text of PL, told in this form, with its status: 0 or 1 with its explanation, or 3 with the lines of a refusal
 abbrev pub AnswersText : Form → Text → ℕ → Text → Type 0
 AnswersText form text status lines = IsExplanationOf form text status lines ⊎ ((status ≡ 3) × IsRefusedWith form.file text lines)
+
+-- the same for a text that is one of clocks, or is not
+abbrev pub AnswersTextIn : (of_clocks : Bool) → Form → Text → ℕ → Text → Type 0
+AnswersTextIn true form text status lines = AnswersClock form text status lines
+AnswersTextIn false form text status lines = AnswersText form text status lines
+
+-- the same for a text of either language
+abbrev pub AnswersEither : Form → Text → ℕ → Text → Type 0
+AnswersEither form text = AnswersTextIn (is_of_clocks form.file text) form text
 
 -- the same where the steps of its run are wanted, of a text that is one of clocks, or is not: 0 or 1 with them and with its explanation, or 3 with the lines of a
 -- refusal
@@ -42,7 +51,7 @@ MayAnswer form Answers src status lines =
 -- What may be written, with which status, where this is asked for. For an explanation, for steps, for the run that avoids deadlock, and for a clock text: such an
 -- output. The lines of help and of the version with 0, and the line of usage with 2.
 abbrev pub MayWrite : Asked → Passage → ℕ → Text → Type 0
-MayWrite (explanation form) src status lines = MayAnswer form (AnswersText form) src status lines
+MayWrite (explanation form) src status lines = MayAnswer form (AnswersEither form) src status lines
 MayWrite (steps form) src status lines = MayAnswer form (AnswersStepsOf form) src status lines
 MayWrite (avoided form) src status lines = MayAnswer form (AnswersAvoided form) src status lines
 MayWrite (clocks form) src status lines = MayAnswer form (AnswersClock form) src status lines
@@ -66,7 +75,7 @@ IsStatusOf text = IsStatusBy (HasSomeFault text) (EndsSo text) SomeWaits
 abbrev pub IsAvoidedStatusOf : Text → ℕ → Type 0
 IsAvoidedStatusOf text = IsStatusBy (HasSomeFault text) (AvoidsSo text) SomeStays
 
--- the status where its steps are shown, of a text that is one of clocks, or is not
+-- the status of its explanation, with its steps or without, of a text that is one of clocks, or is not
 abbrev pub IsStatusIn : (of_clocks : Bool) → Text → ℕ → Type 0
 IsStatusIn true text number = IsClockStatusOf text number
 IsStatusIn false text number = IsStatusOf text number
@@ -78,7 +87,7 @@ FixesTextStatus IsStatus src number =
 
 -- where this is asked for, and the source tells its bytes, these fix the status
 abbrev pub FixesStatus : Asked → Passage → ℕ → Type 0
-FixesStatus (explanation form) src number = FixesTextStatus IsStatusOf src number
+FixesStatus (explanation form) src number = FixesTextStatus (λ text. IsStatusIn (is_of_clocks form.file text) text) src number
 FixesStatus (steps form) src number = FixesTextStatus (λ text. IsStatusIn (is_of_clocks form.file text) text) src number
 FixesStatus (avoided form) src number = FixesTextStatus IsAvoidedStatusOf src number
 FixesStatus (clocks form) src number = FixesTextStatus IsClockStatusOf src number

@@ -66,14 +66,15 @@ explain_usage_line = line (codes "usage: armus_explain [--all] [run|steps|avoid|
 abbrev pub help_lines : Text
 help_lines =
     explain_usage_line
-    ++ line (codes "Reads a PL text from FILE, or from standard input where there is none, and tells")
-    ++ line (codes "which of its tasks wait for ever, where, for whom, and why.")
+    ++ line (codes "Reads a text from FILE, or from standard input where there is none, and tells which")
+    ++ line (codes "of its tasks wait for ever, where, for whom, and why. A text that begins with a word")
+    ++ line (codes "of clocks, or whose FILE ends with .clock, is one of clocks: it tells the same of its")
+    ++ line (codes "activities. Every other text is one of PL.")
     ++ line (codes "With steps it first shows the run in which the task with the least number that may")
-    ++ line (codes "go on makes the next step: a line for each step, and at most 10000 of them. A text")
-    ++ line (codes "that begins with a word of clocks, or whose FILE ends with .clock, is one of clocks.")
-    ++ line (codes "With avoid it tells which tasks are refused in the run that avoids deadlock, where,")
-    ++ line (codes "and which deadlock each of them would have closed.")
-    ++ line (codes "With clock it reads a clock text, and tells the same of its activities.")
+    ++ line (codes "go on makes the next step: a line for each step, and at most 10000 of them.")
+    ++ line (codes "With avoid it tells which tasks of a PL text are refused, where, in the run of one")
+    ++ line (codes "worker that avoids deadlock, and which deadlock each of them would have closed.")
+    ++ line (codes "With clock it reads any text as one of clocks.")
     ++ line (codes "Of an explanation at most 60 lines are shown, and at most 499 bytes of each line;")
     ++ line (codes "with --all in front all of it is.")
     ++ line (codes "A text that is refused gets the place of its first fault and what is wrong there.")

@@ -81,7 +81,13 @@ fn answer_text(
     ensures answers { IfOk result (IsAnswerTo wanted (form_with file.entry all) text.now) }
 {
     match wanted {
-        WantedOutput::Explanation => answer_pl(alloc, PlWanted::Explanation, all, file, text),
+        WantedOutput::Explanation => {
+            if is_of_clocks(file, text) {
+                answer_clocks(alloc, ClockWanted::Explanation, all, file, text)
+            } else {
+                answer_pl(alloc, PlWanted::Explanation, all, file, text)
+            }
+        }
         WantedOutput::Steps => {
             if is_of_clocks(file, text) {
                 answer_clocks(alloc, ClockWanted::Steps, all, file, text)

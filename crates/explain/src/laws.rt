@@ -1,13 +1,13 @@
 // Laws of the outputs of a text, as contracts of functions with an empty body.
 ghost use Rattle.explain.specs.ClockExplained.{AnswersClock};
-ghost use Rattle.explain.specs.Outputs.{AnswersAvoided, AnswersStepsOf, AnswersText};
+ghost use Rattle.explain.specs.Outputs.{AnswersAvoided, AnswersEither, AnswersStepsOf};
 ghost use Rattle.explain.specs.ShownShort.{IsShownShort};
 ghost use Rattle.explain.specs.calls.Laws.{EachHasOutput, IsOneOutput};
 
-/// A text has one whole output at most, with one status; and it has one: it is explained, or refused.
+/// A text of either language has one whole output at most, with one status; and it has one: it is explained, or refused.
 pub fn one_output()
-    ensures one { IsOneOutput AnswersText }
-    ensures exists { EachHasOutput AnswersText }
+    ensures one { IsOneOutput AnswersEither }
+    ensures exists { EachHasOutput AnswersEither }
 {}
 
 /// A text has one whole output at most, with one status, where the steps of its run are shown; and it has one: these and its explanation, or its refusal.

@@ -19,14 +19,15 @@ const VERSION: &str = "armus_explain 2.0.0\n";
 
 const HELP: &str = "\
 usage: armus_explain [--all] [run|steps|avoid|clock] [FILE]
-Reads a PL text from FILE, or from standard input where there is none, and tells
-which of its tasks wait for ever, where, for whom, and why.
+Reads a text from FILE, or from standard input where there is none, and tells which
+of its tasks wait for ever, where, for whom, and why. A text that begins with a word
+of clocks, or whose FILE ends with .clock, is one of clocks: it tells the same of its
+activities. Every other text is one of PL.
 With steps it first shows the run in which the task with the least number that may
-go on makes the next step: a line for each step, and at most 10000 of them. A text
-that begins with a word of clocks, or whose FILE ends with .clock, is one of clocks.
-With avoid it tells which tasks are refused in the run that avoids deadlock, where,
-and which deadlock each of them would have closed.
-With clock it reads a clock text, and tells the same of its activities.
+go on makes the next step: a line for each step, and at most 10000 of them.
+With avoid it tells which tasks of a PL text are refused, where, in the run of one
+worker that avoids deadlock, and which deadlock each of them would have closed.
+With clock it reads any text as one of clocks.
 Of an explanation at most 60 lines are shown, and at most 499 bytes of each line;
 with --all in front all of it is.
 A text that is refused gets the place of its first fault and what is wrong there.

@@ -13,7 +13,7 @@ use Rattle.explain.specs.declared.answer.ClockWanted as clocks_wanted
 use Rattle.explain.specs.declared.answer.ClockWanted.TheVariants as c
 use Rattle.explain.specs.declared.answer.PlWanted as pl
 use Rattle.explain.specs.declared.answer.PlWanted.TheVariants as p
-use Rattle.explain.specs.Outputs.{AnswersAvoided, AnswersStepsIn, AnswersStepsOf, AnswersText, MayWrite}
+use Rattle.explain.specs.Outputs.{AnswersAvoided, AnswersEither, AnswersStepsIn, AnswersStepsOf, AnswersText, MayWrite}
 use Rattle.explain.specs.Refused.{IsRefusedWith}
 use Rattle.explain.specs.Requests.{Form}
 use Rattle.explain.specs.ClockExplained.{AnswersClock, IsClockRefusedWith}
@@ -40,7 +40,7 @@ IsClockAnswerTo c.Steps form text answer = AnswersStepsIn true form text (number
 
 -- it is a whole output for this text, of which this is wanted
 abbrev pub IsAnswerTo : WantedOutput → Form → Text → Answer → Type 0
-IsAnswerTo Explanation form text answer = AnswersText form text (number_of_status answer.status) answer.lines
+IsAnswerTo Explanation form text answer = AnswersEither form text (number_of_status answer.status) answer.lines
 IsAnswerTo Steps form text answer = AnswersStepsOf form text (number_of_status answer.status) answer.lines
 IsAnswerTo Avoided form text answer = AnswersAvoided form text (number_of_status answer.status) answer.lines
 IsAnswerTo Clocks form text answer = AnswersClock form text (number_of_status answer.status) answer.lines
