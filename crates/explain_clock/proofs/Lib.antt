@@ -5,6 +5,7 @@ pub mod FewLines
 pub mod Told
 pub mod PendingRows
 pub mod KnownTexts
+pub mod Circles
 pub mod OneExplanation
 pub mod MembersWait
 pub mod Named

@@ -15,9 +15,11 @@ use Rattle.clock_semantics.specs.Unfolding.{ClockUnfolding}
 use Rattle.clock_source_map.specs.ClockOffsets.{clock_offsets}
 use Rattle.clock_source_map.specs.ClockOrigins.{StartedActivity, MadeThing, all_begun, all_things, all_waits}
 use Rattle.clock_source_map.specs.ClockOps.{is_await}
+use Rattle.explain_clock.specs.ClockCircles.{IsCircle}
 use Rattle.explain_clock.specs.ClockExplanations.{clock_lines, some_activity_waits}
 use Rattle.explain_clock.specs.ClockFacts.{AreClockFacts, AreTextFacts, ClockFacts, ClockWait, IsWaitBy, ClockTextValue, is_pending}
 use Rattle.explain_clock.specs.calls.Laws.{ClockExplanationExists, OneClockExplanation}
+use Rattle.explain_clock.proofs.Circles.{one_circle, some_circle}
 use Rattle.explain_clock.proofs.Told.{AreTold, one_list, told_all, told_more, told_none}
 
 -- ---- one
@@ -49,8 +51,10 @@ one_facts file text p u plan a f g x y =
 
 pub one_clock_explanation : OneClockExplanation
 one_clock_explanation file text p u plan a lines others waits other x y =
-    let same = one_facts file text p u plan a x.facts y.facts x.are_facts y.are_facts in (
-      x.lines_are ∙ ap clock_lines same ∙ sym y.lines_are,
+    let same = one_facts file text p u plan a x.facts y.facts x.are_facts y.are_facts in
+    let own : IsCircle y.facts.blocked x.circle = subst (λ (f : ClockFacts). IsCircle f.blocked x.circle) same x.circle_is in
+    let circles : x.circle ≡ y.circle = one_circle y.facts.blocked x.circle y.circle own y.circle_is in (
+      x.lines_are ∙ ap (λ (f : ClockFacts). clock_lines f x.circle) same ∙ ap (clock_lines y.facts) circles ∙ sym y.lines_are,
       x.waits_are ∙ ap (λ (f : ClockFacts). some_activity_waits f.ends) same ∙ sym y.waits_are,
     )
 
@@ -89,8 +93,9 @@ clock_explanation_exists file text p u plan a reads unfolds plan_is =
       ends = (final_of plan (state_at plan a)).ends;
       blocked = (final_of plan (state_at plan a)).blocked;
       waits = ws;
-    } in (
-      clock_lines facts,
+    } in
+    let (circle, circle_is) = some_circle facts.blocked in (
+      clock_lines facts circle,
       some_activity_waits facts.ends,
       record {
         reads = reads;
@@ -103,6 +108,8 @@ clock_explanation_exists file text p u plan a reads unfolds plan_is =
           blocked_are = refl;
           waits_are = told_all (all_waits u) plan a (length plan.parents) ws refl told;
         };
+        circle = circle;
+        circle_is = circle_is;
         lines_are = refl;
         waits_are = refl;
       },

@@ -4,6 +4,7 @@ use Rattle.std.specs.List.{flat_map, list_any}
 use Rattle.armus_base.specs.declared.ending.TaskEnd.{TaskEnd}
 use Rattle.armus_base.specs.declared.ending.TaskEnd.TheVariants.{Blocked, Done, Refused, Unforked}
 use Rattle.armus_base.specs.declared.event.Event.{Event}
+use Rattle.armus_base.specs.declared.ids.TaskId.{TaskId}
 use Rattle.armus_base.specs.declared.status.Member.{Member}
 use Rattle.armus_base.specs.declared.status.Status.{Status}
 use Rattle.armus_base.specs.Plans.{Plan}
@@ -13,6 +14,7 @@ use Rattle.clock_syntax.specs.Grammar.{IsClockText}
 use Rattle.clock_syntax.specs.Trees.{ClockTree}
 use Rattle.clock_semantics.specs.Unfolding.{ClockUnfolding, clock_unfolded, plan_of_moves}
 use Rattle.clock_source_map.specs.ClockOrigins.{StartedActivity, MadeThing}
+use Rattle.explain_clock.specs.ClockCircles.{IsCircle, clock_verdict_line}
 use Rattle.explain_clock.specs.ClockFacts.{AreClockFacts, ClockFacts, ClockWait, ClockTextValue}
 use Rattle.explain_clock.specs.ClockWords.{activity_words, front_of, made_clock_words, made_finish_words, standing_words, waits_at}
 
@@ -44,11 +46,6 @@ waiting_counts ends = line (codes " waiting " ++ decimal (count_by waits_there e
 -- some activity waits
 abbrev pub some_activity_waits : List TaskEnd → Bool
 some_activity_waits ends = list_any waits_there ends
-
--- the line that says that none does
-abbrev pub nobody_line : Bool → List ℕ
-nobody_line true = []
-nobody_line false = line (codes "nobody waits for ever")
 
 -- ---- few lines
 
@@ -158,9 +155,10 @@ paragraph_at f t = activity_paragraph f t (slice_index_or f.ends t Done)
 
 -- ---- the explanation
 
--- all lines
-abbrev pub clock_lines : ClockFacts → List ℕ
-clock_lines f = ended_counts f.ends ++ waiting_counts f.ends ++ nobody_line (some_activity_waits f.ends) ++ lines_below (paragraph_at f) (length f.ends)
+-- all lines, where this is the circle
+abbrev pub clock_lines : ClockFacts → List TaskId → List ℕ
+clock_lines f circle =
+    ended_counts f.ends ++ waiting_counts f.ends ++ clock_verdict_line f circle (some_activity_waits f.ends) ++ lines_below (paragraph_at f) (length f.ends)
 
 -- the lines explain how the activities of a text, of the file with this name or of none, stand at these places of the plan of its program's unfolding
 pub record ExplainsActivities (file : Option (List ℕ)) (text : List ℕ) (p : ClockTree) (u : ClockUnfolding) (plan : Plan) (a : ℕ → Place) (lines : List ℕ) (waits : Bool) : Type 0 where
@@ -169,5 +167,7 @@ pub record ExplainsActivities (file : Option (List ℕ)) (text : List ℕ) (p : 
   pub plan_is : plan ≡ plan_of_moves u
   pub facts : ClockFacts
   pub are_facts : AreClockFacts file text p u plan a facts
-  pub lines_are : lines ≡ clock_lines facts
+  pub circle : List TaskId
+  pub circle_is : IsCircle facts.blocked circle
+  pub lines_are : lines ≡ clock_lines facts circle
   pub waits_are : waits ≡ some_activity_waits facts.ends

@@ -1,6 +1,6 @@
 // How activities stand.
 ghost use Rattle.std.specs.Prelude.{◌≡◌, ◌++◌, OnOk, count_by};
-ghost use Rattle.explain_clock.specs.ClockExplanations.{ended_counts, is_ended, is_unstarted, waits_there, nobody_line, some_activity_waits, waiting_counts};
+ghost use Rattle.explain_clock.specs.ClockExplanations.{ended_counts, is_ended, is_unstarted, waits_there, some_activity_waits, waiting_counts};
 
 use crate::words::put_number;
 use armus_base::{NoMemory, TaskEnd};
@@ -69,14 +69,4 @@ pub(crate) fn somebody_waits(ends: &[TaskEnd]) -> bool
     ensures { result ≡ some_activity_waits ends.now }
 {
     ends.iter().any(|end| matches!(end, TaskEnd::Blocked(_)))
-}
-
-// Appends the line that says that none does.
-pub(crate) fn put_nobody(out: &mut Vec<u8>, somebody: bool) -> Result<(), NoMemory>
-    ensures { OnOk result (out.new.items ≡ out.old.items ++ nobody_line somebody) }
-{
-    if somebody {
-        return Ok(());
-    }
-    put_words(out, b"nobody waits for ever\n")
 }

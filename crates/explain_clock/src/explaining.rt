@@ -1,18 +1,21 @@
 // The explanation of a clock text.
 ghost use Rattle.std.specs.Prelude.{◌≡◌, ◌+◌, ◌<◌, ◌^◌, Ok, IfOk, length, option_copied};
 ghost use Rattle.armus_base.specs.Finals.{final_of};
+ghost use Rattle.armus_base.specs.calls.Statuses.{IsInOrder};
 ghost use Rattle.pl_core.specs.calls.Worlds.{places_of, state_of};
 ghost use Rattle.clock_syntax.specs.Grammar.{IsClockText};
 ghost use Rattle.clock_syntax.specs.Trees.{clock_count};
 ghost use Rattle.clock_semantics.specs.Unfolding.{ClockUnfolding, clock_plan_of, clock_unfolded};
 ghost use Rattle.explain_clock.specs.ClockFacts.{ClockFacts};
 ghost use Rattle.explain_clock.specs.ClockExplanations.{ExplainsActivities, clock_lines, some_activity_waits};
+ghost use Rattle.explain_clock.specs.inside.ToldOf.{IsToldOf};
 
-use crate::counts::{put_counts, put_nobody, somebody_waits};
+use crate::circle::circle_of;
+use crate::counts::{put_counts, somebody_waits};
 use crate::facts::{ClockFacts, Wait};
 use crate::text_facts::{ClockLayout, ClockTextFacts};
 use crate::waits::waits_of;
-use armus_base::{Final, List, NoMemory};
+use armus_base::{Final, List, NoMemory, TaskId};
 use clock_syntax::ClockProgram;
 use pl_core::World;
 use source_map::TextPlaces;
@@ -27,9 +30,9 @@ pub struct ClockExplanation {
     pub has_waiting: bool,
 }
 
-// Explains what is known.
-fn explain_facts(facts: &ClockFacts<'_>) -> Result<ClockExplanation, NoMemory>
-    ensures lines { IfOk result (λ e. e.lines ≡ clock_lines facts.now) }
+// Explains what is known, where this is the circle.
+fn explain_facts(facts: &ClockFacts<'_>, circle: &[TaskId]) -> Result<ClockExplanation, NoMemory>
+    ensures lines { IfOk result (λ e. e.lines ≡ clock_lines facts.now circle.now) }
     ensures waits { IfOk result (λ e. e.has_waiting ≡ some_activity_waits facts.now.ends) }
 {
     let ends = facts.end.ends.as_slice();
@@ -38,7 +41,7 @@ fn explain_facts(facts: &ClockFacts<'_>) -> Result<ClockExplanation, NoMemory>
     let alloc = of_text.alloc;
     let mut out = Vec::new(alloc);
     put_counts(alloc, &mut out, ends)?;
-    put_nobody(&mut out, somebody)?;
+    facts.put_verdict(&mut out, circle, somebody)?;
     facts.put_paragraphs(&mut out)?;
     Ok(ClockExplanation {
         lines: List::from_vec(out),
@@ -53,11 +56,13 @@ fn explain_waits(
     waits: Vec<Wait>,
 ) -> Result<ClockExplanation, NoMemory>
     requires few { length end.now.ends < 2 ^ 32 }
+    requires in_order { IsInOrder end.now.blocked }
     ensures { IfOk result (λ e. (f : ClockFacts) → f ≡ record { of_text = of_text.now; ends = end.now.ends; blocked = end.now.blocked; waits = waits.items }
-        → (e.lines ≡ clock_lines f) × (e.has_waiting ≡ some_activity_waits f.ends)) }
+        → IsToldOf f e.lines × (e.has_waiting ≡ some_activity_waits f.ends)) }
 {
     let facts = ClockFacts::new(of_text, end, waits);
-    let explanation = explain_facts(&facts)?;
+    let circle = circle_of(of_text.alloc, end.blocked.as_slice())?;
+    let explanation = explain_facts(&facts, circle.as_slice())?;
     Ok(explanation)
 }
 
@@ -71,6 +76,7 @@ fn explain_layout(
     waits: Vec<Wait>,
 ) -> Result<ClockExplanation, NoMemory>
     requires few { length end.now.ends < 2 ^ 32 }
+    requires in_order { IsInOrder end.now.blocked }
     ensures { IfOk result (λ e. (f : ClockFacts) → f ≡ record {
       of_text = record {
         text = places.now;
@@ -82,7 +88,7 @@ fn explain_layout(
       ends = end.now.ends;
       blocked = end.now.blocked;
       waits = waits.items;
-    } → (e.lines ≡ clock_lines f) × (e.has_waiting ≡ some_activity_waits f.ends)) }
+    } → IsToldOf f e.lines × (e.has_waiting ≡ some_activity_waits f.ends)) }
 {
     let of_text = ClockTextFacts::new(alloc, places, file, layout);
     let explanation = explain_waits(&of_text, end, waits)?;

@@ -3,6 +3,7 @@
 //! It stands on `clock_source_map` and `explain_facts`. Its rows are kernels of the gallery.
 #![tactic(auto)]
 
+mod circle;
 mod counts;
 mod explaining;
 mod facts;

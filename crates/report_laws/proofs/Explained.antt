@@ -33,7 +33,7 @@ use Rattle.report_laws.specs.Explained.{BeginAlike, ExplainsAsRun}
 use Rattle.explain.specs.Explained.{IsExplanationOf}
 use Rattle.explain.specs.Requests.{Form}
 
-some_dead : (state : State) (number : ℕ) → TellsDead state number → number ≡ 1 → (t : ℕ) × IsDeadIn state t
+pub some_dead : (state : State) (number : ℕ) → TellsDead state number → number ≡ 1 → (t : ℕ) × IsDeadIn state t
 some_dead state number (inl (one, dead)) is = dead
 some_dead state number (inr (zero, nobody)) is = absurd (omega (arith, zero, is))
 

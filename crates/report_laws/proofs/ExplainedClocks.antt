@@ -12,18 +12,25 @@ use Rattle.armus_base.specs.Plans.{Plan}
 use Rattle.armus_base.specs.Runs.{IsMaximal, IsPlainRun, places, state_after}
 use Rattle.armus_base.specs.States.{State}
 use Rattle.armus_base.proofs.AvoidanceAgrees.{plain_unrefused}
+use Rattle.armus_base.proofs.DeadByStatuses.{dead_by_final, run_is_of_plan}
 use Rattle.armus_base.proofs.Stepping.{places_fix}
+use Rattle.armus_base.specs.calls.FinalLaws.{IsOfPlan}
+use Rattle.armus_base.specs.declared.ids.TaskId.{TaskId}
+use Rattle.armus_base.specs.declared.status.Status.{Status}
 use Rattle.adaptive.specs.declared.analysis.Wanted.{Wanted}
 use Rattle.pl_plan.specs.Unfolding.{◌>>=◌}
 use Rattle.pl_syntax.specs.Printed.{line}
 use Rattle.clock_syntax.specs.Trees.{ClockTree}
 use Rattle.clock_semantics.specs.Unfolding.{ClockUnfolding, clock_plan_of, clock_unfolded, plan_of_moves}
 use Rattle.report.specs.Counts.{counts_of, is_dead, is_done, is_held, is_refused, is_unforked}
-use Rattle.report.specs.Lines.{counts_line, task_lines}
+use Rattle.report.specs.Lines.{counts_line, cycle_line, task_lines}
+use Rattle.report.specs.Reports.{IsSomeDead}
+use Rattle.report.proofs.OneReport.{one_cycle_text}
 use Rattle.report.specs.Standings.{AreStandings, Stands}
 use Rattle.report.specs.declared.standing.Standing.{Standing}
 use Rattle.report.specs.declared.standing.Standing.TheVariants as way
-use Rattle.explain_clock.specs.ClockExplanations.{is_ended, is_unstarted, lines_below, nobody_line, paragraph_at, some_activity_waits, waits_there}
+use Rattle.explain_clock.specs.ClockCircles.{IsCircle, clock_verdict_line}
+use Rattle.explain_clock.specs.ClockExplanations.{is_ended, is_unstarted, lines_below, paragraph_at, some_activity_waits, waits_there}
 use Rattle.command_line.specs.declared.command.RunKind.TheVariants.{Plain}
 use Rattle.program_io.specs.Texts.{Text}
 use Rattle.armus_top.specs.ClockRuns.{IsClockRunOf}
@@ -31,6 +38,7 @@ use Rattle.armus_top.specs.DeadStatus.{TellsDead}
 use Rattle.armus_top.specs.Runs.{IsRunOf}
 use Rattle.armus_top.proofs.OneClockPlan.{checked_clock_plan}
 use Rattle.explain.specs.ClockExplained.{IsClockExplanationOf}
+use Rattle.report_laws.proofs.Explained.{some_dead}
 use Rattle.explain.specs.Explained.{SomeWaits}
 use Rattle.explain.specs.Requests.{Form}
 use Rattle.explain.proofs.ClockEnds.{checked_moves, clocks_tell_waiting}
@@ -167,7 +175,7 @@ module _ (form : Form) (text : Text) (status number : ℕ) (lines report : Text)
   count_alike : CountAlike standings x.explains.whole report
   count_alike =
       let f = x.explains.tells.facts in
-      let nobody = nobody_line (some_activity_waits all) in
+      let nobody = clock_verdict_line f x.explains.tells.circle (some_activity_waits all) in
       let paragraphs = lines_below (paragraph_at f) (length all) in
       let c = counts_of standings in
       record {
@@ -185,6 +193,29 @@ module _ (form : Form) (text : Text) (status number : ℕ) (lines report : Text)
         held = counted.held;
         refused = counted.refused;
       }
+
+  -- ---- the circle
+
+  of_plan : IsOfPlan plan run.state
+  of_plan = subst (IsOfPlan plan) run.final.there (run_is_of_plan plan run.final.steps (checked_clock_plan text plan r.plan_is) run.final.run.0)
+
+  blocked_are : x.explains.tells.facts.blocked ≡ (final_of plan run.state).blocked
+  blocked_are =
+      x.explains.tells.are_facts.blocked_are ∙ ap (λ (s : State). (final_of moves s).blocked) same_state ∙ ap (λ (q : Plan). (final_of q run.state).blocked) (sym plans)
+
+  circle_is : IsCircle (final_of plan run.state).blocked x.explains.tells.circle
+  circle_is = subst (λ (ss : List Status). IsCircle ss x.explains.tells.circle) blocked_are x.explains.tells.circle_is
+
+  cycle_of : IsSomeDead (final_of plan run.state).blocked → (circle : List TaskId) → IsCircle (final_of plan run.state).blocked circle
+      → run.report_is.cycle_text ≡ cycle_line circle
+  cycle_of some circle (inl (none, empty)) = absurd (none some)
+  cycle_of some circle (inr reported) =
+      one_cycle_text (final_of plan run.state).blocked run.report_is.cycle_text (cycle_line circle) run.report_is.cycle (inr (circle, reported, refl))
+
+  shows_circle : number ≡ 1 → run.report_is.cycle_text ≡ cycle_line x.explains.tells.circle
+  shows_circle one =
+      let (t, dead) = some_dead run.state number run.status_is one in
+      cycle_of (t, (dead_by_final plan run.state t of_plan).1 dead) x.explains.tells.circle circle_is
 
   -- ---- the status
 
@@ -204,4 +235,5 @@ pub explains_as_clock : ExplainsAsClock
 explains_as_clock form text status number lines report g x r = (
   status_by form text status number lines report g x r x.waits refl r.run.status_is,
   count_alike form text status number lines report g x r,
+  shows_circle form text status number lines report g x r,
 )

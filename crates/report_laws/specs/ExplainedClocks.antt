@@ -3,7 +3,7 @@ use Rattle.std.specs.Prelude.{◌≡◌, ◌++◌, ℕ, List, codes, decimal}
 use Rattle.adaptive.specs.declared.analysis.Wanted.{Wanted}
 use Rattle.pl_syntax.specs.Printed.{line}
 use Rattle.report.specs.Counts.{counts_of}
-use Rattle.report.specs.Lines.{counts_line}
+use Rattle.report.specs.Lines.{counts_line, cycle_line}
 use Rattle.report.specs.declared.standing.Standing.{Standing}
 use Rattle.command_line.specs.declared.command.RunKind.TheVariants.{Plain}
 use Rattle.program_io.specs.Texts.{Text}
@@ -27,8 +27,10 @@ pub record CountAlike (standings : List Standing) (lines report : Text) : Type 0
   pub held : (counts_of standings).held ≡ 0
   pub refused : (counts_of standings).refused ≡ 0
 
--- the whole explanation of a clock text and the report of its run have one status, and the same counts
+-- The whole explanation of a clock text and the report of its run have one status, and the same counts. Where the report has status 1, its cycle line names the
+-- activities of the circle that the verdict shows.
 abbrev pub ExplainsAsClock : Type 0
 ExplainsAsClock =
     (form : Form) (text : Text) (status number : ℕ) (lines report : Text) (g : Wanted) (x : IsClockExplanationOf form text status lines) →
     (r : IsClockRunOf text Plain g number report) → (status ≡ number) × CountAlike r.run.report_is.standings x.explains.whole report
+    × (number ≡ 1 → r.run.report_is.cycle_text ≡ cycle_line x.explains.tells.circle)

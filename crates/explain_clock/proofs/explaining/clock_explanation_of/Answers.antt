@@ -1,8 +1,10 @@
 use Rattle.std.proofs.Common.{◌∙◌, ap, arith, length, refl, subst, sym}
 use Rattle.std.specs.Prelude.{option_copied}
 use Rattle.armus_base.specs.declared.ending.Final.{Final}
-use Rattle.armus_base.specs.Finals.{end_of}
+use Rattle.armus_base.specs.Finals.{end_of, is_awaited}
+use Rattle.armus_base.specs.calls.Statuses.{IsInOrder}
 use Rattle.armus_base.proofs.Below.{length-list_below}
+use Rattle.armus_base.proofs.StatusesAre.{statuses_are}
 use Rattle.pl_core.specs.calls.Worlds.{places_of, state_of}
 use Rattle.clock_semantics.specs.Unfolding.{plan_of_moves}
 use Rattle.clock_source_map.proofs.AllOrigins.{unfolding_of_plan}
@@ -21,6 +23,8 @@ explain_layout-requires c = record {
   few = (let ends = ap (λ (f : Final). length f.ends) c.requires.end in
       let sized = length-list_below (end_of (state_of c.args.world.now)) (length c.args.world.now.plan.parents) in
       let few = c.plan-plan.ensures.checked.limits.few_tasks in omega (arith, ends, sized, few));
+  in_order = subst (λ (e : Final). IsInOrder e.blocked) (sym c.requires.end)
+      (statuses_are c.args.world.now.plan (state_of c.args.world.now) (is_awaited c.args.world.now.plan (state_of c.args.world.now)) c.plan-plan.ensures.checked).in_order;
 }
 
 pub returns : goal.returns
@@ -53,6 +57,8 @@ returns c = λ u is.
         blocked_are = ap (λ (e : Final). e.blocked) c.requires.end;
         waits_are = subst (λ w. AreWaitsAt w c.args.world.now.plan (places_of c.args.world.now) c.in_ok-waits.waits.items) origins.waits c.in_ok-waits.ensures;
       };
-      lines_are = told.0;
+      circle = told.0.0;
+      circle_is = told.0.1;
+      lines_are = told.0.2;
       waits_are = told.1;
     }
