@@ -1,8 +1,18 @@
+use Rattle.std.proofs.Common.{subst, sym}
+use Rattle.armus_base.specs.DeadLists.{IsDeadList}
+use Rattle.explain_clock.specs.ClockCircles.{IsCircle}
 use Rattle.explain_clock.proofs.Circles.{found_circle, no_circle}
 use Rattle.explain_clock.proofs.circle.circle_of.Goals as goal
 
 pub returns-in-None : goal.returns-in-None
-returns-in-None c = ?
+returns-in-None c =
+    let dead = subst (IsDeadList c.args.blocked.now) (sym c.as_slice.ensures.items) c.in_ok-dead.ensures in
+    record {
+      circle = subst (IsCircle c.args.blocked.now) (sym c.new.ensures.empty)
+          (no_circle c.args.blocked.now c.as_slice.result.now dead (rw c.in-None.is at c.in_ok-cycle.ensures.cycle));
+    }
 
-pub returns-in-Some : goal.returns-in-Some
-returns-in-Some c = ?
+pub returns : goal.returns
+returns c =
+    let dead = subst (IsDeadList c.args.blocked.now) (sym c.as_slice.ensures.items) c.in_ok-dead.ensures in
+    record { circle = found_circle c.args.blocked.now c.as_slice.result.now dead c.in-Some.found (rw c.in-Some.is at c.in_ok-cycle.ensures.cycle) }

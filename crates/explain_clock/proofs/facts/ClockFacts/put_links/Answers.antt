@@ -1,7 +1,7 @@
 use Rattle.std.proofs.Common.{◌++◌, ap, ◌∙◌}
 use Rattle.explain_clock.specs.ClockCircles.{linked_words}
 use Rattle.report.proofs.Texts.{texts_all, texts_more}
-use Rattle.explain_clock.proofs.circle.ClockFacts.put_links.Goals as goal
+use Rattle.explain_clock.proofs.facts.ClockFacts.put_links.Goals as goal
 
 pub loop-k-preserved : goal.loop-k-preserved
 loop-k-preserved c =
