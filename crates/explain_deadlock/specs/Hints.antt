@@ -132,6 +132,8 @@ others_words (t ∷ rest) = codes ", or another one likewise"
 
 -- hint: one of them has to arrive, or leave, before it waits: t0 at p1 before 19:1, or t1 (other) at p0 before 14:3
 abbrev pub circle_hint : FactsValue → List TaskId → List ℕ
+circle_hint f [] = []
+circle_hint f (t ∷ []) = []
 circle_hint f (t ∷ u ∷ rest) =
     line
     (codes "hint: one of them has to arrive, or leave, before it waits: "
@@ -139,7 +141,6 @@ circle_hint f (t ∷ u ∷ rest) =
     ++ codes ", or "
     ++ before_words f t u
     ++ others_words rest)
-circle_hint f _ = []
 
 -- the hint where this task waits for itself, if one does, and else that of the circle
 abbrev pub itself_or_circle : FactsValue → List TaskId → Option TaskId → List ℕ

@@ -334,6 +334,8 @@ fn put_circle_hint(facts: &Facts, out: &mut Vec<u8>, shown: &[TaskId]) -> Result
     ensures { OnOk result (out.new.items ≡ out.old.items ++ circle_hint facts.now shown.now) }
 {
     match shown {
+        [] => Ok(()),
+        [_] => Ok(()),
         [t, u, rest @ ..] => {
             put_words(
                 out,
@@ -345,7 +347,6 @@ fn put_circle_hint(facts: &Facts, out: &mut Vec<u8>, shown: &[TaskId]) -> Result
             put_others(out, rest)?;
             put_words(out, b"\n")
         }
-        _ => Ok(()),
     }
 }
 
