@@ -131,16 +131,16 @@ others_words [] = []
 others_words (t ∷ rest) = codes ", or another one likewise"
 
 -- hint: one of them has to arrive, or leave, before it waits: t0 at p1 before 19:1, or t1 (other) at p0 before 14:3
+abbrev pub circle_words : FactsValue → TaskId → TaskId → TaskId → List TaskId → List ℕ
+circle_words f last t u rest =
+    line
+    (codes "hint: one of them has to arrive, or leave, before it waits: " ++ before_words f last t ++ codes ", or " ++ before_words f t u ++ others_words rest)
+
+-- the hint on a circle: of its first two tasks, of which the last one waits for the first
 abbrev pub circle_hint : FactsValue → List TaskId → List ℕ
 circle_hint f [] = []
 circle_hint f (t ∷ []) = []
-circle_hint f (t ∷ u ∷ rest) =
-    line
-    (codes "hint: one of them has to arrive, or leave, before it waits: "
-    ++ before_words f (slice_index_or (t ∷ u ∷ rest) (length (t ∷ u ∷ rest) - 1) t) t
-    ++ codes ", or "
-    ++ before_words f t u
-    ++ others_words rest)
+circle_hint f (t ∷ u ∷ rest) = circle_words f (slice_index_or (t ∷ u ∷ rest) (length (t ∷ u ∷ rest) - 1) t) t u rest
 
 -- the hint where this task waits for itself, if one does, and else that of the circle
 abbrev pub itself_or_circle : FactsValue → List TaskId → Option TaskId → List ℕ

@@ -1,10 +1,9 @@
 // The line of the hint.
-ghost use Rattle.std.specs.Prelude.{◌≡◌, ◌++◌, ◌∷◌, IfOk, OnOk, Some, option_copied};
+ghost use Rattle.std.specs.Prelude.{◌≡◌, ◌==◌, ◌<◌, ◌-◌, ◌++◌, OnOk, length, option_copied, slice_index_or};
 ghost use Rattle.std.specs.List.{find};
-ghost use Rattle.explain_tasks.specs.Facts.{wait_of};
-ghost use Rattle.explain_tasks.specs.Impeders.{impeders_by_facts};
+ghost use Rattle.armus_base.specs.declared.ids.TaskId.{TaskId};
 ghost use Rattle.explain_tasks.specs.calls.Fitting.{FactsFitPlan};
-ghost use Rattle.explain_deadlock.specs.Hints.{awaited_phaser, before_fork_words, before_words, chain_hint, circle_hint, closed_hint, ended_hint, for_event_words, fork_hint, fork_or_others, hint_line, impeding_phase, is_ahead_of_itself, is_behind_a_wait, is_of_text, is_outside, itself_hint, itself_or_circle, leaving_words, let_words, missing_words, more_words, never_forked_hint, others_words, own_phase_words, unforked_hint, waits_at_words, waits_before_fork, waits_for_itself};
+ghost use Rattle.explain_deadlock.specs.Hints.{awaited_phaser, before_fork_words, before_words, chain_hint, circle_hint, circle_words, closed_hint, ended_hint, for_event_words, fork_hint, fork_or_others, hint_line, impeding_phase, is_ahead_of_itself, is_behind_a_wait, is_of_text, is_outside, itself_hint, itself_or_circle, leaving_words, let_words, missing_words, more_words, never_forked_hint, others_words, own_phase_words, unforked_hint, waits_at_words, waits_before_fork, waits_for_itself};
 ghost use Rattle.pl_core.specs.calls.Worlds.{state_of};
 
 use crate::outcome::WaitVerdict;
@@ -162,13 +161,20 @@ fn put_ended(
     put_words(out, b"\n")
 }
 
+// Whether an impeder is this task.
+fn is_impeder(impeder: Impeder, u: TaskId) -> bool
+    ensures { result ≡ (impeder.t.0 == u.0) }
+{
+    impeder.t.0 == u.0
+}
+
 // The phase of one of these impeders.
 fn impeding_phase(impeders: &[Impeder], u: TaskId) -> Option<Phase>
     ensures { result ≡ impeding_phase impeders.now u.0 }
 {
     impeders
         .iter()
-        .find(|impeder| impeder.t.0 == u.0)
+        .find(|impeder| is_impeder(**impeder, u))
         .map(|impeder| impeder.phase)
 }
 
@@ -329,6 +335,36 @@ fn put_others(out: &mut Vec<u8>, rest: &[TaskId]) -> Result<(), NoMemory>
     }
 }
 
+// The last one of some tasks.
+fn last_of(shown: &[TaskId]) -> TaskId
+    requires { 0 < length shown.now }
+    ensures { (d : TaskId) → slice_index_or shown.now (length shown.now - 1) d ≡ result }
+{
+    shown[shown.len() - 1]
+}
+
+// Appends the hint on a circle of these two tasks and the rest, whose last one waits for the first.
+fn put_circle_words(
+    facts: &Facts,
+    out: &mut Vec<u8>,
+    last: TaskId,
+    t: TaskId,
+    u: TaskId,
+    rest: &[TaskId],
+) -> Result<(), NoMemory>
+    ensures { OnOk result (out.new.items ≡ out.old.items ++ circle_words facts.now last t u rest.now) }
+{
+    put_words(
+        out,
+        b"hint: one of them has to arrive, or leave, before it waits: ",
+    )?;
+    put_before(facts, out, last, t)?;
+    put_words(out, b", or ")?;
+    put_before(facts, out, t, u)?;
+    put_others(out, rest)?;
+    put_words(out, b"\n")
+}
+
 // Appends the hint on a circle.
 fn put_circle_hint(facts: &Facts, out: &mut Vec<u8>, shown: &[TaskId]) -> Result<(), NoMemory>
     ensures { OnOk result (out.new.items ≡ out.old.items ++ circle_hint facts.now shown.now) }
@@ -336,17 +372,7 @@ fn put_circle_hint(facts: &Facts, out: &mut Vec<u8>, shown: &[TaskId]) -> Result
     match shown {
         [] => Ok(()),
         [_] => Ok(()),
-        [t, u, rest @ ..] => {
-            put_words(
-                out,
-                b"hint: one of them has to arrive, or leave, before it waits: ",
-            )?;
-            put_before(facts, out, shown[shown.len() - 1], *t)?;
-            put_words(out, b", or ")?;
-            put_before(facts, out, *t, *u)?;
-            put_others(out, rest)?;
-            put_words(out, b"\n")
-        }
+        [t, u, rest @ ..] => put_circle_words(facts, out, last_of(shown), *t, *u, rest),
     }
 }
 
