@@ -5,7 +5,7 @@ use Rattle.std.proofs.lemmas.List.{drop_more, length-drop, nil_from_length, take
 use Rattle.std.proofs.lemmas.List.Sums.{sum_by-append}
 use Rattle.source_map.specs.TextPlaces.{is_line_feed}
 use Rattle.program_io.specs.Texts.{Text}
-use Rattle.explain.specs.Shortened.{are_few_paragraphs, displayed_byte, ends_paragraph, last_passing, line_total, narrowed_from, room_behind}
+use Rattle.explain.specs.Shortened.{are_few_paragraphs, begins_line, displayed_byte, ends_paragraph, last_passing, line_total, narrowed_from, room_behind}
 
 -- the greatest number that passes a test is in range
 pub last_within : (test : ℕ → Bool) (n : ℕ) → last_passing test n ≤ n
@@ -41,19 +41,19 @@ lines_more text k within =
     ∙ sum_by-append (λ b. cond (is_line_feed b) 1 0) (take k text) (get_or text k 0 ∷ [])
     ∙ ap (λ n. line_total (take k text) + n) (one_line (get_or text k 0))
 
--- with the bytes up to this one so many lines have ended, and so many bytes of these are shown
-pub record AreFronts (text : Text) (index lines shown : ℕ) : Type 0 where
+-- with the bytes up to this one so many lines have ended, and so many bytes of these are shown, where so many lines have no room
+pub record AreFronts (room : ℕ) (text : Text) (index lines shown : ℕ) : Type 0 where
   pub lines_are : lines ≡ line_total (take index text)
-  pub shown_are : shown ≡ last_passing (are_few_paragraphs text) index
+  pub shown_are : shown ≡ last_passing (are_few_paragraphs room text) index
   pub few : lines ≤ index
 
-pub fronts_first : (text : Text) → AreFronts text 0 0 0
-fronts_first text = record { lines_are = refl; shown_are = refl; few = omega arith }
+pub fronts_first : (room : ℕ) (text : Text) → AreFronts room text 0 0 0
+fronts_first room text = record { lines_are = refl; shown_are = refl; few = omega arith }
 
-pub fronts_more : (text : Text) (index lines more shown next : ℕ) → index < length text → AreFronts text index lines shown
-    → more ≡ lines + ended_by (get_or text index 0) → next ≡ (if ends_paragraph text (suc index) && nat_lt more 60 then suc index else shown)
-    → AreFronts text (index + 1) more next
-fronts_more text index lines more shown next within so counted is =
+pub fronts_more : (room : ℕ) (text : Text) (index lines more shown next : ℕ) → index < length text → AreFronts room text index lines shown
+    → more ≡ lines + ended_by (get_or text index 0) → next ≡ (if ends_paragraph text (suc index) && nat_lt more room then suc index else shown)
+    → AreFronts room text (index + 1) more next
+fronts_more room text index lines more shown next within so counted is =
     let total : more ≡ line_total (take (index + 1) text) =
     counted ∙ ap (λ n. n + ended_by (get_or text index 0)) so.lines_are ∙ sym (lines_more text index within) in
     let same : suc index ≡ index + 1 = omega arith in
@@ -61,17 +61,29 @@ fronts_more text index lines more shown next within so counted is =
     record {
       lines_are = total;
       shown_are = is
-          ∙ ap (λ n. if ends_paragraph text (suc index) && nat_lt n 60 then suc index else shown) here
-          ∙ ap (λ n. if are_few_paragraphs text (suc index) then suc index else n) so.shown_are
-          ∙ ap (last_passing (are_few_paragraphs text)) same;
+          ∙ ap (λ n. if ends_paragraph text (suc index) && nat_lt n room then suc index else shown) here
+          ∙ ap (λ n. if are_few_paragraphs room text (suc index) then suc index else n) so.shown_are
+          ∙ ap (last_passing (are_few_paragraphs room text)) same;
       few = (let e = so.few in let o = at_most_one (get_or text index 0) in omega (arith, counted, e, o));
     }
 
-pub fronts_all : (text : Text) (index lines shown : ℕ) → AreFronts text index lines shown → index ≡ length text
-    → (shown ≡ last_passing (are_few_paragraphs text) (length text)) × (shown ≤ length text)
-fronts_all text index lines shown so all =
-    let is : shown ≡ last_passing (are_few_paragraphs text) (length text) = so.shown_are ∙ ap (last_passing (are_few_paragraphs text)) all in
-    (is, let e = last_within (are_few_paragraphs text) (length text) in omega (arith, e, is))
+pub fronts_all : (room : ℕ) (text : Text) (index lines shown : ℕ) → AreFronts room text index lines shown → index ≡ length text
+    → (shown ≡ last_passing (are_few_paragraphs room text) (length text)) × (shown ≤ length text)
+fronts_all room text index lines shown so all =
+    let is : shown ≡ last_passing (are_few_paragraphs room text) (length text) = so.shown_are ∙ ap (last_passing (are_few_paragraphs room text)) all in
+    (is, let e = last_within (are_few_paragraphs room text) (length text) in omega (arith, e, is))
+
+-- ---- the last line
+
+-- of the bytes up to this one the last line begins here
+abbrev pub BeginsSoFar : Text → ℕ → ℕ → Type 0
+BeginsSoFar text index begin = begin ≡ last_passing (begins_line text) index
+
+pub begins_more : (text : Text) (index begin next : ℕ) → BeginsSoFar text index begin → next ≡ (if begins_line text (suc index) then suc index else begin)
+    → BeginsSoFar text (index + 1) next
+begins_more text index begin next so is =
+    let same : suc index ≡ index + 1 = omega arith in
+    is ∙ ap (λ n. if begins_line text (suc index) then suc index else n) so ∙ ap (last_passing (begins_line text)) same
 
 -- ---- lines that are cut
 

@@ -1,13 +1,14 @@
 -- Of an explanation at most 60 lines are shown, where not all of it is wanted.
-use Rattle.std.proofs.Common.{◌≡◌, ◌∙◌, ◌⊎◌, ℕ, suc, ◌+◌, ◌<◌, ◌≤◌, ◌^◌, ◌%◌, Bool, true, false, List, [], ◌∷◌, ◌++◌, cond, if◌then◌else◌, length, take, drop, arith, ap, inl, inr, refl, subst, sym, zero}
-use Rattle.std.specs.Prelude.{◌==◌, codes, decimal, nat_lt}
+use Rattle.std.proofs.Common.{◌≡◌, ◌∙◌, ◌⊎◌, ℕ, suc, ◌+◌, ◌-◌, ◌<◌, ◌≤◌, ◌^◌, ◌%◌, Bool, true, false, List, [], ◌∷◌, ◌++◌, cond, if◌then◌else◌, length, take, drop, arith, ap, inl, inr, refl, subst, sym, zero}
+use Rattle.std.specs.Prelude.{◌==◌, ◌&&◌, codes, decimal, eqb, nat_lt}
+use Rattle.std.specs.List.{starts_with}
 use Rattle.std.proofs.lemmas.Bool.{and_parts, cases_lt, false≢true, lt-ltb, ltb-true}
 use Rattle.std.proofs.lemmas.Fmt.{decimal_by_steps}
-use Rattle.std.proofs.lemmas.List.{length-drop}
+use Rattle.std.proofs.lemmas.List.{length-drop, length-take, nil_from_length}
 use Rattle.std.proofs.lemmas.List.Sums.{sum_by-append}
 use Rattle.source_map.specs.TextPlaces.{is_line_feed}
 use Rattle.program_io.specs.Texts.{Text}
-use Rattle.explain.specs.Shortened.{are_few_paragraphs, displayed_byte, displayed_bytes, displayed_up_to, ends_paragraph, last_passing, left_out_line, line_total, narrowed_from, room_behind, shortened}
+use Rattle.explain.specs.Shortened.{are_few_paragraphs, displayed_byte, displayed_bytes, displayed_up_to, ends_paragraph, is_hint, last_line_begin, last_passing, left_out_line, line_total, narrowed_from, paragraph_bytes, room_behind, shortened, shortened_to}
 use Rattle.explain.specs.ShownShort.{IsShownShort}
 use Rattle.explain.proofs.Fronts.{ended_by, one_line}
 
@@ -52,12 +53,12 @@ last_passes test (suc n) = by (test (suc n)) refl (last_passes test n)
     by true is rest = inl is
     by false is rest = rest
 
-front_few : (whole : Text) (k : ℕ) → (are_few_paragraphs whole k ≡ true) ⊎ (k ≡ 0) → line_total (take k whole) ≤ 59
-front_few whole k (inl is) =
-    let few : nat_lt (line_total (take k whole)) 60 ≡ true = (and_parts (ends_paragraph whole k) (nat_lt (line_total (take k whole)) 60) is).1 in
-    let below = ltb-true (line_total (take k whole)) 60 few in
+front_few : (room : ℕ) (text : Text) (k : ℕ) → 1 ≤ room → (are_few_paragraphs room text k ≡ true) ⊎ (k ≡ 0) → suc (line_total (take k text)) ≤ room
+front_few room text k some (inl is) =
+    let few : nat_lt (line_total (take k text)) room ≡ true = (and_parts (ends_paragraph text k) (nat_lt (line_total (take k text)) room) is).1 in
+    let below = ltb-true (line_total (take k text)) room few in
     omega (arith, below)
-front_few whole k (inr none) = subst (λ n. line_total (take n whole) ≤ 59) (sym none) (omega arith)
+front_few room text k some (inr none) = subst (λ n. suc (line_total (take n text)) ≤ room) (sym none) (omega (arith, some))
 
 digits_end_nothing : (n : ℕ) → n < 2 ^ 64 → line_total (decimal n) ≡ 0
 digits_end_nothing n small = decimal_by_steps (λ m ds. line_total ds ≡ 0) one more n small
@@ -90,17 +91,43 @@ at_most_bytes (byte ∷ rest) = (let own = one_line byte in let all = both_lines
     by true own all left = omega arith
     by false own all left = omega arith
 
+-- ---- the hint
+
+-- what stands behind the paragraphs is one line at most
+hint_is_short : (whole : Text) → line_total (drop (paragraph_bytes whole) whole) ≤ 1
+hint_is_short whole = by (is_hint (drop (last_line_begin whole) whole) && nat_lt 0 (last_line_begin whole)) refl
+  where
+    by : (b : Bool) → is_hint (drop (last_line_begin whole) whole) && nat_lt 0 (last_line_begin whole) ≡ b
+        → line_total (drop (if b then last_line_begin whole else length whole) whole) ≤ 1
+    by true is =
+        let hint = (and_parts (is_hint (drop (last_line_begin whole) whole)) (nat_lt 0 (last_line_begin whole)) is).0 in
+        let few = (and_parts (starts_with eqb (drop (last_line_begin whole) whole) (codes "hint: ")) (nat_lt (line_total (drop (last_line_begin whole) whole)) 2) hint).1 in
+        let below = ltb-true (line_total (drop (last_line_begin whole) whole)) 2 few in
+        omega (arith, below)
+    by false is =
+        let none : drop (length whole) whole ≡ [] = nil_from_length (drop (length whole) whole) (let e = length-drop (length whole) whole in omega (arith, e)) in
+        subst (λ (text : Text). line_total text ≤ 1) (sym none) (omega arith)
+
+with_hint_few : (paragraphs hint : Text) → length paragraphs < 2 ^ 64 → line_total hint ≤ 1 → line_total (shortened_to paragraphs hint) ≤ 60
+with_hint_few paragraphs hint small one =
+    let room = 60 - line_total hint in
+    let k = displayed_bytes room paragraphs in
+    let front = front_few room paragraphs k (omega (arith, one)) (last_passes (are_few_paragraphs room paragraphs) (length paragraphs)) in
+    let bytes = at_most_bytes (drop k paragraphs) in
+    let sized = length-drop k paragraphs in
+    let left = left_line (line_total (drop k paragraphs)) (omega (arith, bytes, sized, small)) in
+    let shown = both_lines (take k paragraphs) (left_out_line (line_total (drop k paragraphs))) in
+    let all = both_lines (displayed_up_to k paragraphs) hint in
+    omega (arith, one, front, left, shown, all)
+
 shortened_few : (whole : Text) → length whole < 2 ^ 64 → line_total (shortened whole) ≤ 60
 shortened_few whole small = by (nat_lt 60 (line_total whole)) refl
   where
-    by : (b : Bool) → nat_lt 60 (line_total whole) ≡ b → line_total (if b then displayed_up_to (displayed_bytes whole) whole else whole) ≤ 60
+    by : (b : Bool) → nat_lt 60 (line_total whole) ≡ b
+        → line_total (if b then shortened_to (take (paragraph_bytes whole) whole) (drop (paragraph_bytes whole) whole) else whole) ≤ 60
     by true is =
-        let front = front_few whole (displayed_bytes whole) (last_passes (are_few_paragraphs whole) (length whole)) in
-        let bytes = at_most_bytes (drop (displayed_bytes whole) whole) in
-        let sized = length-drop (displayed_bytes whole) whole in
-        let left = left_line (line_total (drop (displayed_bytes whole) whole)) (omega (arith, bytes, sized, small)) in
-        let all = both_lines (take (displayed_bytes whole) whole) (left_out_line (line_total (drop (displayed_bytes whole) whole))) in
-        omega (arith, front, left, all)
+        let sized = length-take (paragraph_bytes whole) whole in
+        with_hint_few (take (paragraph_bytes whole) whole) (drop (paragraph_bytes whole) whole) (omega (arith, sized, small)) (hint_is_short whole)
     by false is =
         elim (cases_lt 60 (line_total whole)) [
           | inl many ↦ absurd (false≢true (sym is ∙ lt-ltb 60 (line_total whole) many))

@@ -1,5 +1,6 @@
 -- How much of an explanation is shown.
-use Rattle.std.specs.Prelude.{◌≡◌, ℕ, zero, suc, ◌-◌, ◌==◌, ◌&&◌, not, Bool, true, false, List, [], ◌∷◌, ◌++◌, codes, count_by, decimal, drop, if◌then◌else◌, length, nat_lt, slice_index, take}
+use Rattle.std.specs.Prelude.{◌≡◌, ℕ, zero, suc, ◌-◌, ◌==◌, ◌&&◌, not, Bool, true, false, List, [], ◌∷◌, ◌++◌, codes, count_by, decimal, drop, eqb, if◌then◌else◌, length, nat_lt, slice_index, take}
+use Rattle.std.specs.List.{starts_with}
 use Rattle.pl_syntax.specs.Printed.{line}
 use Rattle.source_map.specs.TextPlaces.{is_line_feed}
 use Rattle.program_io.specs.Texts.{Text}
@@ -13,30 +14,59 @@ abbrev pub ends_paragraph : Text → ℕ → Bool
 ends_paragraph text zero = false
 ends_paragraph text (suc k) = is_line_feed (slice_index text k) && not (slice_index text (suc k) == 32)
 
--- the first k bytes are whole paragraphs, which have fewer than 60 lines
-abbrev pub are_few_paragraphs : Text → ℕ → Bool
-are_few_paragraphs text k = ends_paragraph text k && nat_lt (line_total (take k text)) 60
+-- the first k bytes are whole paragraphs, which have fewer lines than there is room for
+abbrev pub are_few_paragraphs : ℕ → Text → ℕ → Bool
+are_few_paragraphs room text k = ends_paragraph text k && nat_lt (line_total (take k text)) room
 
 -- the greatest number up to n that passes this test, or 0 where none does
 abbrev pub last_passing : (ℕ → Bool) → ℕ → ℕ
 last_passing test zero = 0
 last_passing test (suc n) = if test (suc n) then suc n else last_passing test n
 
--- how many bytes of a long explanation are shown: as many whole paragraphs as have fewer than 60 lines
-abbrev pub displayed_bytes : Text → ℕ
-displayed_bytes whole = last_passing (are_few_paragraphs whole) (length whole)
+-- how many bytes are shown of the paragraphs of a long explanation: as many whole ones as have fewer lines than there is room for
+abbrev pub displayed_bytes : ℕ → Text → ℕ
+displayed_bytes room text = last_passing (are_few_paragraphs room text) (length text)
 
 -- the line that counts the lines that are left out
 abbrev pub left_out_line : ℕ → Text
 left_out_line count = line (codes "and " ++ decimal count ++ codes " more lines: --all shows them")
 
--- an explanation up to its byte k, and how many lines of it are left out
+-- paragraphs up to their byte k, and how many lines of them are left out
 abbrev pub displayed_up_to : ℕ → Text → Text
-displayed_up_to k whole = take k whole ++ left_out_line (line_total (drop k whole))
+displayed_up_to k text = take k text ++ left_out_line (line_total (drop k text))
 
--- what is shown of an explanation: all lines where they are at most 60, and else the first paragraphs
+-- ---- the hint
+
+-- a line begins behind the first k bytes: the last of them ends a line, and something follows
+abbrev pub begins_line : Text → ℕ → Bool
+begins_line text zero = false
+begins_line text (suc k) = is_line_feed (slice_index text k) && nat_lt (suc k) (length text)
+
+-- how many bytes stand before the last line
+abbrev pub last_line_begin : Text → ℕ
+last_line_begin text = last_passing (begins_line text) (length text)
+
+-- a line that begins as a hint does
+abbrev pub is_hint : Text → Bool
+is_hint text = starts_with eqb text (codes "hint: ") && nat_lt (line_total text) 2
+
+-- how many bytes of an explanation are its paragraphs: all but the last line, where this is a hint and not the only one
+abbrev pub paragraph_bytes : Text → ℕ
+paragraph_bytes whole =
+    if is_hint (drop (last_line_begin whole) whole) && nat_lt 0 (last_line_begin whole) then last_line_begin whole else length whole
+
+-- ---- the whole
+
+-- what is shown of a long explanation with these paragraphs and this hint, if it has one: the first paragraphs, how many lines are left out, and the hint
+abbrev pub shortened_to : Text → Text → Text
+shortened_to paragraphs hint = displayed_up_to (displayed_bytes (60 - line_total hint) paragraphs) paragraphs ++ hint
+
+-- what is shown of an explanation: all lines where they are at most 60, and else the first paragraphs and the hint
 abbrev pub shortened : Text → Text
-shortened whole = if nat_lt 60 (line_total whole) then displayed_up_to (displayed_bytes whole) whole else whole
+shortened whole =
+    if nat_lt 60 (line_total whole) then shortened_to (take (paragraph_bytes whole) whole) (drop (paragraph_bytes whole) whole) else whole
+
+-- ---- long lines
 
 -- what is shown of a byte of a line, of which so many bytes have room: in place of the last one two dots, and nothing behind them
 abbrev pub displayed_byte : ℕ → ℕ → Text

@@ -1,6 +1,6 @@
 // How much of an explanation is shown.
 ghost use Rattle.std.specs.Prelude.{◌≡◌, suc, string_bytes, ◌==◌, ◌≤◌, ◌<◌, ◌&&◌, ◌++◌, IfOk, OnOk, if◌then◌else◌, length, nat_lt};
-ghost use Rattle.explain.specs.Shortened.{are_few_paragraphs, displayed, displayed_bytes, displayed_byte, displayed_up_to, ends_paragraph, left_out_line, line_total, narrowed_from, room_behind, shortened};
+ghost use Rattle.explain.specs.Shortened.{begins_line, displayed, displayed_bytes, displayed_byte, displayed_up_to, ends_paragraph, is_hint, last_line_begin, left_out_line, line_total, narrowed_from, paragraph_bytes, room_behind, shortened, shortened_to};
 
 use armus_base::{List, NoMemory};
 use std::alloc::Global;
@@ -39,28 +39,28 @@ fn line_feed(byte: u8) -> usize
     if byte == b'\n' { 1 } else { 0 }
 }
 
-// How many bytes are shown of those up to this index, before which so many are, and with which so many lines have ended.
-fn displayed_with(text: &[u8], index: usize, lines: usize, before: usize) -> usize
+// How many bytes are shown of those up to this index, before which so many are, and with which so many lines have ended, where so many have no room.
+fn displayed_with(room: usize, text: &[u8], index: usize, lines: usize, before: usize) -> usize
     requires { index < length text.now }
-    ensures { result ≡ (if ends_paragraph text.now (suc index) && nat_lt lines 60 then suc index else before) }
+    ensures { result ≡ (if ends_paragraph text.now (suc index) && nat_lt lines room then suc index else before) }
 {
-    if ends_paragraph(text, index) && lines < MOST_LINES {
+    if ends_paragraph(text, index) && lines < room {
         index + 1
     } else {
         before
     }
 }
 
-// How many bytes of a long explanation are shown.
-fn displayed_bytes(whole: &[u8]) -> usize
-    ensures value { result ≡ displayed_bytes whole.now }
-    ensures within { result ≤ length whole.now }
+// How many bytes are shown of the paragraphs of a long explanation, where so many lines have no room.
+fn displayed_bytes(room: usize, text: &[u8]) -> usize
+    ensures value { result ≡ displayed_bytes room text.now }
+    ensures within { result ≤ length text.now }
 {
     let mut lines = 0;
     let mut shown = 0;
-    for (index, byte) in whole.iter().enumerate() {
+    for (index, byte) in text.iter().enumerate() {
         lines += line_feed(*byte);
-        shown = displayed_with(whole, index, lines, shown);
+        shown = displayed_with(room, text, index, lines, shown);
     }
     shown
 }
@@ -73,13 +73,59 @@ fn left_out_line(alloc: Global, count: usize) -> Result<String, NoMemory>
     Ok(text)
 }
 
-// The first paragraphs of a long explanation, and how many lines of it are left out.
-fn displayed_front(alloc: Global, whole: &[u8]) -> Result<Vec<u8>, NoMemory>
-    ensures { IfOk result (λ lines. lines.items ≡ displayed_up_to (displayed_bytes whole.now) whole.now) }
+// Where the last line begins up to this index, before which it begins there.
+fn last_begin_with(text: &[u8], index: usize, before: usize) -> usize
+    requires { index < length text.now }
+    ensures { result ≡ (if begins_line text.now (suc index) then suc index else before) }
 {
-    let (shown, left) = whole.split_at(displayed_bytes(whole));
+    if text[index] == b'\n' && index + 1 < text.len() {
+        index + 1
+    } else {
+        before
+    }
+}
+
+// How many bytes stand before the last line.
+fn last_line_begin(text: &[u8]) -> usize
+    ensures value { result ≡ last_line_begin text.now }
+    ensures within { result ≤ length text.now }
+{
+    let mut begin = 0;
+    for (index, _) in text.iter().enumerate() {
+        begin = last_begin_with(text, index, begin);
+    }
+    begin
+}
+
+// Whether a line begins as a hint does.
+fn is_hint(text: &[u8]) -> bool
+    ensures { result ≡ is_hint text.now }
+{
+    text.starts_with(b"hint: ") && line_total(text) < 2
+}
+
+// How many bytes of an explanation are its paragraphs.
+fn paragraph_bytes(whole: &[u8]) -> usize
+    ensures value { result ≡ paragraph_bytes whole.now }
+    ensures within { result ≤ length whole.now }
+{
+    let begin = last_line_begin(whole);
+    if is_hint(&whole[begin..]) && begin > 0 {
+        begin
+    } else {
+        whole.len()
+    }
+}
+
+// What is shown of a long explanation with these paragraphs and this hint, if it has one.
+fn shortened_to(alloc: Global, paragraphs: &[u8], hint: &[u8]) -> Result<Vec<u8>, NoMemory>
+    ensures { IfOk result (λ lines. lines.items ≡ shortened_to paragraphs.now hint.now) }
+{
+    let room = MOST_LINES.saturating_sub(line_total(hint));
+    let (shown, left) = paragraphs.split_at(displayed_bytes(room, paragraphs));
     let mut out = Vec::from_slice(alloc, shown)?;
     out.extend_from_slice(left_out_line(alloc, line_total(left))?.as_bytes())?;
+    out.extend_from_slice(hint)?;
     Ok(out)
 }
 
@@ -90,7 +136,8 @@ fn shortened(alloc: Global, whole: List<u8>) -> Result<Vec<u8>, NoMemory>
     if line_total(whole.as_slice()) <= MOST_LINES {
         return Ok(whole.into_vec());
     }
-    displayed_front(alloc, whole.as_slice())
+    let (paragraphs, hint) = whole.as_slice().split_at(paragraph_bytes(whole.as_slice()));
+    shortened_to(alloc, paragraphs, hint)
 }
 
 // Appends what is shown of a byte of a line, of which so many bytes have room.

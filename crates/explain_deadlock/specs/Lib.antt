@@ -6,6 +6,8 @@ pub mod VerdictWords
 -- The paragraphs.
 pub mod ImpederLines
 pub mod Paragraphs
+-- What to mend.
+pub mod Hints
 -- The whole.
 pub mod Explanations
 -- What is proved of it.

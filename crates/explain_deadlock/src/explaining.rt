@@ -9,6 +9,7 @@ ghost use Rattle.explain_deadlock.specs.inside.Fitting.{WaitForSome};
 ghost use Rattle.pl_core.specs.calls.Worlds.{places_of, state_of};
 ghost use Rattle.explain_deadlock.specs.Verdicts.{shown_of, somebody_waits};
 
+use crate::hint::put_hint;
 use crate::outcome::WaitVerdict;
 use crate::paragraphs::put_paragraphs;
 use crate::verdict_line::put_verdict;
@@ -67,6 +68,7 @@ fn explain_facts(facts: &Facts, world: &World, counts: List<u8>) -> Result<Expla
     let mut out = counts.into_vec();
     put_verdict(facts, &mut out, &verdict)?;
     put_paragraphs(facts, &mut out, world, &shown)?;
+    put_hint(facts, &mut out, world, &verdict)?;
     Ok(Explanation {
         lines: List::from_vec(out),
         has_waiting: has_waiting(&verdict),

@@ -84,8 +84,8 @@ impl<'a> Facts<'a> {
         self.account.tasks.as_slice().get(t.0 as usize)
     }
 
-    // Where a task was drawn, if it was.
-    pub(crate) fn drawn(&self, t: TaskId) -> Option<&Drawn>
+    /// Where a task was drawn, if it was.
+    pub fn drawn(&self, t: TaskId) -> Option<&Drawn>
         ensures { option_copied result ≡ drawing_of self.now t.0 }
     {
         match self.task(t) {
@@ -114,8 +114,8 @@ impl<'a> Facts<'a> {
         }
     }
 
-    // Where a task waits, if it waits.
-    pub(crate) fn wait(&self, t: TaskId) -> Option<&Waiting>
+    /// Where a task waits, if it waits.
+    pub fn wait(&self, t: TaskId) -> Option<&Waiting>
         ensures { option_copied result ≡ wait_of self.now t.0 }
     {
         match self.task(t) {

@@ -13,6 +13,7 @@ use Rattle.armus_base.proofs.DeadByStatuses.{dead_by_final, run_is_of_plan}
 use Rattle.armus_base.proofs.Stepping.{places_fix}
 use Rattle.adaptive.specs.declared.analysis.Wanted.{Wanted}
 use Rattle.explain_deadlock.specs.declared.outcome.WaitVerdict.TheVariants.{Circle}
+use Rattle.explain_deadlock.specs.Hints.{hint_line}
 use Rattle.explain_deadlock.specs.Paragraphs.{paragraphs}
 use Rattle.explain_deadlock.specs.RunEnds.{AreFactsAt}
 use Rattle.explain_deadlock.specs.VerdictWords.{verdict_line}
@@ -36,9 +37,6 @@ use Rattle.explain.specs.Requests.{Form}
 pub some_dead : (state : State) (number : ℕ) → TellsDead state number → number ≡ 1 → (t : ℕ) × IsDeadIn state t
 some_dead state number (inl (one, dead)) is = dead
 some_dead state number (inr (zero, nobody)) is = absurd (omega (arith, zero, is))
-
-first_of_three : (a b c : List ℕ) → a ++ b ++ c ≡ a ++ (b ++ c)
-first_of_three a b c = append_assoc a b c
 
 first_of_four : (a b c d : List ℕ) → a ++ b ++ c ++ d ≡ a ++ (b ++ c ++ d)
 first_of_four a b c d = simp append_assoc refl
@@ -73,11 +71,14 @@ module _ (form : Form) (text : Text) (status number : ℕ) (lines report : Text)
       let v = x.explains.verdict in
       let r = run.report_is in
       record {
-        rest = verdict_line f v ++ paragraphs f (state_at plan a).phases (shown_of v);
+        rest = verdict_line f v ++ paragraphs f (state_at plan a).phases (shown_of v) ++ hint_line f (state_at plan a).phases v;
         others = task_lines r.standings ++ r.cycle_text ++ r.graph_text;
         lines_are = x.explains.is_it
-            ∙ first_of_three (counts_line (counts_of x.standings)) (verdict_line f v) (paragraphs f (state_at plan a).phases (shown_of v))
-            ∙ ap (λ s. counts_line (counts_of s) ++ (verdict_line f v ++ paragraphs f (state_at plan a).phases (shown_of v))) (sym stands);
+            ∙ first_of_four (counts_line (counts_of x.standings)) (verdict_line f v) (paragraphs f (state_at plan a).phases (shown_of v))
+              (hint_line f (state_at plan a).phases v)
+            ∙ ap
+              (λ s. counts_line (counts_of s) ++ (verdict_line f v ++ paragraphs f (state_at plan a).phases (shown_of v) ++ hint_line f (state_at plan a).phases v))
+              (sym stands);
         report_is = r.lines ∙ first_of_four (counts_line (counts_of r.standings)) (task_lines r.standings) r.cycle_text r.graph_text;
       }
 

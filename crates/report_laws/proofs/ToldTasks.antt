@@ -291,7 +291,7 @@ module _ (form : Form) (text : Text) (status : ℕ) (lines : Text) (e : IsExplan
       record {
         front = counts_line (counts_of e.explains.tells.explains.standings) ++ verdict_line facts x.verdict;
         said = sayings_of facts shown;
-        lines_are = x.is_it;
+        lines_are = (x.verdict, x.is_it);
         once = nothing_twice facts shown;
         told = λ t below not_done.
             paragraph_there own_plan there facts facts_there shown t (goes_explained own_plan there facts facts_there none_refused t below not_done);

@@ -1,0 +1,165 @@
+-- The hint: what to mend, by where the walk of the verdict leads.
+use Rattle.std.specs.Prelude.{ℕ, zero, ◌-◌, ◌==◌, ◌&&◌, not, nat_lt, Bool, true, false, List, [], ◌∷◌, ◌++◌, Option, Some, None, codes, decimal, if◌then◌else◌, length, option_map, slice_index_or}
+use Rattle.std.proofs.Common.{suc}
+use Rattle.std.specs.List.{find}
+use Rattle.armus_base.specs.declared.ids.TaskId.{TaskId}
+use Rattle.armus_base.specs.States.{Phases}
+use Rattle.pl_syntax.specs.Printed.{line}
+use Rattle.source_map.specs.declared.place.TextPlace.{TextPlace}
+use Rattle.source_map.specs.declared.place.TextPlace.TheVariants.{Here, Elsewhere}
+use Rattle.explain_facts.specs.declared.account.Drawn.{Drawn}
+use Rattle.explain_facts.specs.declared.account.Forked.{Forked}
+use Rattle.explain_facts.specs.declared.account.Waiting.{Waiting}
+use Rattle.explain_tasks.specs.declared.impeders.Impeder.{Impeder}
+use Rattle.explain_tasks.specs.declared.situation.Situation.{Situation}
+use Rattle.explain_tasks.specs.declared.situation.Situation.TheVariants.{HasEnded, NeverForked, NotForkedYet}
+use Rattle.explain_tasks.specs.Facts.{FactsValue, drawing_of, forking_of, is_waiting, situation_of, wait_of}
+use Rattle.explain_tasks.specs.Impeders.{impeders_by_facts}
+use Rattle.explain_tasks.specs.Places.{end_words, fork_place, named_task, said_of, wait_place}
+use Rattle.explain_deadlock.specs.declared.outcome.WaitVerdict.{WaitVerdict}
+use Rattle.explain_deadlock.specs.declared.outcome.WaitVerdict.TheVariants.{Nobody, Circle, Chain}
+
+-- the phaser for which task t waits: p1
+abbrev pub awaited_phaser : FactsValue → ℕ → List ℕ
+awaited_phaser f t = said_of (λ (w : Waiting). codes "p" ++ decimal w.event.p.0) (wait_of f t)
+
+-- ---- the walk comes to an end
+
+-- the place is one of the text itself, and not of another program
+abbrev pub is_of_text : TextPlace → Bool
+is_of_text (Here line column) = true
+is_of_text (Elsewhere from to) = false
+
+-- a task that is drawn so is none of the other program of which this await is: its `newTid` has no place there
+abbrev pub is_outside : Option Drawn → Option Waiting → Bool
+is_outside (Some d) (Some w) = is_of_text d.at && not (is_of_text w.at)
+is_outside _ _ = false
+
+-- hint: t1 (fourth) is never forked: fork it, or let it be no member of p0
+abbrev pub never_forked_hint : FactsValue → ℕ → ℕ → List ℕ
+never_forked_hint f held last =
+    line (codes "hint: " ++ named_task f last ++ codes " is never forked: fork it, or let it be no member of " ++ awaited_phaser f held)
+
+-- so many arrivals: once more, or 2 more times
+abbrev pub more_words : ℕ → List ℕ
+more_words n = if n == 1 then codes "once more" else decimal n ++ codes " more times"
+
+-- how often a member with this phase would have to arrive for the event that is awaited so
+abbrev pub missing_words : Option Waiting → Option ℕ → List ℕ
+missing_words (Some w) (Some phase) = more_words (w.event.n - phase)
+missing_words _ _ = []
+
+-- what a task that has ended, and has this phase, would have to do before:  leave p0 before 15:1, or arrive there 2 more times
+abbrev pub leaving_words : FactsValue → ℕ → ℕ → Option ℕ → List ℕ
+leaving_words f held last phase =
+    codes " leave " ++ awaited_phaser f held ++ codes " before " ++ end_words f last ++ codes ", or arrive there " ++ missing_words (wait_of f held) phase
+
+-- whom the hint tells to do so; task 0 is a member just where it made the phaser
+abbrev pub let_words : FactsValue → ℕ → ℕ → List ℕ
+let_words f held last =
+    if last == 0 then codes "hint: t0 made " ++ awaited_phaser f held ++ codes ", and so is a member of it: let it" else codes "hint: let " ++ named_task f last
+
+-- hint: let t1 (t) leave p0 before 15:1, or arrive there 2 more times
+abbrev pub ended_hint : FactsValue → ℕ → ℕ → Option ℕ → List ℕ
+ended_hint f held last phase = line (let_words f held last ++ leaving_words f held last phase)
+
+-- the phase of an impeder of task t on the phaser for which t waits
+abbrev pub impeding_phase : List Impeder → ℕ → Option ℕ
+impeding_phase impeders u = option_map (λ (i : Impeder). i.phase) (find (λ (i : Impeder). i.t.0 == u) impeders)
+
+-- the hint where the last task of a walk that comes to its end is never forked, and this one waits for it
+abbrev pub unforked_hint : FactsValue → ℕ → ℕ → List ℕ
+unforked_hint f held last = if is_outside (drawing_of f last) (wait_of f held) then [] else never_forked_hint f held last
+
+-- the hint where the walk comes to its end in a task that stands so, and this one waits for it
+abbrev pub chain_hint : FactsValue → (ℕ → Phases) → ℕ → ℕ → Situation → List ℕ
+chain_hint f phases held last HasEnded = ended_hint f held last (impeding_phase (impeders_by_facts f phases held) last)
+chain_hint f phases held last NeverForked = unforked_hint f held last
+chain_hint f phases held last _ = []
+
+-- ---- the walk closes
+
+-- a task that stands so is not forked yet, and who forks it waits
+abbrev pub is_behind_a_wait : FactsValue → Situation → Option Forked → Bool
+is_behind_a_wait f NotForkedYet (Some x) = is_waiting (situation_of f x.by.0)
+is_behind_a_wait f _ _ = false
+
+-- task t is not forked yet, and its forker waits
+abbrev pub waits_before_fork : FactsValue → TaskId → Bool
+waits_before_fork f t = is_behind_a_wait f (situation_of f t.0) (forking_of f t.0)
+
+-- hint: t0 waits at 12:1
+abbrev pub waits_at_words : FactsValue → ℕ → List ℕ
+waits_at_words f t = codes "hint: " ++ named_task f t ++ codes " waits at " ++ wait_place f t
+
+-- what it does behind its wait:  before it forks t1 (other) at 13:1: let it fork first
+abbrev pub before_fork_words : FactsValue → ℕ → List ℕ
+before_fork_words f t = codes " before it forks " ++ named_task f t ++ codes " at " ++ fork_place f t ++ codes ": let it fork first"
+
+-- hint: t0 waits at 12:1 before it forks t1 (other) at 13:1: let it fork first
+abbrev pub fork_hint : FactsValue → ℕ → Forked → List ℕ
+fork_hint f t x = line (waits_at_words f x.by.0 ++ before_fork_words f t)
+
+-- who waits so awaits a phase that it has not itself
+abbrev pub is_ahead_of_itself : Option Waiting → Bool
+is_ahead_of_itself None = false
+is_ahead_of_itself (Some w) = nat_lt w.phase w.event.n
+
+-- task t is its own impeder
+abbrev pub waits_for_itself : FactsValue → TaskId → Bool
+waits_for_itself f t = is_ahead_of_itself (wait_of f t.0)
+
+-- for which event:  for phase 2 of p0
+abbrev pub for_event_words : Waiting → List ℕ
+for_event_words w = codes " for phase " ++ decimal w.event.n ++ codes " of p" ++ decimal w.event.p.0
+
+-- which phase it has: , and has phase 1 itself: let it arrive first, or look less far ahead
+abbrev pub own_phase_words : Waiting → List ℕ
+own_phase_words w = codes ", and has phase " ++ decimal w.phase ++ codes " itself: let it arrive first, or look less far ahead"
+
+-- hint: t3 (consumer) waits at 11:22 for phase 2 of p0, and has phase 1 itself: let it arrive first, or look less far ahead
+abbrev pub itself_hint : FactsValue → ℕ → Waiting → List ℕ
+itself_hint f t w = line (waits_at_words f t ++ for_event_words w ++ own_phase_words w)
+
+-- what one task of a circle would have to do before it waits, where this one waits for it: t0 at p1 before 19:1
+abbrev pub before_words : FactsValue → TaskId → TaskId → List ℕ
+before_words f waiter t = named_task f t.0 ++ codes " at " ++ awaited_phaser f waiter.0 ++ codes " before " ++ wait_place f t.0
+
+-- that the others of the circle may do it too
+abbrev pub others_words : List TaskId → List ℕ
+others_words [] = []
+others_words (t ∷ rest) = codes ", or another one likewise"
+
+-- hint: one of them has to arrive, or leave, before it waits: t0 at p1 before 19:1, or t1 (other) at p0 before 14:3
+abbrev pub circle_words : FactsValue → TaskId → TaskId → TaskId → List TaskId → List ℕ
+circle_words f last t u rest =
+    line
+    (codes "hint: one of them has to arrive, or leave, before it waits: " ++ before_words f last t ++ codes ", or " ++ before_words f t u ++ others_words rest)
+
+-- the hint on a circle: of its first two tasks, of which the last one waits for the first
+abbrev pub circle_hint : FactsValue → List TaskId → List ℕ
+circle_hint f [] = []
+circle_hint f (t ∷ []) = []
+circle_hint f (t ∷ u ∷ rest) = circle_words f (slice_index_or (t ∷ u ∷ rest) (length (t ∷ u ∷ rest) - 1) t) t u rest
+
+-- the hint where this task waits for itself, if one does, and else that of the circle
+abbrev pub itself_or_circle : FactsValue → List TaskId → Option TaskId → List ℕ
+itself_or_circle f shown (Some t) = said_of (itself_hint f t.0) (wait_of f t.0)
+itself_or_circle f shown None = circle_hint f shown
+
+-- the hint where this task is not forked before its forker waits, if one is
+abbrev pub fork_or_others : FactsValue → List TaskId → Option TaskId → List ℕ
+fork_or_others f shown (Some t) = said_of (fork_hint f t.0) (forking_of f t.0)
+fork_or_others f shown None = itself_or_circle f shown (find (waits_for_itself f) shown)
+
+-- the hint where the walk closes in these tasks
+abbrev pub closed_hint : FactsValue → List TaskId → List ℕ
+closed_hint f shown = fork_or_others f shown (find (waits_before_fork f) shown)
+
+-- ---- the whole
+
+-- the line of the hint, if one fits
+abbrev pub hint_line : FactsValue → (ℕ → Phases) → WaitVerdict → List ℕ
+hint_line f phases Nobody = []
+hint_line f phases (Circle shown) = closed_hint f shown
+hint_line f phases (Chain held last) = chain_hint f phases held.0 last.0 (situation_of f last.0)

@@ -1,0 +1,459 @@
+// The line of the hint.
+ghost use Rattle.std.specs.Prelude.{◌≡◌, ◌==◌, ◌<◌, ◌-◌, ◌++◌, OnOk, length, option_copied, slice_index_or};
+ghost use Rattle.std.specs.List.{find};
+ghost use Rattle.armus_base.specs.declared.ids.TaskId.{TaskId};
+ghost use Rattle.explain_tasks.specs.calls.Fitting.{FactsFitPlan};
+ghost use Rattle.explain_deadlock.specs.Hints.{awaited_phaser, before_fork_words, before_words, chain_hint, circle_hint, circle_words, closed_hint, ended_hint, for_event_words, fork_hint, fork_or_others, hint_line, impeding_phase, is_ahead_of_itself, is_behind_a_wait, is_of_text, is_outside, itself_hint, itself_or_circle, leaving_words, let_words, missing_words, more_words, never_forked_hint, others_words, own_phase_words, unforked_hint, waits_at_words, waits_before_fork, waits_for_itself};
+ghost use Rattle.pl_core.specs.calls.Worlds.{state_of};
+
+use crate::outcome::WaitVerdict;
+use armus_base::{NoMemory, Phase, TaskId};
+use explain_facts::{Drawn, Forked, Waiting, put_number, put_words};
+use explain_tasks::{Facts, Impeder, Situation, is_waiting};
+use pl_core::World;
+use source_map::TextPlace;
+use std::alloc::Global;
+
+// Appends the phaser for which a task waits.
+fn put_awaited_phaser(facts: &Facts, out: &mut Vec<u8>, t: TaskId) -> Result<(), NoMemory>
+    ensures { OnOk result (out.new.items ≡ out.old.items ++ awaited_phaser facts.now t.0) }
+{
+    match facts.wait(t) {
+        Some(wait) => {
+            put_words(out, b"p")?;
+            put_number(facts.alloc(), out, wait.event.p.0)
+        }
+        None => Ok(()),
+    }
+}
+
+// Whether a place is one of the text itself.
+fn is_of_text(at: TextPlace) -> bool
+    ensures { result ≡ is_of_text at }
+{
+    match at {
+        TextPlace::Here { line: _, column: _ } => true,
+        TextPlace::Elsewhere { from: _, to: _ } => false,
+    }
+}
+
+// Whether a task that is drawn so is none of the other program of which this await is.
+fn is_outside(drawn: Option<&Drawn>, wait: Option<&Waiting>) -> bool
+    ensures { result ≡ is_outside (option_copied drawn.entry) (option_copied wait.entry) }
+{
+    match drawn {
+        Some(drawn) => match wait {
+            Some(wait) => is_of_text(drawn.at) && !is_of_text(wait.at),
+            None => false,
+        },
+        None => false,
+    }
+}
+
+// Appends that a task for which this one waits is never forked.
+fn put_never_forked(
+    facts: &Facts,
+    out: &mut Vec<u8>,
+    held: TaskId,
+    last: TaskId,
+) -> Result<(), NoMemory>
+    ensures { OnOk result (out.new.items ≡ out.old.items ++ never_forked_hint facts.now held.0 last.0) }
+{
+    put_words(out, b"hint: ")?;
+    facts.put_named(out, last)?;
+    put_words(out, b" is never forked: fork it, or let it be no member of ")?;
+    put_awaited_phaser(facts, out, held)?;
+    put_words(out, b"\n")
+}
+
+// Appends the hint where a task that is never forked ends the walk.
+fn put_unforked(
+    facts: &Facts,
+    out: &mut Vec<u8>,
+    held: TaskId,
+    last: TaskId,
+) -> Result<(), NoMemory>
+    ensures { OnOk result (out.new.items ≡ out.old.items ++ unforked_hint facts.now held.0 last.0) }
+{
+    if is_outside(facts.drawn(last), facts.wait(held)) {
+        return Ok(());
+    }
+    put_never_forked(facts, out, held, last)
+}
+
+// Appends so many arrivals.
+fn put_more(alloc: Global, out: &mut Vec<u8>, n: u32) -> Result<(), NoMemory>
+    ensures { OnOk result (out.new.items ≡ out.old.items ++ more_words n) }
+{
+    if n == 1 {
+        return put_words(out, b"once more");
+    }
+    put_number(alloc, out, n)?;
+    put_words(out, b" more times")
+}
+
+// Appends how often a member with this phase would have to arrive for the event that is awaited so.
+fn put_missing(
+    alloc: Global,
+    out: &mut Vec<u8>,
+    wait: Option<&Waiting>,
+    phase: Option<Phase>,
+) -> Result<(), NoMemory>
+    ensures { OnOk result (out.new.items ≡ out.old.items ++ missing_words (option_copied wait.entry) phase) }
+{
+    match wait {
+        Some(wait) => match phase {
+            Some(phase) => put_more(alloc, out, wait.event.n.saturating_sub(phase)),
+            None => Ok(()),
+        },
+        None => Ok(()),
+    }
+}
+
+// Appends what a task that has ended, and has this phase, would have to do before.
+fn put_leaving(
+    facts: &Facts,
+    out: &mut Vec<u8>,
+    held: TaskId,
+    last: TaskId,
+    phase: Option<Phase>,
+) -> Result<(), NoMemory>
+    ensures { OnOk result (out.new.items ≡ out.old.items ++ leaving_words facts.now held.0 last.0 phase) }
+{
+    put_words(out, b" leave ")?;
+    put_awaited_phaser(facts, out, held)?;
+    put_words(out, b" before ")?;
+    facts.put_end_place(out, last)?;
+    put_words(out, b", or arrive there ")?;
+    put_missing(facts.alloc(), out, facts.wait(held), phase)
+}
+
+// Appends whom the hint tells to do so.
+fn put_let(
+    facts: &Facts,
+    out: &mut Vec<u8>,
+    held: TaskId,
+    last: TaskId,
+) -> Result<(), NoMemory>
+    ensures { OnOk result (out.new.items ≡ out.old.items ++ let_words facts.now held.0 last.0) }
+{
+    if last.0 == 0 {
+        put_words(out, b"hint: t0 made ")?;
+        put_awaited_phaser(facts, out, held)?;
+        return put_words(out, b", and so is a member of it: let it");
+    }
+    put_words(out, b"hint: let ")?;
+    facts.put_named(out, last)
+}
+
+// Appends the hint where a task that has ended, and has this phase, ends the walk.
+fn put_ended(
+    facts: &Facts,
+    out: &mut Vec<u8>,
+    held: TaskId,
+    last: TaskId,
+    phase: Option<Phase>,
+) -> Result<(), NoMemory>
+    ensures { OnOk result (out.new.items ≡ out.old.items ++ ended_hint facts.now held.0 last.0 phase) }
+{
+    put_let(facts, out, held, last)?;
+    put_leaving(facts, out, held, last, phase)?;
+    put_words(out, b"\n")
+}
+
+// Whether an impeder is this task.
+fn is_impeder(impeder: Impeder, u: TaskId) -> bool
+    ensures { result ≡ (impeder.t.0 == u.0) }
+{
+    impeder.t.0 == u.0
+}
+
+// The phase of one of these impeders.
+fn impeding_phase(impeders: &[Impeder], u: TaskId) -> Option<Phase>
+    ensures { result ≡ impeding_phase impeders.now u.0 }
+{
+    impeders
+        .iter()
+        .find(|impeder| is_impeder(**impeder, u))
+        .map(|impeder| impeder.phase)
+}
+
+// Appends the hint where a task that stands so ends the walk.
+fn put_chain_hint(
+    facts: &Facts,
+    out: &mut Vec<u8>,
+    world: &World,
+    held: TaskId,
+    last: TaskId,
+    situation: Situation,
+) -> Result<(), NoMemory>
+    requires fits { FactsFitPlan facts.now world.now.plan }
+    ensures { OnOk result (out.new.items ≡ out.old.items ++ chain_hint facts.now (state_of world.now).phases held.0 last.0 situation) }
+{
+    match situation {
+        Situation::HasEnded => {
+            let impeders = facts.impeders(world, held)?;
+            put_ended(facts, out, held, last, impeding_phase(&impeders, last))
+        }
+        Situation::NeverForked => put_unforked(facts, out, held, last),
+        Situation::Deadlocked | Situation::Held | Situation::NotForkedYet => Ok(()),
+    }
+}
+
+// Whether a task that stands so, and is forked so, is not forked yet, and who forks it waits.
+fn is_behind_a_wait(facts: &Facts, situation: Situation, fork: Option<Forked>) -> bool
+    ensures { result ≡ is_behind_a_wait facts.now situation fork }
+{
+    match situation {
+        Situation::NotForkedYet => match fork {
+            Some(fork) => is_waiting(facts.situation(fork.by)),
+            None => false,
+        },
+        _ => false,
+    }
+}
+
+// Whether a task is not forked yet, and its forker waits.
+fn waits_before_fork(facts: &Facts, t: TaskId) -> bool
+    ensures { result ≡ waits_before_fork facts.now t }
+{
+    is_behind_a_wait(facts, facts.situation(t), facts.fork(t))
+}
+
+// Appends where a task waits.
+fn put_waits_at(facts: &Facts, out: &mut Vec<u8>, t: TaskId) -> Result<(), NoMemory>
+    ensures { OnOk result (out.new.items ≡ out.old.items ++ waits_at_words facts.now t.0) }
+{
+    put_words(out, b"hint: ")?;
+    facts.put_named(out, t)?;
+    put_words(out, b" waits at ")?;
+    facts.put_wait_place(out, t)
+}
+
+// Appends that who waits forks this task behind its wait.
+fn put_before_fork(facts: &Facts, out: &mut Vec<u8>, t: TaskId) -> Result<(), NoMemory>
+    ensures { OnOk result (out.new.items ≡ out.old.items ++ before_fork_words facts.now t.0) }
+{
+    put_words(out, b" before it forks ")?;
+    facts.put_named(out, t)?;
+    put_words(out, b" at ")?;
+    facts.put_fork_place(out, t)?;
+    put_words(out, b": let it fork first")
+}
+
+// Appends the hint on a task that is forked behind a wait.
+fn put_fork_hint(
+    facts: &Facts,
+    out: &mut Vec<u8>,
+    t: TaskId,
+    fork: Forked,
+) -> Result<(), NoMemory>
+    ensures { OnOk result (out.new.items ≡ out.old.items ++ fork_hint facts.now t.0 fork) }
+{
+    put_waits_at(facts, out, fork.by)?;
+    put_before_fork(facts, out, t)?;
+    put_words(out, b"\n")
+}
+
+// Whether who waits so awaits a phase that it has not itself.
+fn is_ahead_of_itself(wait: Option<&Waiting>) -> bool
+    ensures { result ≡ is_ahead_of_itself (option_copied wait.entry) }
+{
+    match wait {
+        Some(wait) => wait.phase < wait.event.n,
+        None => false,
+    }
+}
+
+// Whether a task is its own impeder.
+fn waits_for_itself(facts: &Facts, t: TaskId) -> bool
+    ensures { result ≡ waits_for_itself facts.now t }
+{
+    is_ahead_of_itself(facts.wait(t))
+}
+
+// Appends for which event a task waits.
+fn put_for_event(alloc: Global, out: &mut Vec<u8>, wait: &Waiting) -> Result<(), NoMemory>
+    ensures { OnOk result (out.new.items ≡ out.old.items ++ for_event_words wait.now) }
+{
+    put_words(out, b" for phase ")?;
+    put_number(alloc, out, wait.event.n)?;
+    put_words(out, b" of p")?;
+    put_number(alloc, out, wait.event.p.0)
+}
+
+// Appends which phase it has.
+fn put_own_phase(alloc: Global, out: &mut Vec<u8>, wait: &Waiting) -> Result<(), NoMemory>
+    ensures { OnOk result (out.new.items ≡ out.old.items ++ own_phase_words wait.now) }
+{
+    put_words(out, b", and has phase ")?;
+    put_number(alloc, out, wait.phase)?;
+    put_words(
+        out,
+        b" itself: let it arrive first, or look less far ahead",
+    )
+}
+
+// Appends the hint on a task that waits so for itself.
+fn put_itself_hint(
+    facts: &Facts,
+    out: &mut Vec<u8>,
+    t: TaskId,
+    wait: &Waiting,
+) -> Result<(), NoMemory>
+    ensures { OnOk result (out.new.items ≡ out.old.items ++ itself_hint facts.now t.0 wait.now) }
+{
+    put_waits_at(facts, out, t)?;
+    put_for_event(facts.alloc(), out, wait)?;
+    put_own_phase(facts.alloc(), out, wait)?;
+    put_words(out, b"\n")
+}
+
+// Appends what a task of a circle would have to do before it waits, where this one waits for it.
+fn put_before(
+    facts: &Facts,
+    out: &mut Vec<u8>,
+    waiter: TaskId,
+    t: TaskId,
+) -> Result<(), NoMemory>
+    ensures { OnOk result (out.new.items ≡ out.old.items ++ before_words facts.now waiter t) }
+{
+    facts.put_named(out, t)?;
+    put_words(out, b" at ")?;
+    put_awaited_phaser(facts, out, waiter)?;
+    put_words(out, b" before ")?;
+    facts.put_wait_place(out, t)
+}
+
+// Appends that the others of the circle may do it too.
+fn put_others(out: &mut Vec<u8>, rest: &[TaskId]) -> Result<(), NoMemory>
+    ensures { OnOk result (out.new.items ≡ out.old.items ++ others_words rest.now) }
+{
+    match rest {
+        [] => Ok(()),
+        [_, ..] => put_words(out, b", or another one likewise"),
+    }
+}
+
+// The last one of some tasks.
+fn last_of(shown: &[TaskId]) -> TaskId
+    requires { 0 < length shown.now }
+    ensures { (d : TaskId) → slice_index_or shown.now (length shown.now - 1) d ≡ result }
+{
+    shown[shown.len() - 1]
+}
+
+// Appends the hint on a circle of these two tasks and the rest, whose last one waits for the first.
+fn put_circle_words(
+    facts: &Facts,
+    out: &mut Vec<u8>,
+    last: TaskId,
+    t: TaskId,
+    u: TaskId,
+    rest: &[TaskId],
+) -> Result<(), NoMemory>
+    ensures { OnOk result (out.new.items ≡ out.old.items ++ circle_words facts.now last t u rest.now) }
+{
+    put_words(
+        out,
+        b"hint: one of them has to arrive, or leave, before it waits: ",
+    )?;
+    put_before(facts, out, last, t)?;
+    put_words(out, b", or ")?;
+    put_before(facts, out, t, u)?;
+    put_others(out, rest)?;
+    put_words(out, b"\n")
+}
+
+// Appends the hint on a circle.
+fn put_circle_hint(facts: &Facts, out: &mut Vec<u8>, shown: &[TaskId]) -> Result<(), NoMemory>
+    ensures { OnOk result (out.new.items ≡ out.old.items ++ circle_hint facts.now shown.now) }
+{
+    match shown {
+        [] => Ok(()),
+        [_] => Ok(()),
+        [t, u, rest @ ..] => put_circle_words(facts, out, last_of(shown), *t, *u, rest),
+    }
+}
+
+// Appends the hint where this task waits for itself, if one does, and else that of the circle.
+fn put_itself_or_circle(
+    facts: &Facts,
+    out: &mut Vec<u8>,
+    shown: &[TaskId],
+    itself: Option<TaskId>,
+) -> Result<(), NoMemory>
+    ensures { OnOk result (out.new.items ≡ out.old.items ++ itself_or_circle facts.now shown.now itself) }
+{
+    match itself {
+        Some(t) => match facts.wait(t) {
+            Some(wait) => put_itself_hint(facts, out, t, wait),
+            None => Ok(()),
+        },
+        None => put_circle_hint(facts, out, shown),
+    }
+}
+
+// The first of these tasks that is not forked yet, and whose forker waits.
+fn first_behind_a_wait(facts: &Facts, shown: &[TaskId]) -> Option<TaskId>
+    ensures { result ≡ find (waits_before_fork facts.now) shown.now }
+{
+    shown
+        .iter()
+        .find(|t| waits_before_fork(facts, **t))
+        .copied()
+}
+
+// The first of these tasks that waits for itself.
+fn first_for_itself(facts: &Facts, shown: &[TaskId]) -> Option<TaskId>
+    ensures { result ≡ find (waits_for_itself facts.now) shown.now }
+{
+    shown
+        .iter()
+        .find(|t| waits_for_itself(facts, **t))
+        .copied()
+}
+
+// Appends the hint where this task is not forked before its forker waits, if one is, and else that of the others.
+fn put_fork_or_others(
+    facts: &Facts,
+    out: &mut Vec<u8>,
+    shown: &[TaskId],
+    late: Option<TaskId>,
+) -> Result<(), NoMemory>
+    ensures { OnOk result (out.new.items ≡ out.old.items ++ fork_or_others facts.now shown.now late) }
+{
+    match late {
+        Some(t) => match facts.fork(t) {
+            Some(fork) => put_fork_hint(facts, out, t, fork),
+            None => Ok(()),
+        },
+        None => put_itself_or_circle(facts, out, shown, first_for_itself(facts, shown)),
+    }
+}
+
+// Appends the hint where the walk closes in these tasks.
+fn put_closed_hint(facts: &Facts, out: &mut Vec<u8>, shown: &[TaskId]) -> Result<(), NoMemory>
+    ensures { OnOk result (out.new.items ≡ out.old.items ++ closed_hint facts.now shown.now) }
+{
+    put_fork_or_others(facts, out, shown, first_behind_a_wait(facts, shown))
+}
+
+/// Appends the line of the hint, if one fits.
+pub(crate) fn put_hint(
+    facts: &Facts,
+    out: &mut Vec<u8>,
+    world: &World,
+    verdict: &WaitVerdict,
+) -> Result<(), NoMemory>
+    requires fits { FactsFitPlan facts.now world.now.plan }
+    ensures { OnOk result (out.new.items ≡ out.old.items ++ hint_line facts.now (state_of world.now).phases verdict.now) }
+{
+    match verdict {
+        WaitVerdict::Nobody => Ok(()),
+        WaitVerdict::Circle(shown) => put_closed_hint(facts, out, shown.as_slice()),
+        WaitVerdict::Chain(held, last) => {
+            put_chain_hint(facts, out, world, *held, *last, facts.situation(*last))
+        }
+    }
+}
