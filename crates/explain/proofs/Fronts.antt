@@ -1,6 +1,6 @@
 -- The first paragraphs of an explanation, byte by byte, and its lines cut to so many bytes.
-use Rattle.std.proofs.Common.{◌≡◌, ◌∙◌, ℕ, suc, ◌+◌, ◌-◌, ◌<◌, ◌≤◌, Bool, true, false, List, [], ◌∷◌, ◌++◌, cond, if◌then◌else◌, length, take, drop, append_assoc, append-nil, arith, ap, refl, sym, subst, zero}
-use Rattle.std.specs.Prelude.{◌==◌, ◌&&◌, count_by, get_or, nat_lt}
+use Rattle.std.proofs.Common.{◌≡◌, ◌∙◌, ℕ, suc, ◌+◌, ◌<◌, ◌≤◌, Bool, true, false, [], ◌∷◌, ◌++◌, cond, if◌then◌else◌, length, take, drop, append_assoc, append-nil, arith, ap, refl, sym, zero}
+use Rattle.std.specs.Prelude.{◌==◌, ◌&&◌, get_or, nat_lt}
 use Rattle.std.proofs.lemmas.List.{drop_more, length-drop, nil_from_length, take_more}
 use Rattle.std.proofs.lemmas.List.Sums.{sum_by-append}
 use Rattle.source_map.specs.TextPlaces.{is_line_feed}

@@ -8,7 +8,7 @@ use Rattle.std.proofs.lemmas.List.{length-drop, length-take, nil_from_length}
 use Rattle.std.proofs.lemmas.List.Sums.{sum_by-append}
 use Rattle.source_map.specs.TextPlaces.{is_line_feed}
 use Rattle.program_io.specs.Texts.{Text}
-use Rattle.explain.specs.Shortened.{are_few_paragraphs, displayed_byte, displayed_bytes, displayed_up_to, ends_paragraph, is_hint, last_line_begin, last_passing, left_out_line, line_total, narrowed_from, paragraph_bytes, room_behind, shortened, shortened_to}
+use Rattle.explain.specs.Shortened.{are_few_paragraphs, displayed_byte, displayed_bytes, displayed_up_to, ends_paragraph, is_hint, last_line_begin, last_passing, left_out_line, line_total, narrowed_from, paragraph_bytes, room_behind, shortened, shortened_long, shortened_to}
 use Rattle.explain.specs.ShownShort.{IsShownShort}
 use Rattle.explain.proofs.Fronts.{ended_by, one_line}
 
@@ -124,7 +124,7 @@ shortened_few : (whole : Text) → length whole < 2 ^ 64 → line_total (shorten
 shortened_few whole small = by (nat_lt 60 (line_total whole)) refl
   where
     by : (b : Bool) → nat_lt 60 (line_total whole) ≡ b
-        → line_total (if b then shortened_to (take (paragraph_bytes whole) whole) (drop (paragraph_bytes whole) whole) else whole) ≤ 60
+        → line_total (if b then shortened_long whole else whole) ≤ 60
     by true is =
         let sized = length-take (paragraph_bytes whole) whole in
         with_hint_few (take (paragraph_bytes whole) whole) (drop (paragraph_bytes whole) whole) (omega (arith, sized, small)) (hint_is_short whole)

@@ -1,5 +1,5 @@
 -- How much of an explanation is shown.
-use Rattle.std.specs.Prelude.{◌≡◌, ℕ, zero, suc, ◌-◌, ◌==◌, ◌&&◌, not, Bool, true, false, List, [], ◌∷◌, ◌++◌, codes, count_by, decimal, drop, eqb, if◌then◌else◌, length, nat_lt, slice_index, take}
+use Rattle.std.specs.Prelude.{◌≡◌, ℕ, zero, suc, ◌-◌, ◌==◌, ◌&&◌, not, Bool, true, false, [], ◌∷◌, ◌++◌, codes, count_by, decimal, drop, eqb, if◌then◌else◌, length, nat_lt, slice_index, take}
 use Rattle.std.specs.List.{starts_with}
 use Rattle.pl_syntax.specs.Printed.{line}
 use Rattle.source_map.specs.TextPlaces.{is_line_feed}
@@ -61,10 +61,13 @@ paragraph_bytes whole =
 abbrev pub shortened_to : Text → Text → Text
 shortened_to paragraphs hint = displayed_up_to (displayed_bytes (60 - line_total hint) paragraphs) paragraphs ++ hint
 
+-- what is shown of a long explanation: its first paragraphs and its hint
+abbrev pub shortened_long : Text → Text
+shortened_long whole = shortened_to (take (paragraph_bytes whole) whole) (drop (paragraph_bytes whole) whole)
+
 -- what is shown of an explanation: all lines where they are at most 60, and else the first paragraphs and the hint
 abbrev pub shortened : Text → Text
-shortened whole =
-    if nat_lt 60 (line_total whole) then shortened_to (take (paragraph_bytes whole) whole) (drop (paragraph_bytes whole) whole) else whole
+shortened whole = if nat_lt 60 (line_total whole) then shortened_long whole else whole
 
 -- ---- long lines
 

@@ -1,6 +1,6 @@
 // How much of an explanation is shown.
 ghost use Rattle.std.specs.Prelude.{◌≡◌, suc, string_bytes, ◌==◌, ◌≤◌, ◌<◌, ◌&&◌, ◌++◌, IfOk, OnOk, if◌then◌else◌, length, nat_lt};
-ghost use Rattle.explain.specs.Shortened.{begins_line, displayed, displayed_bytes, displayed_byte, displayed_up_to, ends_paragraph, is_hint, last_line_begin, left_out_line, line_total, narrowed_from, paragraph_bytes, room_behind, shortened, shortened_to};
+ghost use Rattle.explain.specs.Shortened.{begins_line, displayed, displayed_bytes, displayed_byte, displayed_up_to, ends_paragraph, is_hint, last_line_begin, left_out_line, line_total, narrowed_from, paragraph_bytes, room_behind, shortened, shortened_long, shortened_to};
 
 use armus_base::{List, NoMemory};
 use std::alloc::Global;
@@ -129,6 +129,14 @@ fn shortened_to(alloc: Global, paragraphs: &[u8], hint: &[u8]) -> Result<Vec<u8>
     Ok(out)
 }
 
+// What is shown of a long explanation.
+fn shortened_long(alloc: Global, whole: &[u8]) -> Result<Vec<u8>, NoMemory>
+    ensures { IfOk result (λ lines. lines.items ≡ shortened_long whole.now) }
+{
+    let (paragraphs, hint) = whole.split_at(paragraph_bytes(whole));
+    shortened_to(alloc, paragraphs, hint)
+}
+
 // The lines of an explanation that are shown.
 fn shortened(alloc: Global, whole: List<u8>) -> Result<Vec<u8>, NoMemory>
     ensures { IfOk result (λ lines. lines.items ≡ shortened whole) }
@@ -136,8 +144,7 @@ fn shortened(alloc: Global, whole: List<u8>) -> Result<Vec<u8>, NoMemory>
     if line_total(whole.as_slice()) <= MOST_LINES {
         return Ok(whole.into_vec());
     }
-    let (paragraphs, hint) = whole.as_slice().split_at(paragraph_bytes(whole.as_slice()));
-    shortened_to(alloc, paragraphs, hint)
+    shortened_long(alloc, whole.as_slice())
 }
 
 // Appends what is shown of a byte of a line, of which so many bytes have room.

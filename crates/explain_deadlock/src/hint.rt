@@ -61,7 +61,10 @@ fn put_never_forked(
 {
     put_words(out, b"hint: ")?;
     facts.put_named(out, last)?;
-    put_words(out, b" is never forked: fork it, or let it be no member of ")?;
+    put_words(
+        out,
+        b" is never forked: fork it, or let it be no member of ",
+    )?;
     put_awaited_phaser(facts, out, held)?;
     put_words(out, b"\n")
 }
@@ -129,12 +132,7 @@ fn put_leaving(
 }
 
 // Appends whom the hint tells to do so.
-fn put_let(
-    facts: &Facts,
-    out: &mut Vec<u8>,
-    held: TaskId,
-    last: TaskId,
-) -> Result<(), NoMemory>
+fn put_let(facts: &Facts, out: &mut Vec<u8>, held: TaskId, last: TaskId) -> Result<(), NoMemory>
     ensures { OnOk result (out.new.items ≡ out.old.items ++ let_words facts.now held.0 last.0) }
 {
     if last.0 == 0 {
@@ -242,12 +240,7 @@ fn put_before_fork(facts: &Facts, out: &mut Vec<u8>, t: TaskId) -> Result<(), No
 }
 
 // Appends the hint on a task that is forked behind a wait.
-fn put_fork_hint(
-    facts: &Facts,
-    out: &mut Vec<u8>,
-    t: TaskId,
-    fork: Forked,
-) -> Result<(), NoMemory>
+fn put_fork_hint(facts: &Facts, out: &mut Vec<u8>, t: TaskId, fork: Forked) -> Result<(), NoMemory>
     ensures { OnOk result (out.new.items ≡ out.old.items ++ fork_hint facts.now t.0 fork) }
 {
     put_waits_at(facts, out, fork.by)?;
@@ -288,10 +281,7 @@ fn put_own_phase(alloc: Global, out: &mut Vec<u8>, wait: &Waiting) -> Result<(),
 {
     put_words(out, b", and has phase ")?;
     put_number(alloc, out, wait.phase)?;
-    put_words(
-        out,
-        b" itself: let it arrive first, or look less far ahead",
-    )
+    put_words(out, b" itself: let it arrive first, or look less far ahead")
 }
 
 // Appends the hint on a task that waits so for itself.
@@ -310,12 +300,7 @@ fn put_itself_hint(
 }
 
 // Appends what a task of a circle would have to do before it waits, where this one waits for it.
-fn put_before(
-    facts: &Facts,
-    out: &mut Vec<u8>,
-    waiter: TaskId,
-    t: TaskId,
-) -> Result<(), NoMemory>
+fn put_before(facts: &Facts, out: &mut Vec<u8>, waiter: TaskId, t: TaskId) -> Result<(), NoMemory>
     ensures { OnOk result (out.new.items ≡ out.old.items ++ before_words facts.now waiter t) }
 {
     facts.put_named(out, t)?;
@@ -408,10 +393,7 @@ fn first_behind_a_wait(facts: &Facts, shown: &[TaskId]) -> Option<TaskId>
 fn first_for_itself(facts: &Facts, shown: &[TaskId]) -> Option<TaskId>
     ensures { result ≡ find (waits_for_itself facts.now) shown.now }
 {
-    shown
-        .iter()
-        .find(|t| waits_for_itself(facts, **t))
-        .copied()
+    shown.iter().find(|t| waits_for_itself(facts, **t)).copied()
 }
 
 // Appends the hint where this task is not forked before its forker waits, if one is, and else that of the others.

@@ -75,10 +75,10 @@ module _ (form : Form) (text : Text) (status number : ℕ) (lines report : Text)
         others = task_lines r.standings ++ r.cycle_text ++ r.graph_text;
         lines_are = x.explains.is_it
             ∙ first_of_four (counts_line (counts_of x.standings)) (verdict_line f v) (paragraphs f (state_at plan a).phases (shown_of v))
-              (hint_line f (state_at plan a).phases v)
+            (hint_line f (state_at plan a).phases v)
             ∙ ap
-              (λ s. counts_line (counts_of s) ++ (verdict_line f v ++ paragraphs f (state_at plan a).phases (shown_of v) ++ hint_line f (state_at plan a).phases v))
-              (sym stands);
+            (λ s. counts_line (counts_of s) ++ (verdict_line f v ++ paragraphs f (state_at plan a).phases (shown_of v) ++ hint_line f (state_at plan a).phases v))
+            (sym stands);
         report_is = r.lines ∙ first_of_four (counts_line (counts_of r.standings)) (task_lines r.standings) r.cycle_text r.graph_text;
       }
 
