@@ -15,6 +15,10 @@ pub enum Point {
     Op { t: TaskId, k: u32 },
     /// After the lines of a verdict were written; `count` tasks are named so far.
     Named { count: u32 },
+    /// Before an await of task `t` is judged, where awaits are judged by an order of the tasks that is kept.
+    Ordered { t: TaskId },
+    /// Before the rows that so many sites store are checked for the last time.
+    Rows { sites: u32 },
 }
 
 /// Where the program reads. It tells the bytes left, or not, and counts its faults.

@@ -42,6 +42,14 @@ impl Judge {
         }
     }
 
+    /// Whether it judges by an order.
+    pub fn keeps_order(&self) -> bool {
+        match self.judging {
+            Judging::Graph(_) => false,
+            Judging::Order => true,
+        }
+    }
+
     /// Decides as `decide` does, or as `decide_kept` by its order.
     pub fn decide(
         &mut self,

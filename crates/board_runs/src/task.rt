@@ -11,7 +11,7 @@ ghost use Rattle.board_runs.specs.inside.Tasks.{MakesSome};
 use crate::beginning::{Attempt, await_to_decide, begin};
 use crate::rounds::{Calls, TakeTurn, TurnSetting};
 use crate::worker_cells::WorkerCells;
-use armus_base::{Cursor, List, NoMemory, Plan, Point, TaskId};
+use armus_base::{Cursor, List, NoMemory, Op, Plan, Point, TaskId};
 use board::{Board, TaskSeat};
 use phase_scan::{Look, look};
 use pl_core::Place;
@@ -182,7 +182,8 @@ impl<'p> Task<'p> {
         let Some(op) = self.cursor.peek() else {
             return Ok(None);
         };
-        setting.gate.call(Point::Op { t, k: self.begun });
+        let keeps_order = cells.keeps_order();
+        call_gate(setting.gate, t, self.begun, op, keeps_order);
         let (alloc, board, children) = (setting.alloc, setting.board, &mut self.children);
         match begin(&mut self.seat, children, alloc, board, op, cells)? {
             Attempt::LockedOut => Ok(None),
@@ -242,6 +243,18 @@ impl<'p> Task<'p> {
                 Some(1)
             }
         }
+    }
+}
+
+// Calls the gate before op `k` of the code of task `t`, and before an await that an order is asked for.
+fn call_gate<C: Calls>(gate: &C, t: TaskId, k: u32, op: Op, keeps_order: bool) {
+    gate.call(Point::Op { t, k });
+    if !keeps_order {
+        return;
+    }
+    match op {
+        Op::Await { p: _, off: _ } => gate.call(Point::Ordered { t }),
+        _ => {}
     }
 }
 

@@ -49,6 +49,14 @@ impl WorkerCells {
         }
     }
 
+    /// Whether its judge keeps an order.
+    pub(crate) fn keeps_order(&self) -> bool {
+        match self.judging {
+            Judging::Graph(_) => false,
+            Judging::Order => true,
+        }
+    }
+
     /// How many words the awaits that were begun with these cells load, as a board is defined, up to 2^64 - 1: each that was published one of each task, and
     /// each on which was decided those of its collect.
     pub fn loads_for_awaits(&self) -> u64 {

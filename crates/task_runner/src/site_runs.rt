@@ -17,7 +17,7 @@ use crate::RunOptions;
 use crate::board_run::BoardRun;
 use crate::viewers::Viewers;
 use adaptive::{Analysis, Wanted};
-use armus_base::{Final, Gate, List, NoMemory, Plan, Status};
+use armus_base::{Final, Gate, List, NoMemory, Plan, Point, Status};
 use avoider::Judging;
 use board::{Board, Mode, ViewSeat};
 use sites::{KeepEnd, Keeper, SiteEnd, check_sites, put_parts};
@@ -56,6 +56,7 @@ pub fn run_sites<R: Threads + Sync, G: Gate, K: Keeper>(
     let mut run = BoardRun::start(alloc, &board, seat, plan, options, Judging::Graph(wanted))?;
     run.go(rt, &board, gate, &mut viewers, keeper)?;
     let (end, statuses) = end_of_board(run, board, view, gate)?;
+    gate.at(Point::Rows { sites });
     put_final(alloc, keeper, statuses.as_slice(), sites, options.wanted)?;
     Ok(end)
 }

@@ -22,6 +22,9 @@ pub(crate) trait NextStep {
     // What holds of a world between steps.
     ghost keeps: { WorldValue → Type 0 };
 
+    /// Whether an await is judged by an order that is kept.
+    fn keeps_order(&self) -> bool;
+
     /// Makes the next step of task `t`, which may go on.
     fn make(&mut self, alloc: Global, world: &mut World, t: TaskId) -> Result<(), NoMemory>
         requires task { t.0 < length world.old.plan.parents }
@@ -44,6 +47,10 @@ impl NextStep for Judge {
 
     ghost keeps = { λ w. NobodyDead (state_of w) };
 
+    fn keeps_order(&self) -> bool {
+        self.keeps_order()
+    }
+
     fn make(&mut self, alloc: Global, world: &mut World, t: TaskId) -> Result<(), NoMemory> {
         go_on(alloc, world, t, self)?;
         Ok(())
@@ -61,6 +68,10 @@ impl NextStep for PlainStep {
     ghost makes = { IsWorldStep };
 
     ghost keeps = { NobodyRefused };
+
+    fn keeps_order(&self) -> bool {
+        false
+    }
 
     fn make(&mut self, _alloc: Global, world: &mut World, t: TaskId) -> Result<(), NoMemory> {
         world.step(t);

@@ -86,8 +86,9 @@ fn turn<S: NextStep, G: Gate>(
     ensures turn { IfOk result (IsTurnBy S.makes t.0 world.old world.new) }
     ensures queue { OnOk result ((first : WorldValue) → HasTurnLeft queue.old t.0 → IsRunQueue first world.old queue.old → IsRunQueue first world.new queue.new) }
 {
+    let keeps_order = step.keeps_order();
     let mut moved = false;
-    'turn: while let Some(kind) = next_kind(world, t, gate) {
+    'turn: while let Some(kind) = next_kind(world, t, gate, keeps_order) {
         step.make(alloc, world, t)?;
         queue.step_made(world, t, kind)?;
         moved = true;
@@ -96,8 +97,8 @@ fn turn<S: NextStep, G: Gate>(
     Ok(moved)
 }
 
-// Of what kind the next step of a task is, if it may go on; before an op it calls the gate.
-fn next_kind<G: Gate>(world: &World, t: TaskId, gate: &G) -> Option<StepKind>
+// Of what kind the next step of a task is, if it may go on; before an op, and before an await that an order is asked for, it calls the gate.
+fn next_kind<G: Gate>(world: &World, t: TaskId, gate: &G, keeps_order: bool) -> Option<StepKind>
     requires task { t.0 < length world.now.plan.parents }
     ensures kind { MatchOption result (IsEnabled world.now t.0 → ⊥) (λ kind. IsEnabled world.now t.0 × IsOfKind world.now t.0 kind) }
     ensures checked { IsCheckedPlan world.now.plan }
@@ -107,6 +108,9 @@ fn next_kind<G: Gate>(world: &World, t: TaskId, gate: &G) -> Option<StepKind>
     match kind {
         None | Some(StepKind::Passes) => {}
         Some(_) => gate.at(Point::Op { t, k: world.op(t) }),
+    }
+    if keeps_order && kind == Some(StepKind::Awaits) {
+        gate.at(Point::Ordered { t });
     }
     kind
 }

@@ -1,17 +1,13 @@
 -- Turns of tasks in a world.
-use Rattle.std.specs.Prelude.{◌≡◌, ℕ, ◌+◌, ◌-◌, Bool, false, List, [], ◌∷◌, Some, if◌then◌else◌, length, slice_get}
+use Rattle.std.specs.Prelude.{◌≡◌, ℕ, ◌+◌, ◌-◌, false, List, [], ◌∷◌, Some, if◌then◌else◌, length, slice_get}
 use Rattle.std.proofs.Common.{suc}
 use Rattle.armus_base.specs.Plans.{Plan, actions}
 use Rattle.pl_core.specs.declared.place.Place.{Place}
-use Rattle.pl_core.specs.calls.Worlds.{WorldValue, state_of}
+use Rattle.pl_core.specs.calls.Worlds.{WorldValue}
 
 -- no task is refused
 abbrev pub NobodyRefused : WorldValue → Type 0
 NobodyRefused w = (t : ℕ) (place : Place) → slice_get w.places t ≡ Some place → place.refused ≡ false
-
--- what is noted of a task says whether it is forked
-abbrev pub TellsForked : WorldValue → List Bool → Type 0
-TellsForked w forked = (t : ℕ) (noted : Bool) → slice_get forked t ≡ Some noted → (state_of w).forked t ≡ noted
 
 -- how many actions task t at this place has left, and one more if it may still be refused
 abbrev pub left_at : Plan → ℕ → Place → ℕ
