@@ -14,6 +14,7 @@
 #include <elf.h>
 #include <errno.h>
 #include <fcntl.h>
+#include <linux/membarrier.h>
 #include <mpi.h>
 #include <netdb.h>
 #include <poll.h>
@@ -29,6 +30,7 @@
 #include <sys/resource.h>
 #include <sys/socket.h>
 #include <sys/stat.h>
+#include <sys/syscall.h>
 #include <sys/un.h>
 #include <time.h>
 #include <unistd.h>
@@ -38,15 +40,15 @@ enum kind { BARRIER, ALLREDUCE, ALLGATHER, ALLGATHERV, ALLTOALL, ALLTOALLV, ALLT
             SCAN, EXSCAN,                           /* the last rank waits for all */
             REDUCE, GATHER, GATHERV,                /* the root waits for all */
             BCAST, SCATTER, SCATTERV, IBCAST, KINDS, /* all wait for the root */
-            SEND, RECEIVE, POST, COMPLETE, ANY, ABROAD, ONE_OF, ALL_OF, NONE };
+            SEND, KEPT, RECEIVE, POST, COMPLETE, ANY, ABROAD, ONE_OF, ALL_OF, NONE };
 static const char *const kind_names[KINDS] = {"Barrier", "Allreduce", "Allgather", "Allgatherv", "Alltoall", "Alltoallv", "Alltoallw", "Reduce_scatter",
     "Reduce_scatter_block", "Ibarrier", "Iallreduce", "Iallgather", "Ialltoall", "Comm_dup", "Comm_split", "Win_create", "Win_fence", "Win_free", "Finalize", "Scan", "Exscan", "Reduce", "Gather", "Gatherv", "Bcast",
     "Scatter", "Scatterv", "Ibcast"};
 #define FIRST_OF_LAST SCAN
 #define FIRST_ROOTED REDUCE
 #define FIRST_FROM_ROOT BCAST
-enum { FROM_ROOT = KINDS - BCAST, RANKS = 128, WINDOW_RANKS = 32, THREADS = 64, REQUESTS = 1024, PARTS = 32, LINE = 512, NAME = 40, PERIOD = 50, REACHED_IN = 2000 };
-enum { EXACT_TAGS = 1024, TAG_CLASSES = 64, CHANNELS = 16384, BUCKETS = 64, COUNTS_IN_A_LOOK = 1000, EVERY_TAG = -1, ANY_RANK = -1, NO_RANK = -2, LONG_PATIENCE = 10 };
+enum { FROM_ROOT = KINDS - BCAST, RANKS = 128, WINDOW_RANKS = 32, THREADS = 64, REQUESTS = 1024, PARTS = 32, FEW = 8, SHORT = 65536, LINE = 512, NAME = 40, PERIOD = 50, REACHED_IN = 2000 };
+enum { EXACT_TAGS = 1024, TAG_CLASSES = 64, CHANNELS = 16384, BUCKETS = 4096, COUNTS_IN_A_LOOK = 1000, EVERY_TAG = -1, ANY_RANK = -1, NO_RANK = -2, LONG_PATIENCE = 10 };
 
 /* The messages between this rank and another one in a communicator, of one tag or of all together. Tags from EXACT_TAGS on are counted by classes. Receives that name no
  * source or no tag are counted apart, at ANY_RANK and EVERY_TAG, and where it is known what they took, there. */
@@ -58,7 +60,8 @@ struct channel {
     _Atomic(struct slot *) user;                    /* the thread that uses it */
     _Atomic(bool) has_users;                        /* several do: nothing is known of their order */
     unsigned said_sent, said_begun;                 /* the watcher's */
-    struct channel *next;
+    struct channel *every;                          /* that of all tags together */
+    struct channel *next, *next_of_same;            /* of the table; of the communicator */
 };
 
 struct communicator {
@@ -74,8 +77,7 @@ struct communicator {
     _Atomic(unsigned) *from[FROM_ROOT];             /* how often each root was one */
     unsigned made, windows;                         /* communicators and windows made from it */
     struct epochs *epochs;                          /* of a window; else nothing */
-    _Atomic(struct channel *) channels[BUCKETS];
-    _Atomic(bool) has_channels;
+    _Atomic(struct channel *) channels;
     unsigned *said_wild;                            /* the watcher's: of each rank of world, the receives that name no tag */
     bool abroad;                                    /* with ranks of a world that this one spawned, or of the one that spawned it */
     struct communicator *next;
@@ -99,14 +101,15 @@ struct slot {
     _Atomic(struct channel *) channel;
     _Atomic(unsigned) needs;
     _Atomic(const void *) from;
+    int depth;
+    unsigned told;                                  /* the counter of the wait that was announced, or 0 */
     struct part part[PARTS];                        /* of ONE_OF and ALL_OF; written before the counter */
     int parts;
-    int depth;
     char refusal[LINE];                             /* the sentence by which the call was refused */
     char task[NAME + 24];
     /* the watcher's */
     bool announced;
-    unsigned seen, stood, told;
+    unsigned seen, stood;
     unsigned number;                                /* of the announced wait, where it has a wildcard or several requests */
     bool any;                                       /* it has a wildcard of its own */
     int told_parts;                                 /* how many requests are tasks of their own now */
@@ -116,15 +119,18 @@ struct slot {
 
 static struct slot slots[THREADS];
 static _Atomic(unsigned) slot_count;
-static __thread struct slot *mine;
+#define OWN static __thread __attribute__((tls_model("initial-exec")))
+OWN struct slot *mine;
 static _Atomic(struct communicator *) all;
 static struct communicator world, unnamed = {.name = "others"};       /* unnamed: has the messages of all that have no name */
 static int key = MPI_KEYVAL_INVALID, window_key = MPI_KEYVAL_INVALID, rank = -1, size;
-static struct channel nowhere;                      /* of messages that are not counted any more */
+static struct channel nowhere = {.every = &nowhere};  /* of messages that are not counted any more */
+static _Atomic(struct channel *) channels[BUCKETS];
 static _Atomic(unsigned) channel_count, sent_abroad, taken_abroad;
 static unsigned said_sent_abroad, said_taken_abroad;
 static _Atomic(bool) sends_uncounted, receives_uncounted, sources_unknown, on;    /* sources_unknown: a message came of which it is not known from whom */
 static bool left_sends, left_receives, shared, others_unknown;
+static bool concurrent;                             /* several threads may be in MPI at once */
 static char job[16], process[NAME];
 static int out = -1;
 static struct stat out_stat;
@@ -137,24 +143,37 @@ static _Atomic(bool) stopping;
 /* ---- the guard */
 enum { ANSWER_IN = 10000, COUNTED = 4 };             /* milliseconds; how much a call counts */
 static bool guard, has_threads;                     /* it asks; several threads call MPI, and it asks no more */
-static __thread bool may_fail;                      /* the call that begins is one of C, which gives an error */
-static __thread _Atomic(unsigned) *counted[COUNTED];  /* what it counted already, and takes back where it is refused */
+OWN bool may_fail;                      /* the call that begins is one of C, which gives an error */
+OWN _Atomic(unsigned) *counted[COUNTED];  /* what it counted already, and takes back where it is refused */
 static void ask(struct slot *s);
 static void asks_no_more(void);
 
 /* A call begins that may be refused. */
 static void asks_now(void) {
-    may_fail = guard;
-    memset(counted, 0, sizeof counted);
+    if (guard) {
+        may_fail = true;
+        memset(counted, 0, sizeof counted);
+    }
+}
+
+/* Adds to a counter, which others only read unless several threads call MPI at once. What it was. */
+static unsigned adds(_Atomic(unsigned) *counter, unsigned n) {
+    if (concurrent) {
+        return atomic_fetch_add(counter, n);
+    }
+    unsigned was = atomic_load_explicit(counter, memory_order_relaxed);
+    atomic_store_explicit(counter, was + n, memory_order_release);
+    return was;
 }
 
 static unsigned counts_at(_Atomic(unsigned) *counter) {
-    int i = 0;
-    while (i < COUNTED - 1 && counted[i] != NULL) {
-        i++;
+    for (int i = 0; guard && i < COUNTED; i++) {
+        if (counted[i] == NULL || i == COUNTED - 1) {
+            counted[i] = counter;
+            break;
+        }
     }
-    counted[i] = counter;
-    return atomic_fetch_add(counter, 1);
+    return adds(counter, 1);
 }
 
 static bool is_refused(const struct slot *s) { return s != NULL && s->refusal[0] != 0; }
@@ -206,7 +225,17 @@ static const char *place(const void *from) {
     return found;
 }
 
-/* ---- the slot of a thread */
+/* ---- the slot of a thread. Who ends a call counts, and then looks whether its wait was announced; the watcher announces a wait, and then looks whether it ended. So that
+ * one of the two sees the other, the watcher has all threads of the rank pass a barrier in between, which costs nothing elsewhere. */
+static bool has_barrier;
+
+static void pass_barrier(void) {
+    if (has_barrier) {
+        syscall(SYS_membarrier, MEMBARRIER_CMD_PRIVATE_EXPEDITED, 0, 0);
+    }
+    atomic_thread_fence(memory_order_seq_cst);
+}
+
 static struct slot *own_slot(void) {
     if (mine == NULL) {
         unsigned i = atomic_fetch_add(&slot_count, 1);
@@ -220,6 +249,15 @@ static struct slot *own_slot(void) {
         }
     }
     return mine;
+}
+
+static __attribute__((noinline)) void may_ask(struct slot *s, bool wants) {
+    s->refusal[0] = 0;
+    if (s != slots) {
+        asks_no_more();
+    } else if (wants) {
+        ask(s);
+    }
 }
 
 static struct slot *begins_as(struct part p, const void *from) {
@@ -238,12 +276,7 @@ static struct slot *begins_as(struct part p, const void *from) {
     atomic_store_explicit(&s->from, from, memory_order_relaxed);
     atomic_store_explicit(&s->count, count + 1, memory_order_release);
     if (guard) {
-        s->refusal[0] = 0;
-        if (s != slots) {
-            asks_no_more();
-        } else if (fails_here && (p.kind < KINDS || p.kind == RECEIVE)) {
-            ask(s);
-        }
+        may_ask(s, fails_here && (p.kind < KINDS || p.kind == RECEIVE));
     }
     return s;
 }
@@ -282,8 +315,12 @@ static void ends(struct slot *s) {
     }
     if (s != NULL) {
         s->depth--;
-        atomic_store_explicit(&s->count, atomic_load_explicit(&s->count, memory_order_relaxed) + 1, memory_order_seq_cst);
-        if (__atomic_load_n(&s->told, __ATOMIC_SEQ_CST) != 0) {    /* its wait was announced: it goes on before it does anything else */
+        atomic_store_explicit(&s->count, atomic_load_explicit(&s->count, memory_order_relaxed) + 1, memory_order_release);
+        atomic_signal_fence(memory_order_seq_cst);
+        if (!has_barrier) {
+            atomic_thread_fence(memory_order_seq_cst);
+        }
+        if (__atomic_load_n(&s->told, __ATOMIC_RELAXED) != 0) {    /* its wait was announced: it goes on before it does anything else */
             pthread_mutex_lock(&line_lock);
             if (s->told != 0) {
                 goes_on(s);
@@ -338,13 +375,11 @@ static void say_epochs(struct communicator *c, bool leaves) {
     char phaser[2 * NAME];
     for (int r = 0; r < c->size && c->size <= WINDOW_RANKS; r++) {
         for (int posts = 0; posts < 2 && r != c->me; posts++) {
-            epoch_phaser(phaser, c, posts ? POST : COMPLETE, c->me, r);
-            if (leaves) {
-                say("%s leave %s/%s", holder(), job, phaser);
-            } else if (posts) {
-                moves(phaser, &c->epochs->said_posted[r], atomic_load(&c->epochs->posted[r]), c->joined);
-            } else {
-                moves(phaser, &c->epochs->said_completed[r], atomic_load(&c->epochs->completed[r]), c->joined);
+            unsigned now = atomic_load(posts ? &c->epochs->posted[r] : &c->epochs->completed[r]);
+            unsigned *said = posts ? &c->epochs->said_posted[r] : &c->epochs->said_completed[r];
+            if (leaves || !c->joined || now != *said) {
+                epoch_phaser(phaser, c, posts ? POST : COMPLETE, c->me, r);
+                leaves ? say("%s leave %s/%s", holder(), job, phaser) : moves(phaser, said, now, c->joined);
             }
         }
     }
@@ -358,11 +393,10 @@ static void say_communicator(struct communicator *c, bool leaves) {
         if (of_window != (c->epochs != NULL) || (kind == FINALIZE && c != &world) || (c->between && kind >= FIRST_OF_LAST)) {
             continue;
         }
-        phaser_of(phaser, c, kind, c->me, false);
-        if (leaves) {
-            say("%s leave %s/%s", holder(), job, phaser);
-        } else {
-            moves(phaser, &c->said[kind], atomic_load(kind >= FIRST_FROM_ROOT ? &c->from[kind - FIRST_FROM_ROOT][c->me] : &c->came[kind]), c->joined);
+        unsigned now = atomic_load(kind >= FIRST_FROM_ROOT ? &c->from[kind - FIRST_FROM_ROOT][c->me] : &c->came[kind]);
+        if (leaves || !c->joined || now != c->said[kind]) {
+            phaser_of(phaser, c, kind, c->me, false);
+            leaves ? say("%s leave %s/%s", holder(), job, phaser) : moves(phaser, &c->said[kind], now, c->joined);
         }
     }
     if (c->epochs != NULL) {
@@ -374,32 +408,33 @@ static void say_communicator(struct communicator *c, bool leaves) {
 /* ---- the counts of messages */
 static int class_of(int tag) { return tag == MPI_ANY_TAG ? EVERY_TAG : tag < EXACT_TAGS ? tag : EXACT_TAGS + tag % TAG_CLASSES; }
 
-static struct channel *found_in(_Atomic(struct channel *) *bucket, int peer, int tag) {
-    struct channel *k = atomic_load_explicit(bucket, memory_order_acquire);
-    while (k != NULL && (k->peer != peer || k->tag != tag)) {
+static _Atomic(struct channel *) *bucket_of(const struct communicator *c, int peer, int tag) {
+    return &channels[((uintptr_t)c / 64 * 1023u + (unsigned)peer * 31u + (unsigned)tag) % BUCKETS];
+}
+
+static struct channel *found(const struct communicator *c, int peer, int tag) {
+    struct channel *k = atomic_load_explicit(bucket_of(c, peer, tag), memory_order_acquire);
+    while (k != NULL && (k->of != c || k->peer != peer || k->tag != tag)) {
         k = k->next;
     }
     return k;
 }
 
-/* The channel of a peer, or of ANY_RANK, and a class of tags; nowhere, where there are too many. */
-static struct channel *channel_of(struct communicator *c, int peer, int tag) {
-    struct communicator *of = c->named ? c : &unnamed;
-    _Atomic(struct channel *) *bucket = &of->channels[((unsigned)peer * 31u + (unsigned)tag) % BUCKETS];
-    struct channel *k = found_in(bucket, peer, tag);
-    if (k != NULL) {
-        return k;
-    }
+/* A new channel, unless another thread has made it meanwhile. */
+static struct channel *new_channel(struct communicator *of, int peer, int tag, struct channel *every) {
+    _Atomic(struct channel *) *bucket = bucket_of(of, peer, tag);
     pthread_mutex_lock(&channel_lock);
-    k = found_in(bucket, peer, tag);
+    struct channel *k = found(of, peer, tag);
     if (k == NULL && atomic_load(&channel_count) < CHANNELS && (k = calloc(1, sizeof *k)) != NULL) {
         atomic_fetch_add(&channel_count, 1);
         k->of = of;
         k->peer = peer;
         k->tag = tag;
+        k->every = every != NULL ? every : k;
         k->next = atomic_load(bucket);
+        k->next_of_same = atomic_load(&of->channels);
         atomic_store_explicit(bucket, k, memory_order_release);
-        atomic_store(&of->has_channels, true);
+        atomic_store_explicit(&of->channels, k, memory_order_release);
     }
     pthread_mutex_unlock(&channel_lock);
     if (k == NULL) {
@@ -409,12 +444,23 @@ static struct channel *channel_of(struct communicator *c, int peer, int tag) {
     return k != NULL ? k : &nowhere;
 }
 
+/* The channel of a peer, or of ANY_RANK, and a class of tags; nowhere, where there are too many. */
+static struct channel *channel_of(struct communicator *c, int peer, int tag) {
+    struct communicator *of = c->named ? c : &unnamed;
+    struct channel *k = found(of, peer, tag), *every = NULL;
+    if (k == NULL && tag != EVERY_TAG) {
+        every = found(of, peer, EVERY_TAG);
+        every = every != NULL ? every : new_channel(of, peer, EVERY_TAG, NULL);
+    }
+    return k != NULL ? k : new_channel(of, peer, tag, every);
+}
+
 /* How many receives a communicator has begun that name no tag, and this source or none. */
 static unsigned wild_from(struct communicator *c, int peer) {
     unsigned n = 0;
     for (int any = 0; any < 2; any++) {
         int from = any ? ANY_RANK : peer;
-        const struct channel *k = found_in(&c->channels[((unsigned)from * 31u + (unsigned)EVERY_TAG) % BUCKETS], from, EVERY_TAG);
+        const struct channel *k = found(c, from, EVERY_TAG);
         n += k != NULL ? atomic_load(&k->begun) : 0;
     }
     return n;
@@ -450,7 +496,7 @@ static int say_channel(struct communicator *c, struct channel *k) {
     }
     int lines = left_sends ? 0 : say_count(&k->said_sent, atomic_load(&k->sent), k->peer, '>', k);
     if (!left_receives && k->tag != EVERY_TAG) {
-        const struct channel *any = found_in(&c->channels[((unsigned)ANY_RANK * 31u + (unsigned)k->tag) % BUCKETS], ANY_RANK, k->tag);
+        const struct channel *any = found(c, ANY_RANK, k->tag);
         unsigned wild = (any != NULL ? atomic_load(&any->begun) : 0) + wild_from(c, k->peer);      /* first, so that none is missed that is counted there now */
         lines += say_count(&k->said_begun, wild + atomic_load(&k->begun), k->peer, '<', k);
     }
@@ -461,10 +507,8 @@ static int say_channel(struct communicator *c, struct channel *k) {
 static int say_channels(struct communicator *c) {
     int lines = 0;
     for (int wild = 1; wild >= 0; wild--) {         /* those that make channels for others first */
-        for (int i = 0; i < BUCKETS; i++) {
-            for (struct channel *k = atomic_load(&c->channels[i]); k != NULL && lines < COUNTS_IN_A_LOOK; k = k->next) {
-                lines += (k->peer == ANY_RANK) == wild ? say_channel(c, k) : 0;
-            }
+        for (struct channel *k = atomic_load(&c->channels); k != NULL && lines < COUNTS_IN_A_LOOK; k = k->next_of_same) {
+            lines += (k->peer == ANY_RANK) == wild ? say_channel(c, k) : 0;
         }
     }
     if (c->said_wild == NULL) {
@@ -500,9 +544,9 @@ static bool say_messages(void) {
     }
     if (size <= RANKS && !(left_sends && left_receives)) {
         for (struct communicator *c = atomic_load(&all); c != NULL && lines < COUNTS_IN_A_LOOK; c = c->next) {
-            lines += atomic_load(&c->has_channels) ? say_channels(c) : 0;
+            lines += atomic_load(&c->channels) != NULL ? say_channels(c) : 0;
         }
-        lines += lines < COUNTS_IN_A_LOOK && atomic_load(&unnamed.has_channels) ? say_channels(&unnamed) : 0;
+        lines += lines < COUNTS_IN_A_LOOK && atomic_load(&unnamed.channels) != NULL ? say_channels(&unnamed) : 0;
     }
     unsigned sent = atomic_load(&sent_abroad), taken = atomic_load(&taken_abroad);
     if (sent != said_sent_abroad || taken != said_taken_abroad) {
@@ -721,6 +765,7 @@ static void announce(struct slot *s, unsigned count) {
     bool waits = wait_line(s);
     if (waits) {
         __atomic_store_n(&s->told, count, __ATOMIC_SEQ_CST);
+        pass_barrier();
     }
     if (!waits || __atomic_load_n(&s->count, __ATOMIC_SEQ_CST) != count) {
         length = before;
@@ -903,6 +948,8 @@ static void *watch(void *nothing) {
 }
 
 /* ---- communicators */
+static void forget_all_of(const struct communicator *c);
+
 static int *ranks_in_world(MPI_Group group, int n) {
     MPI_Group of_world;
     int *to = malloc(2 * sizeof(int) * (size_t)(n > 0 ? n : 1));
@@ -957,6 +1004,9 @@ static void known_ranks(struct communicator *c, MPI_Comm handle) {
     enlist(c);
 }
 
+static MPI_Comm last_handle;                        /* the communicator that was asked for last, where one thread at a time asks */
+static struct communicator *last_known;
+
 /* What is known of a communicator; of one that came in a way that is not wrapped, who belongs to it. */
 static struct communicator *known(MPI_Comm handle) {
     void *found = NULL;
@@ -967,13 +1017,19 @@ static struct communicator *known(MPI_Comm handle) {
     if (handle == MPI_COMM_NULL || key == MPI_KEYVAL_INVALID) {
         return NULL;
     }
-    PMPI_Comm_get_attr(handle, key, &found, &is_there);
-    if (is_there) {
-        return found;
+    if (!concurrent && last_known != NULL && handle == last_handle) {
+        return last_known;
     }
-    struct communicator *c = calloc(1, sizeof *c);
-    known_ranks(c, handle);
-    PMPI_Comm_set_attr(handle, key, c);
+    PMPI_Comm_get_attr(handle, key, &found, &is_there);
+    struct communicator *c = is_there ? found : calloc(1, sizeof *c);
+    if (!is_there) {
+        known_ranks(c, handle);
+        PMPI_Comm_set_attr(handle, key, c);
+    }
+    if (!concurrent) {
+        last_handle = handle;
+        last_known = c;
+    }
     return c;
 }
 
@@ -1024,27 +1080,60 @@ static void made_between(MPI_Comm handle) {
     pthread_mutex_unlock(&made_lock);
 }
 
+/* What was known of a communicator or a window is given back, where no count of its messages may still have to be told, and no other thread may be in a call with it. */
+static void drop(struct communicator *c) {
+    if (concurrent || atomic_load(&c->channels) != NULL || c->windows > 0) {
+        return;
+    }
+    struct communicator *before = atomic_load(&all);
+    while (before != NULL && before != c && before->next != c) {
+        before = before->next;
+    }
+    if (before == c) {
+        atomic_store(&all, c->next);
+    } else if (before != NULL) {
+        before->next = c->next;
+    }
+    forget_all_of(c);
+    for (int k = 0; k < FROM_ROOT; k++) {
+        free(c->from[k]);
+    }
+    if (c->epochs == NULL) {                        /* a window has the ranks of its communicator */
+        free(c->world);
+        free(c->between ? c->peer : NULL);
+    }
+    free(c->epochs);
+    free(c->said_wild);
+    free(c);
+}
+
 /* The rank has to do with a communicator or a window no more. */
 static void leaves_all(struct communicator *c) {
-    pthread_mutex_lock(&line_lock);
     if (c->joined && out >= 0 && (shared || slots[0].told == 0)) {
         say_communicator(c, true);
         hand_over();
     }
     c->gone = true;
-    pthread_mutex_unlock(&line_lock);
 }
 
 static int is_freed(MPI_Comm handle, int number, void *value, void *extra) {
     (void)handle, (void)number, (void)extra;
+    if (last_known == value) {
+        last_known = NULL;
+    }
+    pthread_mutex_lock(&line_lock);
     leaves_all(value);
+    drop(value);
+    pthread_mutex_unlock(&line_lock);
     return MPI_SUCCESS;
 }
 
 /* ---- windows */
 static int window_is_freed(MPI_Win handle, int number, void *value, void *extra) {
     (void)handle, (void)number, (void)extra;
-    leaves_all(value);
+    pthread_mutex_lock(&line_lock);
+    leaves_all(value);                              /* the call that frees it may still wait */
+    pthread_mutex_unlock(&line_lock);
     return MPI_SUCCESS;
 }
 
@@ -1178,6 +1267,8 @@ static void begin(const void *from) {
     PMPI_Comm_size(MPI_COMM_WORLD, &size);
     PMPI_Query_thread(&level);
     others_unknown = level >= MPI_THREAD_SERIALIZED;           /* a rank may have several tasks then */
+    concurrent = level == MPI_THREAD_MULTIPLE;
+    has_barrier = syscall(SYS_membarrier, MEMBARRIER_CMD_REGISTER_PRIVATE_EXPEDITED, 0, 0) == 0;
     for (unsigned i = 0; id == NULL && i < sizeof names / sizeof names[0]; i++) {
         id = getenv(names[i]);
     }
@@ -1458,9 +1549,15 @@ static bool has_locks(MPI_Win w) {
 }
 
 int MPI_Win_free(MPI_Win *w) {
+    struct communicator *c = counts() ? known_window(*w) : NULL;
     struct slot *s = of_window(WIN_FREE, *w, counts() && has_locks(*w), HERE);
     int result = PMPI_Win_free(w);
     ends(s);
+    if (c != NULL && c->gone) {
+        pthread_mutex_lock(&line_lock);
+        drop(c);
+        pthread_mutex_unlock(&line_lock);
+    }
     return result;
 }
 
@@ -1487,7 +1584,7 @@ int MPI_Win_post(MPI_Group g, int how, MPI_Win w) {
     if (c != NULL) {
         c->epochs->origins = ranks_of(g, w, c, c->epochs->origin);
         for (int i = 0; i < c->epochs->origins; i++) {
-            atomic_fetch_add(&c->epochs->posted[c->epochs->origin[i]], 1);
+            adds(&c->epochs->posted[c->epochs->origin[i]], 1);
         }
     }
     struct slot *s = begins(NONE, NULL, 0, 0, HERE);
@@ -1513,7 +1610,7 @@ int MPI_Win_start(MPI_Group g, int how, MPI_Win w) {
 int MPI_Win_complete(MPI_Win w) {
     struct communicator *c = counts() ? known_window(w) : NULL;
     for (int i = 0; c != NULL && i < c->epochs->targets; i++) {
-        atomic_fetch_add(&c->epochs->completed[c->epochs->target[i]], 1);
+        adds(&c->epochs->completed[c->epochs->target[i]], 1);
     }
     struct slot *s = waits_for_ranks(POST, c, c != NULL ? c->epochs->targets : 0, c != NULL ? c->epochs->target : NULL, c != NULL ? c->epochs->started : NULL, HERE);
     int result = PMPI_Win_complete(w);
@@ -1545,12 +1642,10 @@ static struct channel *channel_at(struct communicator *c, int other, int tag) {
     return peer == NO_RANK || size > RANKS ? NULL : channel_of(c, peer, class_of(tag));
 }
 
-static struct channel *every_tag(struct channel *k) { return k == &nowhere ? k : channel_of(k->of, k->peer, EVERY_TAG); }
-
 /* Whether what is begun in a channel is begun one behind the other, and each for the next message. */
 static bool is_in_order(struct channel *k) {
-    struct slot *own = own_slot(), *before = NULL;
-    if (!atomic_compare_exchange_strong(&k->user, &before, own) && before != own) {
+    struct slot *own = own_slot(), *before = atomic_load_explicit(&k->user, memory_order_relaxed);
+    if (before != own && (before != NULL || (!atomic_compare_exchange_strong(&k->user, &before, own) && before != own))) {
         atomic_store(&k->has_users, true);
     }
     return k->tag < EXACT_TAGS && k->of != &unnamed && !atomic_load(&k->has_users);
@@ -1559,8 +1654,26 @@ static bool is_in_order(struct channel *k) {
 /* Which message of its channel is sent now. */
 static unsigned counts_message(struct channel *k) {
     unsigned before = counts_at(&k->sent);
-    counts_at(&every_tag(k)->sent);
+    counts_at(&k->every->sent);
     return is_in_order(k) ? before + 1 - atomic_load(&k->given_up) : 1;
+}
+
+static bool is_send(int kind) { return kind == SEND || kind == KEPT; }
+
+/* Whether a message is so short that MPI puts it by where no receive of it has begun: its sender waits at most until there is room, which comes as soon as the other one's
+ * thread runs in MPI. */
+static bool is_short(int n, MPI_Datatype t) {
+    int bytes = 0;
+    if (n > 0 && t != MPI_DATATYPE_NULL) {
+        PMPI_Type_size(t, &bytes);
+    }
+    return bytes >= 0 && (int64_t)n * bytes <= SHORT;
+}
+
+static void may_keep(struct part *p, int n, MPI_Datatype t) {
+    if (p->kind == SEND && is_short(n, t)) {
+        p->kind = KEPT;
+    }
 }
 
 /* Counts a message to a rank. What its sending may have to wait for: so many receives as it is the message of its channel; nothing where it is not counted. */
@@ -1568,7 +1681,7 @@ static struct part sends_to(struct communicator *c, int to, int tag) {
     struct channel *k = channel_at(c, to, tag);
     if (k == NULL) {
         if (is_abroad(c, to)) {
-            atomic_fetch_add(&sent_abroad, 1);
+            adds(&sent_abroad, 1);
         }
         return (struct part){.kind = NONE, .peer = -1};
     }
@@ -1591,19 +1704,19 @@ static void took(struct communicator *c, struct channel *k, const MPI_Status *st
         if (peer < 0) {
             atomic_store(&sources_unknown, true);
             if (status != NULL && is_abroad(c, status->MPI_SOURCE)) {
-                atomic_fetch_add(&taken_abroad, 1);
+                adds(&taken_abroad, 1);
             }
             return;
         }
         of_message = channel_of(c, peer, status != NULL ? class_of(status->MPI_TAG) : EVERY_TAG);
         if (status != NULL) {
-            atomic_fetch_add(&of_message->begun, 1);
-            atomic_fetch_sub(&k->begun, 1);
+            adds(&of_message->begun, 1);
+            adds(&k->begun, -1u);
         }
     }
-    atomic_fetch_add(&of_message->taken, 1);
+    adds(&of_message->taken, 1);
     if (of_message->tag != EVERY_TAG) {
-        atomic_fetch_add(&every_tag(of_message)->taken, 1);
+        adds(&of_message->every->taken, 1);
     }
 }
 
@@ -1649,23 +1762,33 @@ static void has_received(const struct slot *s, const struct receive *r, int resu
     if (s != NULL && has_come(result)) {
         took(r->of, r->channel, result == MPI_SUCCESS ? status : NULL);
         if (r->is_abroad) {
-            atomic_fetch_add(&taken_abroad, 1);
+            adds(&taken_abroad, 1);
         }
     }
 }
 
-#define SENDS(name) \
+/* A message that was not sent: the next one of its channel is the one that it would have been. */
+static void is_sent(const struct part *p, int result) {
+    if (result != MPI_SUCCESS && is_send(p->kind)) {
+        adds(&p->channel->given_up, 1);
+    }
+}
+
+#define SENDS(name, keeps) \
     int MPI_##name(const void *a, int n, MPI_Datatype t, int to, int tag, MPI_Comm h) { \
-        struct slot *s = begins_as(sends_to(counts() ? known(h) : NULL, to, tag), HERE); \
+        struct part p = sends_to(counts() ? known(h) : NULL, to, tag); \
+        keeps; \
+        struct slot *s = begins_as(p, HERE); \
         int result = PMPI_##name(a, n, t, to, tag, h); \
+        is_sent(&p, result); \
         ends(s); \
         return result; \
     }
 
-SENDS(Send)
-SENDS(Ssend)
-SENDS(Rsend)
-SENDS(Bsend)
+SENDS(Send, may_keep(&p, n, t))
+SENDS(Ssend, )
+SENDS(Rsend, may_keep(&p, n, t))
+SENDS(Bsend, may_keep(&p, 0, t))
 
 int MPI_Recv(void *a, int n, MPI_Datatype t, int from, int tag, MPI_Comm h, MPI_Status *status) {
     MPI_Status own, *to = status == MPI_STATUS_IGNORE ? &own : status;
@@ -1691,7 +1814,7 @@ int MPI_Probe(int from, int tag, MPI_Comm h, MPI_Status *status) {
 /* A message that is taken out of the others, to be received later: it counts as received. */
 static void takes_out(const struct slot *s, const struct receive *r, const MPI_Status *status) {
     if (s != NULL && r->channel != NULL) {
-        atomic_fetch_add(&r->channel->begun, 1);
+        adds(&r->channel->begun, 1);
     }
     has_received(s, r, MPI_SUCCESS, status);
 }
@@ -1751,7 +1874,19 @@ int MPI_Sendrecv_replace(void *a, int n, MPI_Datatype t, int to, int tag, int fr
 /* ---- requests. A table has what is known of each; one that is pushed out by another is only not known any more. */
 struct request { MPI_Request handle; int kind, peer; unsigned needs; struct communicator *of; struct channel *channel; bool there, begins_again; };
 static struct request requests[REQUESTS];
-static pthread_mutex_t request_lock = PTHREAD_MUTEX_INITIALIZER;   /* of the table: never held in a call of MPI */
+static pthread_mutex_t request_lock = PTHREAD_MUTEX_INITIALIZER;   /* of the table, where several threads may use it at once: never held in a call of MPI */
+
+static void lock_requests(void) {
+    if (concurrent) {
+        pthread_mutex_lock(&request_lock);
+    }
+}
+
+static void unlock_requests(void) {
+    if (concurrent) {
+        pthread_mutex_unlock(&request_lock);
+    }
+}
 
 /* The entry of a handle, or one that it may have. */
 static struct request *entry_of(MPI_Request handle) {
@@ -1769,71 +1904,86 @@ static struct request *entry_of(MPI_Request handle) {
 /* A request is not under way any more, or nothing is known of it any more. */
 static void is_over(const struct request *r) {
     if (r->there && r->kind == RECEIVE && r->needs > 0) {
-        atomic_fetch_sub(&r->channel->under_way, 1);
+        adds(&r->channel->under_way, -1u);
     }
 }
 
 static void is_begun(const struct request *r) {
     if (r->kind == RECEIVE && r->needs > 0) {
-        atomic_fetch_add(&r->channel->under_way, 1);
+        adds(&r->channel->under_way, 1);
     }
 }
 
 static void remember(struct request q) {
-    pthread_mutex_lock(&request_lock);
+    lock_requests();
     struct request *r = entry_of(q.handle);
     is_over(r);
     q.there = true;
     *r = q;
     is_begun(r);
-    pthread_mutex_unlock(&request_lock);
+    unlock_requests();
 }
 
 /* What is known of a request; kind NONE where that is nothing. */
 static struct request recall(MPI_Request handle) {
     struct request found = {.kind = NONE, .peer = -1};
     if (handle != MPI_REQUEST_NULL) {
-        pthread_mutex_lock(&request_lock);
+        lock_requests();
         const struct request *r = entry_of(handle);
         if (r->there && r->handle == handle) {
             found = *r;
         }
-        pthread_mutex_unlock(&request_lock);
+        unlock_requests();
     }
     return found;
 }
 
 /* One that begins again stays, but is not under way any more. */
 static void forget(MPI_Request handle) {
-    pthread_mutex_lock(&request_lock);
+    lock_requests();
     struct request *r = entry_of(handle);
     if (r->handle == handle) {
         is_over(r);
         r->there = r->begins_again && r->there;
         r->needs = 0;
     }
-    pthread_mutex_unlock(&request_lock);
+    unlock_requests();
+}
+
+/* Nothing is known of the requests of a communicator any more, nor of what the own call waits for there. */
+static void forget_all_of(const struct communicator *c) {
+    for (int i = 0; i < REQUESTS; i++) {
+        requests[i].there &= requests[i].of != c;
+    }
+    for (int i = 0; mine != NULL && i < mine->parts; i++) {
+        mine->part[i].kind = mine->part[i].of != c ? mine->part[i].kind : NONE;
+    }
+    if (mine != NULL && atomic_load(&mine->of) == c) {
+        atomic_store(&mine->kind, NONE);
+    }
 }
 
 static struct request request_of(MPI_Request handle, struct communicator *c, struct part p) {
     return (struct request){.handle = handle, .kind = p.kind, .peer = p.peer, .needs = p.needs, .of = c, .channel = p.channel};
 }
 
-#define BEGINS_SEND(name) \
+#define BEGINS_SEND(name, keeps) \
     int MPI_##name(const void *a, int n, MPI_Datatype t, int to, int tag, MPI_Comm h, MPI_Request *q) { \
         struct part p = sends_to(counts() ? known(h) : NULL, to, tag); \
+        keeps; \
         struct slot *s = begins(NONE, NULL, 0, 0, HERE); \
         int result = PMPI_##name(a, n, t, to, tag, h, q); \
-        if (s != NULL && p.kind == SEND && result == MPI_SUCCESS) { \
+        is_sent(&p, result); \
+        if (s != NULL && is_send(p.kind) && result == MPI_SUCCESS) { \
             remember(request_of(*q, NULL, p)); \
         } \
         ends(s); \
         return result; \
     }
-BEGINS_SEND(Isend)
-BEGINS_SEND(Issend)
-BEGINS_SEND(Irsend)
-BEGINS_SEND(Ibsend)
+BEGINS_SEND(Isend, may_keep(&p, n, t))
+BEGINS_SEND(Issend, )
+BEGINS_SEND(Irsend, may_keep(&p, n, t))
+BEGINS_SEND(Ibsend, may_keep(&p, 0, t))
 
 /* What a request for a message waits for. */
 static struct part part_of(const struct receive *r) {
@@ -1844,7 +1994,7 @@ static struct part part_of(const struct receive *r) {
 
 static struct slot *begins_receive(const struct receive *r, const void *at) {
     if (r->channel != NULL) {
-        atomic_fetch_add(&r->channel->begun, 1);
+        adds(&r->channel->begun, 1);
     }
     return begins(NONE, NULL, -1, 0, at);
 }
@@ -1879,17 +2029,17 @@ BEGINS_COLLECTIVE(IALLGATHER, Iallgather, 0, m > 0, (const void *a, int n, MPI_D
 BEGINS_COLLECTIVE(IALLTOALL, Ialltoall, 0, m > 0, (const void *a, int n, MPI_Datatype t, void *b, int m, MPI_Datatype u, MPI_Comm h, MPI_Request *q), (a, n, t, b, m, u, h, q))
 BEGINS_COLLECTIVE(IBCAST, Ibcast, r, n > 0, (void *a, int n, MPI_Datatype t, int r, MPI_Comm h, MPI_Request *q), (a, n, t, r, h, q))
 
-/* A request that was done. With no status it is not known which message came. */
+/* A request that was done, and that no other thread has cancelled meanwhile. With no status it is not known which message came. */
 static void is_done(MPI_Request handle, const struct request *r, const MPI_Status *status) {
     int cancelled = 0;
-    if (status != NULL && r->kind != NONE && r->needs > 0) {
+    if (concurrent && status != NULL && r->kind != NONE && r->needs > 0) {
         PMPI_Test_cancelled(status, &cancelled);
     }
     if (!cancelled && r->needs > 0 && (r->kind == RECEIVE || r->kind == ANY)) {
         took(r->of, r->channel, status);
     }
     if (!cancelled && r->needs > 0 && r->kind == ABROAD) {
-        atomic_fetch_add(&taken_abroad, 1);
+        adds(&taken_abroad, 1);
     }
     if (r->kind != NONE) {
         forget(handle);
@@ -1912,8 +2062,8 @@ static struct slot *waits(int n, const MPI_Request *q, const struct request *kno
     for (int i = 0; i < n; i++) {
         if (q[i] != MPI_REQUEST_NULL && !(known_ones[i].begins_again && known_ones[i].needs == 0)) {
             whole &= known_ones[i].kind != NONE && known_ones[i].needs > 0;
-            sends += known_ones[i].kind == SEND;
-            others += known_ones[i].kind != SEND && known_ones[i].kind != NONE;
+            sends += is_send(known_ones[i].kind);
+            others += !is_send(known_ones[i].kind) && known_ones[i].kind != NONE;
         }
     }
     bool sends_alone = all && others == 0;              /* it may be that all but one went off without a word: then one has still to be taken */
@@ -1923,7 +2073,7 @@ static struct slot *waits(int n, const MPI_Request *q, const struct request *kno
     s->parts = 0;
     for (int i = 0; i < n; i++) {
         const struct request *r = &known_ones[i];
-        if (q[i] == MPI_REQUEST_NULL || r->kind == NONE || r->needs == 0 || (all && others > 0 && r->kind == SEND)) {
+        if (q[i] == MPI_REQUEST_NULL || r->kind == NONE || r->needs == 0 || (all && others > 0 && is_send(r->kind))) {
             continue;
         }
         if (s->parts == PARTS) {
@@ -1962,25 +2112,33 @@ int MPI_Wait(MPI_Request *q, MPI_Status *status) {
 }
 
 /* Handles and what is known of them, as they stand before a call that may change them. */
-struct before { int n; MPI_Request *handles; struct request *known_ones; };
+struct before { int n; MPI_Request *handles; struct request *known_ones; MPI_Request few[FEW]; struct request few_known[FEW]; };
 
-static struct before before_of(int n, const MPI_Request *q) {
-    struct before b = {counts() && n > 0 ? n : 0, NULL, NULL};
-    if (b.n > 0) {
-        b.handles = malloc((size_t)n * sizeof *b.handles);
-        b.known_ones = malloc((size_t)n * sizeof *b.known_ones);
-        b.n = b.handles != NULL && b.known_ones != NULL ? n : 0;
-    }
-    for (int i = 0; i < b.n; i++) {
-        b.handles[i] = q[i];
-        b.known_ones[i] = recall(q[i]);
-    }
-    return b;
+static void make_room(struct before *b, int n) {
+    bool few = n <= FEW;
+    b->n = counts() && n > 0 ? n : 0;
+    b->handles = few ? b->few : malloc((size_t)n * sizeof *b->handles);
+    b->known_ones = few ? b->few_known : malloc((size_t)n * sizeof *b->known_ones);
+    b->n = b->handles != NULL && b->known_ones != NULL ? b->n : 0;
 }
 
-static void free_before(struct before b) {
-    free(b.handles);
-    free(b.known_ones);
+static void keep(struct before *b, int i, MPI_Request handle) {
+    b->handles[i] = handle;
+    b->known_ones[i] = recall(handle);
+}
+
+static void keep_before(struct before *b, int n, const MPI_Request *q) {
+    make_room(b, n);
+    for (int i = 0; i < b->n; i++) {
+        keep(b, i, q[i]);
+    }
+}
+
+static void free_before(const struct before *b) {
+    if (b->handles != b->few) {
+        free(b->handles);
+        free(b->known_ones);
+    }
 }
 
 static void one_is_done(const struct before *b, int i, const MPI_Status *status) {
@@ -2004,14 +2162,15 @@ static void some_are_done(const struct before *b, const int *done, const int *wh
 #define OF_SEVERAL(name, beginning, parameters, words, behind) \
     int MPI_##name parameters { \
         MPI_Status own, *into = &own; \
-        struct before b = before_of(n, q); \
+        struct before b; \
+        keep_before(&b, n, q); \
         struct slot *s = beginning; \
         int result = PMPI_##name words; \
         (void)into; \
         if (s != NULL && result == MPI_SUCCESS) { \
             behind; \
         } \
-        free_before(b); \
+        free_before(&b); \
         ends(s); \
         return result; \
     }
@@ -2041,17 +2200,17 @@ int MPI_Test(MPI_Request *q, int *flag, MPI_Status *status) {
 
 /* One that is given up is not counted as done, whether its message came or not. */
 static void is_given_up(MPI_Request handle, bool is_freed) {
-    pthread_mutex_lock(&request_lock);
+    lock_requests();
     struct request *r = entry_of(handle);
     if (r->there && r->handle == handle) {
         is_over(r);
-        if (r->kind == SEND && !is_freed && r->needs > 0) {
-            atomic_fetch_add(&r->channel->given_up, 1);
+        if (is_send(r->kind) && !is_freed && r->needs > 0) {
+            adds(&r->channel->given_up, 1);
         }
         r->needs = 0;
         r->there = r->begins_again && !is_freed;
     }
-    pthread_mutex_unlock(&request_lock);
+    unlock_requests();
 }
 
 #define GIVES_UP(name, is_freed) \
@@ -2067,8 +2226,8 @@ GIVES_UP(Cancel, false)
 static void is_made_once(MPI_Request handle, int kind, struct communicator *c, int other, int tag) {
     struct receive r = {c, channel_at(c, other, tag), is_abroad(c, other)};
     struct part p = part_of(&r);
-    if (kind == SEND) {
-        p.kind = p.kind == RECEIVE ? SEND : NONE;
+    if (is_send(kind)) {
+        p.kind = p.kind == RECEIVE ? kind : NONE;
     }
     struct request q = request_of(handle, c, p);
     q.needs = 0;
@@ -2087,29 +2246,29 @@ static void is_made_once(MPI_Request handle, int kind, struct communicator *c, i
         } \
         return result; \
     }
-MADE_ONCE(SEND, Send_init, (const void *a, int n, MPI_Datatype t, int to, int tag, MPI_Comm h, MPI_Request *q), (a, n, t, to, tag, h, q))
+MADE_ONCE(is_short(n, t) ? KEPT : SEND, Send_init, (const void *a, int n, MPI_Datatype t, int to, int tag, MPI_Comm h, MPI_Request *q), (a, n, t, to, tag, h, q))
 MADE_ONCE(SEND, Ssend_init, (const void *a, int n, MPI_Datatype t, int to, int tag, MPI_Comm h, MPI_Request *q), (a, n, t, to, tag, h, q))
-MADE_ONCE(SEND, Rsend_init, (const void *a, int n, MPI_Datatype t, int to, int tag, MPI_Comm h, MPI_Request *q), (a, n, t, to, tag, h, q))
-MADE_ONCE(SEND, Bsend_init, (const void *a, int n, MPI_Datatype t, int to, int tag, MPI_Comm h, MPI_Request *q), (a, n, t, to, tag, h, q))
+MADE_ONCE(is_short(n, t) ? KEPT : SEND, Rsend_init, (const void *a, int n, MPI_Datatype t, int to, int tag, MPI_Comm h, MPI_Request *q), (a, n, t, to, tag, h, q))
+MADE_ONCE(KEPT, Bsend_init, (const void *a, int n, MPI_Datatype t, int to, int tag, MPI_Comm h, MPI_Request *q), (a, n, t, to, tag, h, q))
 MADE_ONCE(RECEIVE, Recv_init, (void *a, int n, MPI_Datatype t, int to, int tag, MPI_Comm h, MPI_Request *q), (a, n, t, to, tag, h, q))
 
 static void begins_again(MPI_Request handle) {
-    pthread_mutex_lock(&request_lock);
+    lock_requests();
     struct request *r = entry_of(handle);
     if (!r->there || r->handle != handle || !r->begins_again) {
         atomic_store(&sends_uncounted, true);
         atomic_store(&receives_uncounted, true);
-        atomic_fetch_add(&sent_abroad, 1);          /* perhaps */
-    } else if (r->kind == SEND) {
+        adds(&sent_abroad, 1);                      /* perhaps */
+    } else if (is_send(r->kind)) {
         r->needs = counts_message(r->channel);
     } else if (r->kind != NONE) {
         if (r->channel != NULL) {
-            atomic_fetch_add(&r->channel->begun, 1);
+            adds(&r->channel->begun, 1);
         }
         r->needs = 1;
         is_begun(r);
     }
-    pthread_mutex_unlock(&request_lock);
+    unlock_requests();
 }
 
 int MPI_Start(MPI_Request *q) {
@@ -2191,13 +2350,14 @@ FORTRAN_COLLECTIVE(SCATTER, mpi_scatter, h, (int)*r, *m > 0, (void *a, F n, F t,
 FORTRAN_COLLECTIVE(BCAST, mpi_bcast, h, (int)*r, *n > 0, (void *a, F n, F t, F r, F h, F e), (a, n, t, r, h, e))
 FORTRAN(mpi_comm_dup, (F h, F to, F e), (h, to, e), struct slot *s = collective(DUP, counts() ? PMPI_Comm_f2c(*h) : MPI_COMM_NULL, 0, true, HERE), if (s != NULL && succeeded(e)) { made(PMPI_Comm_f2c(*h), PMPI_Comm_f2c(*to), "dup"); } ends(s))
 FORTRAN(mpi_comm_split, (F h, F c, F k, F to, F e), (h, c, k, to, e), struct slot *s = collective(SPLIT, counts() ? PMPI_Comm_f2c(*h) : MPI_COMM_NULL, 0, true, HERE), if (s != NULL && succeeded(e)) { made(PMPI_Comm_f2c(*h), PMPI_Comm_f2c(*to), "split"); } ends(s))
-#define FORTRAN_SEND(name) \
+#define KEEPS_OF_FORTRAN may_keep(&p, (int)*n, PMPI_Type_f2c(*t))
+#define FORTRAN_SEND(name, keeps) \
     FORTRAN(name, (void *a, F n, F t, F to, F g, F h, F e), (a, n, t, to, g, h, e), \
-        struct slot *s = begins_as(sends_to(counts() ? known(PMPI_Comm_f2c(*h)) : NULL, (int)*to, (int)*g), HERE), ends(s))
-FORTRAN_SEND(mpi_send)
-FORTRAN_SEND(mpi_ssend)
-FORTRAN_SEND(mpi_bsend)
-FORTRAN_SEND(mpi_rsend)
+        struct part p = sends_to(counts() ? known(PMPI_Comm_f2c(*h)) : NULL, (int)*to, (int)*g); keeps; struct slot *s = begins_as(p, HERE), ends(s))
+FORTRAN_SEND(mpi_send, KEEPS_OF_FORTRAN)
+FORTRAN_SEND(mpi_ssend, )
+FORTRAN_SEND(mpi_bsend, KEEPS_OF_FORTRAN)
+FORTRAN_SEND(mpi_rsend, KEEPS_OF_FORTRAN)
 
 /* In Fortran it is not asked which message came: the status may be left out, in more than one way. */
 static void has_received_something(const struct slot *s, const struct receive *r, F error) {
@@ -2219,22 +2379,22 @@ FORTRAN_RECEIVE(mpi_sendrecv_replace, g2, receives(&r, HERE), (void *a, F n, F t
 FORTRAN_RECEIVE(mpi_irecv, g, begins_receive(&r, HERE), (void *a, F n, F t, F from, F g, F h, F q, F e), (a, n, t, from, g, h, q, e), ,
     if (s != NULL && part_of(&r).kind != NONE && succeeded(e)) { remember(request_of(PMPI_Request_f2c(*q), r.of, part_of(&r))); })
 
-#define FORTRAN_BEGINS_SEND(name) \
+#define FORTRAN_BEGINS_SEND(name, keeps) \
     FORTRAN(name, (void *a, F n, F t, F to, F g, F h, F q, F e), (a, n, t, to, g, h, q, e), \
-        struct part p = sends_to(counts() ? known(PMPI_Comm_f2c(*h)) : NULL, (int)*to, (int)*g); struct slot *s = begins(NONE, NULL, 0, 0, HERE), \
-        if (s != NULL && p.kind == SEND && succeeded(e)) { remember(request_of(PMPI_Request_f2c(*q), NULL, p)); } ends(s))
-FORTRAN_BEGINS_SEND(mpi_isend)
-FORTRAN_BEGINS_SEND(mpi_issend)
-FORTRAN_BEGINS_SEND(mpi_ibsend)
-FORTRAN_BEGINS_SEND(mpi_irsend)
+        struct part p = sends_to(counts() ? known(PMPI_Comm_f2c(*h)) : NULL, (int)*to, (int)*g); keeps; struct slot *s = begins(NONE, NULL, 0, 0, HERE), \
+        if (s != NULL && is_send(p.kind) && succeeded(e)) { remember(request_of(PMPI_Request_f2c(*q), NULL, p)); } ends(s))
+FORTRAN_BEGINS_SEND(mpi_isend, KEEPS_OF_FORTRAN)
+FORTRAN_BEGINS_SEND(mpi_issend, )
+FORTRAN_BEGINS_SEND(mpi_ibsend, KEEPS_OF_FORTRAN)
+FORTRAN_BEGINS_SEND(mpi_irsend, KEEPS_OF_FORTRAN)
 
 #define FORTRAN_MADE_ONCE(KIND, name) \
     FORTRAN(name, (void *a, F n, F t, F to, F g, F h, F q, F e), (a, n, t, to, g, h, q, e), struct communicator *c = counts() ? known(PMPI_Comm_f2c(*h)) : NULL, \
         if (succeeded(e)) { is_made_once(PMPI_Request_f2c(*q), KIND, c, (int)*to, (int)*g); })
-FORTRAN_MADE_ONCE(SEND, mpi_send_init)
+FORTRAN_MADE_ONCE(is_short((int)*n, PMPI_Type_f2c(*t)) ? KEPT : SEND, mpi_send_init)
 FORTRAN_MADE_ONCE(SEND, mpi_ssend_init)
-FORTRAN_MADE_ONCE(SEND, mpi_bsend_init)
-FORTRAN_MADE_ONCE(SEND, mpi_rsend_init)
+FORTRAN_MADE_ONCE(KEPT, mpi_bsend_init)
+FORTRAN_MADE_ONCE(is_short((int)*n, PMPI_Type_f2c(*t)) ? KEPT : SEND, mpi_rsend_init)
 FORTRAN_MADE_ONCE(RECEIVE, mpi_recv_init)
 
 static struct slot *begin_again(int n, F q, const void *at) {
@@ -2247,17 +2407,11 @@ static struct slot *begin_again(int n, F q, const void *at) {
 FORTRAN(mpi_start, (F q, F e), (q, e), struct slot *s = begin_again(1, q, HERE), ends(s))
 FORTRAN(mpi_startall, (F n, F q, F e), (n, q, e), struct slot *s = begin_again((int)*n, q, HERE), ends(s))
 
-static struct before before_of_fortran(int n, F q) {
-    struct before b = {0, NULL, NULL};
-    MPI_Request *handles = counts() && n > 0 ? malloc((size_t)n * sizeof *handles) : NULL;
-    for (int i = 0; handles != NULL && i < n; i++) {
-        handles[i] = PMPI_Request_f2c(q[i]);
+static void keep_before_of_fortran(struct before *b, int n, F q) {
+    make_room(b, n);
+    for (int i = 0; i < b->n; i++) {
+        keep(b, i, PMPI_Request_f2c(q[i]));
     }
-    if (handles != NULL) {
-        b = before_of(n, handles);
-    }
-    free(handles);
-    return b;
 }
 
 /* Of a receive from anybody, or of any tag, it is not told which message came, so it counts as none: a later receive waits for less than it needs, and never for more. */
@@ -2268,8 +2422,8 @@ static void numbered_are_done(const struct before *b, int done, F which) {
 }
 
 #define FORTRAN_OF_REQUESTS(name, beginning, count, parameters, words, behind) \
-    FORTRAN(name, parameters, words, struct before b = before_of_fortran(count, q); struct slot *s = beginning, \
-        if (s != NULL && succeeded(e)) { behind; } free_before(b); ends(s))
+    FORTRAN(name, parameters, words, struct before b; keep_before_of_fortran(&b, count, q); struct slot *s = beginning, \
+        if (s != NULL && succeeded(e)) { behind; } free_before(&b); ends(s))
 #define WAITS_FOR(all) waits(b.n, b.handles, b.known_ones, all, HERE)
 #define LOOKS begins(NONE, NULL, 0, 0, HERE)
 FORTRAN_OF_REQUESTS(mpi_wait, WAITS_FOR(true), 1, (F q, F st, F e), (q, st, e), all_are_done(&b, MPI_STATUSES_IGNORE))
