@@ -1,10 +1,10 @@
 -- The places to which a run of a text's plan leads have an account.
-use Rattle.std.proofs.Common.{◌≡◌, ℕ, suc, ◌<◌, Option, Some, None, Ok, length, map, refl, sym, subst}
+use Rattle.std.proofs.Common.{◌≡◌, ℕ, suc, ◌<◌, Option, Some, None, Ok, List, drop, length, map, refl, sym, subst}
 use Rattle.std.specs.Prelude.{slice_index_or}
 use Rattle.armus_base.specs.declared.ending.TaskEnd.{TaskEnd}
 use Rattle.armus_base.specs.declared.ending.TaskEnd.TheVariants.{Blocked, Done, Refused, Unforked}
 use Rattle.armus_base.specs.CheckedPlans.{IsCheckedPlan}
-use Rattle.armus_base.specs.Finals.{end_of, list_below}
+use Rattle.armus_base.specs.Finals.{end_of, given_below, list_below}
 use Rattle.armus_base.specs.Places.{state_at}
 use Rattle.armus_base.specs.Plans.{Plan, code_of}
 use Rattle.armus_base.specs.Runs.{IsReachable, Place}
@@ -13,10 +13,12 @@ use Rattle.pl_plan.specs.Unfolding.{plan_of}
 use Rattle.pl_syntax.specs.declared.tree.Program.{Program}
 use Rattle.source_map.specs.Origins.{phaser_origins, statement_in, written_statements}
 use Rattle.source_map.specs.Turns.{op_turns}
-use Rattle.explain_facts.specs.Accounts.{IsTaskAccount, HasWait, Layout, drawn_of, ended_of, forked_of, placed_turns, statement_place, words_of}
+use Rattle.explain_facts.specs.Accounts.{IsTaskAccount, HasWait, Layout, drawn_of, ended_of, first_on, forked_of, next_op, placed_turns, statement_place, words_of}
 use Rattle.explain_facts.specs.calls.Laws.{AccountExists}
+use Rattle.explain_facts.specs.declared.account.NextOp.{NextOp}
 use Rattle.explain_facts.specs.declared.account.TaskAccount.{TaskAccount}
 use Rattle.explain_facts.specs.declared.account.Waiting.{Waiting}
+use Rattle.pl_core.specs.Tasks.{IsAtOp}
 use Rattle.explain_facts.proofs.AtSomeOp.{at_some_op}
 use Rattle.explain_facts.proofs.Awaiting.{waiter_is_member, waits_at_await}
 use Rattle.explain_facts.proofs.LayoutExists.{layout_exists}
@@ -37,17 +39,30 @@ module _ (l : Layout) (p : Program) (plan : Plan) (a : ℕ → Place) (unfolds :
   wait_by t (Refused e) ended = (None, refl)
   wait_by t Unforked ended = (None, refl)
 
+  op_by : (t : ℕ) → (op : ℕ) × IsAtOp (code_of plan t) (a t).done op
+  op_by t = at_some_op (code_of plan t) (a t).done
+
+  nexts_by : ℕ → List NextOp
+  nexts_by t = given_below (λ q. next_op l p t q (first_on q (op_by t).0 (drop (op_by t).0 (code_of plan t)))) (length plan.makers)
+
   task_by : ℕ → TaskAccount
   task_by t = record {
     drawn = drawn_of l p t;
     fork = forked_of l p plan t;
     ended = ended_of l p t;
     wait = (wait_by t (end_of (state_at plan a) t) refl).0;
+    nexts = nexts_by t;
   }
 
   task_is : (t : ℕ) → IsTaskAccount l p plan a t (task_by t)
-  unfolding task_by
-  task_is t = record { drawn = refl; fork = refl; ended = refl; wait = (wait_by t (end_of (state_at plan a) t) refl).1 }
+  unfolding task_by nexts_by
+  task_is t = record {
+    drawn = refl;
+    fork = refl;
+    ended = refl;
+    wait = (wait_by t (end_of (state_at plan a) t) refl).1;
+    nexts = record { op = (op_by t).0; stands = (op_by t).1; are = refl };
+  }
 
 pub account_exists : AccountExists
 account_exists text p plan a is unfolds reach =

@@ -1,5 +1,6 @@
 pub mod Awaiting
 pub mod Told
+pub mod Firsts
 pub mod OneAccount
 pub mod Witnesses
 pub mod Forkers

@@ -1,5 +1,5 @@
 -- The places of a text's plan have one account at most.
-use Rattle.std.proofs.Common.{◌≡◌, ℕ, zero, suc, ◌+◌, ◌<◌, ◌≤◌, List, [], ◌∷◌, Option, Some, None, length, map, sym, ap, subst, ◌∙◌, inl, inr, arith}
+use Rattle.std.proofs.Common.{◌≡◌, ℕ, zero, suc, ◌+◌, ◌<◌, ◌≤◌, List, [], ◌∷◌, Option, Some, None, drop, length, map, sym, ap, subst, ◌∙◌, inl, inr, arith}
 use Rattle.std.specs.Prelude.{slice_index_or}
 use Rattle.std.proofs.lemmas.Bool.{cases_lt}
 use Rattle.std.proofs.lemmas.List.{same_lists}
@@ -8,7 +8,7 @@ use Rattle.armus_base.specs.declared.ending.TaskEnd.TheVariants.{Blocked, Done, 
 use Rattle.armus_base.specs.declared.event.Event.{Event}
 use Rattle.armus_base.specs.declared.op.Op.{Op}
 use Rattle.armus_base.specs.declared.op.Op.TheVariants as op
-use Rattle.armus_base.specs.Finals.{end_of}
+use Rattle.armus_base.specs.Finals.{end_of, given_below}
 use Rattle.armus_base.specs.Places.{state_at}
 use Rattle.armus_base.specs.Plans.{Plan, code_of}
 use Rattle.armus_base.specs.Runs.{Place}
@@ -19,12 +19,13 @@ use Rattle.pl_syntax.proofs.OneListOfOffsets.{one_list_of_offsets}
 use Rattle.source_map.specs.Origins.{op_origin, phaser_origins, statement_in, written_statements}
 use Rattle.source_map.specs.Turns.{op_turns}
 use Rattle.source_map.specs.declared.place.TextPlace.{TextPlace}
-use Rattle.explain_facts.specs.Accounts.{IsLayout, IsTaskAccount, HasWait, IsWaiting, Layout, placed_turns, statement_place, words_of}
+use Rattle.explain_facts.specs.Accounts.{AreNexts, IsLayout, IsTaskAccount, HasWait, IsWaiting, Layout, first_on, next_op, placed_turns, statement_place, words_of}
 use Rattle.explain_facts.specs.calls.Laws.{OneAccount}
 use Rattle.explain_facts.specs.declared.account.Account.{Account}
 use Rattle.explain_facts.specs.declared.account.Drawn.{Drawn}
 use Rattle.explain_facts.specs.declared.account.CodeEnd.{CodeEnd}
 use Rattle.explain_facts.specs.declared.account.Forked.{Forked}
+use Rattle.explain_facts.specs.declared.account.NextOp.{NextOp}
 use Rattle.explain_facts.specs.declared.account.TaskAccount.{TaskAccount}
 use Rattle.explain_facts.specs.declared.account.Turn.{Turn}
 use Rattle.explain_facts.specs.declared.account.Waiting.{Waiting}
@@ -99,16 +100,24 @@ module _ (l : Layout) (p : Program) (plan : Plan) (a : ℕ → Place) (t : ℕ) 
   one_wait (Refused e) v w x y = x ∙ sym y
   one_wait Unforked v w x y = x ∙ sym y
 
+  one_list_of_nexts : (v w : List NextOp) → AreNexts l p plan a t v → AreNexts l p plan a t w → v ≡ w
+  one_list_of_nexts v w x y =
+      x.are
+      ∙ (ap (λ i. given_below (λ q. next_op l p t q (first_on q i (drop i (code_of plan t)))) (length plan.makers))
+      (one_op (code_of plan t) (a t).done x.op y.op x.stands y.stands)
+      ∙ sym y.are)
+
   same_task :
-      (drawn drawn' : Option Drawn) (fork fork' : Option Forked) (ended ended' : Option CodeEnd) (wait wait' : Option Waiting) →
-      drawn ≡ drawn' → fork ≡ fork' → ended ≡ ended' → wait ≡ wait' →
-      let v : TaskAccount = record { drawn = drawn; fork = fork; ended = ended; wait = wait } in
-      let w : TaskAccount = record { drawn = drawn'; fork = fork'; ended = ended'; wait = wait' } in v ≡ w
-  same_task drawn drawn' fork fork' ended ended' wait wait' a b c d = cc
+      (drawn drawn' : Option Drawn) (fork fork' : Option Forked) (ended ended' : Option CodeEnd) (wait wait' : Option Waiting) (nexts nexts' : List NextOp) →
+      drawn ≡ drawn' → fork ≡ fork' → ended ≡ ended' → wait ≡ wait' → nexts ≡ nexts' →
+      let v : TaskAccount = record { drawn = drawn; fork = fork; ended = ended; wait = wait; nexts = nexts } in
+      let w : TaskAccount = record { drawn = drawn'; fork = fork'; ended = ended'; wait = wait'; nexts = nexts' } in v ≡ w
+  same_task drawn drawn' fork fork' ended ended' wait wait' nexts nexts' a b c d e = cc
 
   one_task : (v w : TaskAccount) → IsTaskAccount l p plan a t v → IsTaskAccount l p plan a t w → v ≡ w
   one_task v w x y =
-      same_task v.drawn w.drawn v.fork w.fork v.ended w.ended v.wait w.wait (x.drawn ∙ sym y.drawn) (x.fork ∙ sym y.fork) (x.ended ∙ sym y.ended) (one_wait (end_of (state_at plan a) t) v.wait w.wait x.wait y.wait)
+      same_task v.drawn w.drawn v.fork w.fork v.ended w.ended v.wait w.wait v.nexts w.nexts (x.drawn ∙ sym y.drawn) (x.fork ∙ sym y.fork) (x.ended ∙ sym y.ended)
+      (one_wait (end_of (state_at plan a) t) v.wait w.wait x.wait y.wait) (one_list_of_nexts v.nexts w.nexts x.nexts y.nexts)
 
 -- ---- accounts
 

@@ -1,11 +1,13 @@
 -- What is known of the tasks of a text where its run has come to given places.
-use Rattle.std.specs.Prelude.{◌≡◌, ℕ, zero, suc, ◌<◌, List, [], Option, Some, None, length, map, option_map, slice_index_or}
+use Rattle.std.specs.Prelude.{◌≡◌, ℕ, zero, suc, ◌<◌, ◌==◌, List, [], ◌∷◌, Option, Some, None, drop, if◌then◌else◌, length, map, option_map, slice_index_or, unwrap_or}
 use Rattle.std.specs.List.{slice_get}
 use Rattle.armus_base.specs.declared.ending.TaskEnd.{TaskEnd}
 use Rattle.armus_base.specs.declared.ending.TaskEnd.TheVariants.{Blocked, Done, Refused, Unforked}
 use Rattle.armus_base.specs.declared.event.Event.{Event}
 use Rattle.armus_base.specs.declared.ids.TaskId.{TaskId}
-use Rattle.armus_base.specs.Finals.{end_of}
+use Rattle.armus_base.specs.declared.op.Op.{Op}
+use Rattle.armus_base.specs.declared.op.Op.TheVariants.{Make, Reg, Fork, Adv, Drop, Await}
+use Rattle.armus_base.specs.Finals.{end_of, given_below}
 use Rattle.armus_base.specs.Places.{state_at}
 use Rattle.armus_base.specs.Plans.{Plan, code_of}
 use Rattle.armus_base.specs.Runs.{Place}
@@ -23,6 +25,9 @@ use Rattle.source_map.specs.TextPlaces.{text_place}
 use Rattle.source_map.specs.declared.place.TextPlace.{TextPlace}
 use Rattle.explain_facts.specs.AwaitWords.{await_text}
 use Rattle.explain_facts.specs.declared.account.Account.{Account}
+use Rattle.explain_facts.specs.declared.account.Doing.{Doing}
+use Rattle.explain_facts.specs.declared.account.Doing.TheVariants.{Advances, Leaves}
+use Rattle.explain_facts.specs.declared.account.NextOp.{NextOp}
 use Rattle.explain_facts.specs.declared.account.Drawn.{Drawn}
 use Rattle.explain_facts.specs.declared.account.CodeEnd.{CodeEnd}
 use Rattle.explain_facts.specs.declared.account.Forked.{Forked}
@@ -122,6 +127,43 @@ HasWait l p plan a t Done w = w ≡ None
 HasWait l p plan a t (Refused e) w = w ≡ None
 HasWait l p plan a t Unforked w = w ≡ None
 
+-- ---- what comes next
+
+-- what the op does to phaser q, if it advances it or leaves it
+abbrev pub does_to : ℕ → Op → Option Doing
+does_to q (Make p) = None
+does_to q (Reg c p) = None
+does_to q (Fork c) = None
+does_to q (Adv p) = if p.0 == q then Some Advances else None
+does_to q (Drop p) = if p.0 == q then Some Leaves else None
+does_to q (Await p off) = None
+
+-- what the op with number i does, if it does something; else what is behind it
+abbrev pub done_or : Option Doing → ℕ → Option (Doing × ℕ) → Option (Doing × ℕ)
+done_or None i behind = behind
+done_or (Some does) i behind = Some (does, i)
+
+-- the first of these ops that advances phaser q or leaves it: which of both, and its number, where the first of them all has number i
+abbrev pub first_on : ℕ → ℕ → List Op → Option (Doing × ℕ)
+first_on q i [] = None
+first_on q i (o ∷ ops) = done_or (does_to q o) i (first_on q (suc i) ops)
+
+-- the place of an op of task t that comes from this statement; one that comes from none is of the task's end
+abbrev pub op_place : Layout → Program → ℕ → Option ℕ → TextPlace
+op_place l p t None = end_place l (unwrap_or (fork_origin p t) 0)
+op_place l p t (Some n) = statement_place l n
+
+-- what task t does next to phaser q, by the first op there
+abbrev pub next_op : Layout → Program → ℕ → ℕ → Option (Doing × ℕ) → Option NextOp
+next_op l p t q None = None
+next_op l p t q (Some (does, i)) = Some (record { p = record { 0 = q }; does = does; at = op_place l p t (op_origin p t i) })
+
+-- what task t does next to each phaser, in order of number: by the ops of its code from the one on at which it stands
+pub record AreNexts (l : Layout) (p : Program) (plan : Plan) (a : ℕ → Place) (t : ℕ) (nexts : List NextOp) : Type 0 where
+  pub op : ℕ
+  pub stands : IsAtOp (code_of plan t) (a t).done op
+  pub are : nexts ≡ given_below (λ q. next_op l p t q (first_on q op (drop op (code_of plan t)))) (length plan.makers)
+
 -- ---- the account
 
 -- what is known of task t
@@ -130,6 +172,7 @@ pub record IsTaskAccount (l : Layout) (p : Program) (plan : Plan) (a : ℕ → P
   pub fork : account.fork ≡ forked_of l p plan t
   pub ended : account.ended ≡ ended_of l p t
   pub wait : HasWait l p plan a t (end_of (state_at plan a) t) account.wait
+  pub nexts : AreNexts l p plan a t account.nexts
 
 -- the account of the text, which is that of this program, whose plan has been run up to these places
 pub record IsAccount (text : List ℕ) (p : Program) (plan : Plan) (a : ℕ → Place) (account : Account) : Type 0 where

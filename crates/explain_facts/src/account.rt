@@ -1,6 +1,6 @@
 // What is known of the tasks of a text.
 
-use armus_base::{Event, List, TaskId};
+use armus_base::{Event, List, PhaserId, TaskId};
 use source_map::TextPlace;
 
 /// What is known of the tasks and the phasers of a text.
@@ -23,6 +23,8 @@ pub struct TaskAccount {
     pub ended: Option<CodeEnd>,
     /// Where it waits; none for a task that does not wait.
     pub wait: Option<Waiting>,
+    /// What it does next to each phaser that the rest of its code advances or leaves, in order of the phasers' numbers.
+    pub nexts: List<NextOp>,
 }
 
 /// Where a task is drawn.
@@ -73,5 +75,25 @@ pub struct Turn {
     /// The number of the turn, from 1.
     pub turn: u32,
     /// The place of the loop.
+    pub at: TextPlace,
+}
+
+/// What an op does to its phaser.
+#[derive(Clone, Copy, Debug, PartialEq, Eq)]
+pub enum Doing {
+    /// It adds one to the task's phase there.
+    Advances,
+    /// The task leaves the phaser.
+    Leaves,
+}
+
+/// The op with which a task next advances or leaves a phaser.
+#[derive(Clone, Copy, Debug, PartialEq, Eq)]
+pub struct NextOp {
+    /// The phaser.
+    pub p: PhaserId,
+    /// What the op does to it.
+    pub does: Doing,
+    /// The place of the statement from which the op comes; for an op with which the task leaves at its end, as it does in PL 2, the place at which it ends.
     pub at: TextPlace,
 }

@@ -15,6 +15,7 @@ ghost use Rattle.explain_facts.specs.inside.Facts.{AreTold};
 
 use crate::account::{Account, TaskAccount, Waiting};
 use crate::facts::TextFacts;
+use crate::nexts::nexts_of;
 use crate::waiting::waiting_of;
 use armus_base::{List, NoMemory, TaskEnd, TaskId};
 use pl_core::World;
@@ -60,11 +61,13 @@ fn task_account(
 {
     let drawn = facts.drawn(t)?;
     let wait = wait_of(facts, world, t, end)?;
+    let nexts = nexts_of(facts, world, t)?;
     Ok(TaskAccount {
         drawn,
         fork: facts.forked(world.plan(), t),
         ended: facts.ended(t),
         wait,
+        nexts,
     })
 }
 

@@ -1,4 +1,4 @@
-//! What is known of the tasks of a text where its run has ended: where they were drawn, forked and ended, and where they wait.
+//! What is known of the tasks of a text where its run has ended: where they were drawn, forked and ended, where they wait, and what they do next to phasers.
 //!
 //! It stands on `source_map` and `pl_core`. Its rows are in `tests_text` (`accounts_of`).
 #![tactic(auto)]
@@ -7,10 +7,11 @@ mod account;
 mod accounts;
 mod facts;
 mod laws;
+mod nexts;
 mod waiting;
 mod words;
 
-pub use account::{Account, CodeEnd, Drawn, Forked, TaskAccount, Turn, Waiting};
+pub use account::{Account, CodeEnd, Doing, Drawn, Forked, NextOp, TaskAccount, Turn, Waiting};
 pub use accounts::account_of;
 pub use facts::TextFacts;
 pub use laws::{

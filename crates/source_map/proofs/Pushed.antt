@@ -9,13 +9,14 @@ use Rattle.pl_plan.specs.Unfolding.{a_turn, visit, visits_of}
 use Rattle.source_map.specs.Origins.{statements_where}
 use Rattle.source_map.specs.inside.Tables.{makes_it}
 use Rattle.source_map.specs.declared.making.MadeKind.{MadeKind}
-use Rattle.source_map.specs.declared.making.MadeKind.TheVariants.{APhaser, ATask}
+use Rattle.source_map.specs.declared.making.MadeKind.TheVariants.{APhaser, ATask, AnOp}
 use Rattle.source_map.proofs.Statements.{IsAt, at_next, at_start, at_within, visits_next, where_append, where_turns}
 
 -- no turn makes anything of its own
 pub no_turn_makes : (made : MadeKind) → makes_it made a_turn ≡ false
 no_turn_makes APhaser = refl
 no_turn_makes ATask = refl
+no_turn_makes AnOp = refl
 
 -- ---- turns
 

@@ -54,6 +54,12 @@ module _ (program : Program) where
           get_or_past (fork_statements program) t None (omega (arith, length-map (starts_of program) fork_of, le))
           ∙ ap fork_of (sym (get_or_past (starts_of program) t None le))
 
+  -- the visits by what the table of forks has
+  pub visits_by_table : (forks : List (Option ℕ)) (t : ℕ) → forks ≡ fork_statements program →
+      visits_by_fork program (slice_index_or forks t None) ≡ visits_by (start_of program t)
+  visits_by_table forks t are =
+      ap (visits_by_fork program) (ap (λ fs. slice_index_or fs t None) are ∙ fork_by_start t) ∙ visits_same (start_of program t) (start_stands program t)
+
   module _ (forks : List (Option ℕ)) (t f : ℕ) (are : forks ≡ fork_statements program) (is : Some f ≡ slice_index_or forks t None) where
     started : Some f ≡ fork_of (start_of program t)
     started = is ∙ ap (λ fs. slice_index_or fs t None) are ∙ fork_by_start t

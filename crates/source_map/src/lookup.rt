@@ -4,7 +4,7 @@ ghost use Rattle.std.specs.Prelude.{◌≡◌, ◌+◌, ◌<◌, ◌^◌, ◌++�
 ghost use Rattle.std.specs.List.{slice_get};
 ghost use Rattle.pl_syntax.specs.Tree.{count};
 ghost use Rattle.pl_plan.specs.Forks.{fork_statements};
-ghost use Rattle.source_map.specs.Origins.{drawing_statement, last_origin, op_origin, statement_in, statements_of_all, statements_where, written_statements};
+ghost use Rattle.source_map.specs.Origins.{drawing_statement, last_origin, op_origin, op_origins, statement_in, statements_of_all, statements_where, written_statements};
 ghost use Rattle.source_map.specs.calls.Origins.{end_origin};
 ghost use Rattle.source_map.specs.calls.OriginTables.{AreOrigins};
 ghost use Rattle.source_map.specs.Turns.{op_turns};
@@ -124,6 +124,18 @@ impl<'p> Origins<'p> {
             Sought::Found(n) => Some(n),
             Sought::Left(_) => None,
         }
+    }
+
+    /// The numbers of the statements from which the ops of a task come, in order of the ops, but for those with which the task leaves its phasers at its end, as it
+    /// does in PL 2. The time is linear in the visits of the task.
+    pub fn ops(&self, alloc: Global, program: &Program, t: TaskId) -> Result<Vec<u32>, NoMemory>
+        requires few { count program.now.body + 1 < 2 ^ 32 }
+        requires origins { AreOrigins program.now self.now }
+        ensures { IfOk result (λ ops. ops.items ≡ op_origins program.now t.0) }
+    {
+        let mut ops = Vec::new(alloc);
+        push_of_task(MadeKind::AnOp, program, &self.statements, self.fork(t), &mut ops)?;
+        Ok(ops)
     }
 
     /// The number of the statement that makes a phaser: none where there is no such phaser.

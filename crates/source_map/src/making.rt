@@ -1,12 +1,12 @@
-// The statements that make phasers, and those that draw tasks.
+// The statements that make phasers, those that draw tasks, and those that make ops.
 
-ghost use Rattle.std.specs.Prelude.{◌≡◌, ◌+◌, ◌<◌, ◌^◌, ◌++◌, OnOk, ◌∷◌, ℕ};
+ghost use Rattle.std.specs.Prelude.{◌≡◌, ◌+◌, ◌<◌, ◌^◌, ◌++◌, [], OnOk, ◌∷◌, if◌then◌else◌, ℕ};
 ghost use Rattle.armus_base.specs.Pieces.{times};
 ghost use Rattle.pl_syntax.specs.Tree.{count, done};
 ghost use Rattle.pl_syntax.specs.calls.Bodies.{followed_by};
 ghost use Rattle.pl_plan.specs.Unfolding.{visit, a_turn, visits_of};
-ghost use Rattle.source_map.specs.Origins.{statements_where};
-ghost use Rattle.source_map.specs.inside.Tables.{makes_it};
+ghost use Rattle.source_map.specs.Origins.{comes_to_op, statements_where};
+ghost use Rattle.source_map.specs.inside.Tables.{coming_of, makes_it};
 
 use crate::statement::statements_in;
 use armus_base::NoMemory;
@@ -17,6 +17,7 @@ use pl_syntax::{Body, Stmt};
 pub(crate) enum MadeKind {
     APhaser,
     ATask,
+    AnOp,
 }
 
 // Those of the turns of a loop of which the body's first statement has number n.
@@ -35,6 +36,21 @@ fn push_of_turns(
         push_of_body(made, body, n, out)?;
     }
     Ok(())
+}
+
+// The number of a statement that is no loop, where it makes an op.
+fn push_of_op(stmt: &Stmt, n: u32, out: &mut Vec<u32>) -> Result<(), NoMemory>
+    ensures { OnOk result (out.new.items ≡ out.old.items ++ (if comes_to_op (coming_of stmt.now) then n ∷ [] else [])) }
+{
+    match stmt {
+        Stmt::NewTask { x: _ } => Ok(()),
+        Stmt::Skip => Ok(()),
+        Stmt::Loop { k: _, body: _ } => Ok(()),
+        _ => {
+            out.push(n)?;
+            Ok(())
+        }
+    }
 }
 
 // Those of a statement with number n.
@@ -58,6 +74,7 @@ fn push_of_statement(
             Ok(())
         }
         (_, Stmt::Loop { k, body }) => push_of_turns(made, *k, body, n + 1, out),
+        (MadeKind::AnOp, _) => push_of_op(stmt, n, out),
         _ => Ok(()),
     }
 }

@@ -7,7 +7,7 @@ ghost use Rattle.pl_syntax.specs.Tree.{count};
 
 use armus_base::{NoMemory, Plan};
 use explain_facts::{
-    Account, TaskAccount, Waiting, account_exists, account_of, forkers_fork, one_account,
+    Account, Doing, NextOp, TaskAccount, Waiting, account_exists, account_of, forkers_fork, one_account,
     statements_have_places, tasks_are_of_text,
 };
 use pl_plan::{Unfolded, unfold};
@@ -19,13 +19,13 @@ use tests_rows::{are_bytes_of, bytes_of, cut};
 use world_runs::run_to_world;
 
 // Of each phaser where it is made, and of each task where and by which name it is drawn, where and by whom it is forked, where its code ends, with the
-// statement of its last visit, and where it waits: at what, for which event, at which phase, and in which turns of loops. The rows: nobody waits; loops in a
-// fork in a loop, with tabs and CRs; loops in loops, of which one has no turn, an offset, an empty body and one on one line, and a task that no op forks;
-// places of another program, some that are none, and braces that close on such a line.
+// statement of its last visit, where it waits: at what, for which event, at which phase, and in which turns of loops, and what it does next to phasers. The
+// rows: nobody waits; loops in a fork in a loop, with tabs and CRs; loops in loops, of which one has no turn, an offset, an empty body and one on one line, and
+// a task that no op forks; places of another program, some that are none, and braces that close on such a line.
 const ROWS: &str = "\
 skip;~|t0: end 2:1 last 1:1~\n\
-pc = newPhaser();\r~pb = newPhaser();\r~loop 3 {\r~\tt = newTid();\r~\treg(t, pc);\r~\treg(t, pb);\r~\tfork(t) {\r~\t\tloop 2 {\r~\t\t\tadv(pc); await(pc);\r~\t\t}\r~\t\tdereg(pc); dereg(pb);\r~\t}\r~}\r~adv(pb);\r~await(pb);\r~|p0: 1:1~p1: 2:1~t0: end 16:1 last 15:1 wait 15:1 await(pb) p1@1 1~t1: t 4:2 fork 7:2 t0 end 12:2 last 11:14 wait 9:13 await(pc) p0@1 1 1@8:3~t2: t 4:2 fork 7:2 t0 end 12:2 last 11:14 wait 9:13 await(pc) p0@1 1 1@8:3~t3: t 4:2 fork 7:2 t0 end 12:2 last 11:14 wait 9:13 await(pc) p0@1 1 1@8:3~\n\
-pl 2; p = newPhaser(); a = newTid(); reg(a, p); fork(a) { } b = newTid();~c = newTid(); reg(c, p); fork(c) { loop 0 { skip; } }~loop 2 { skip; loop 3 { loop 0 { adv(p); } adv(p); await(p - 2); } loop 1 { } }~await(p + 7);|p0: 1:7~t0: end 4:14 last 4:1 wait 4:1 await(p + 7) p0@13 6~t1: a 1:24 fork 1:49 t0 end 1:59~t2: b 1:61~t3: c 2:1 fork 2:26 t0 end 2:53 last 2:36~\n\
+pc = newPhaser();\r~pb = newPhaser();\r~loop 3 {\r~\tt = newTid();\r~\treg(t, pc);\r~\treg(t, pb);\r~\tfork(t) {\r~\t\tloop 2 {\r~\t\t\tadv(pc); await(pc);\r~\t\t}\r~\t\tdereg(pc); dereg(pb);\r~\t}\r~}\r~adv(pb);\r~await(pb);\r~|p0: 1:1~p1: 2:1~t0: end 16:1 last 15:1 wait 15:1 await(pb) p1@1 1~t1: t 4:2 fork 7:2 t0 end 12:2 last 11:14 wait 9:13 await(pc) p0@1 1 1@8:3 then p0 adv 9:4 then p1 leave 11:14~t2: t 4:2 fork 7:2 t0 end 12:2 last 11:14 wait 9:13 await(pc) p0@1 1 1@8:3 then p0 adv 9:4 then p1 leave 11:14~t3: t 4:2 fork 7:2 t0 end 12:2 last 11:14 wait 9:13 await(pc) p0@1 1 1@8:3 then p0 adv 9:4 then p1 leave 11:14~\n\
+pl 2; p = newPhaser(); a = newTid(); reg(a, p); fork(a) { } b = newTid();~c = newTid(); reg(c, p); fork(c) { loop 0 { skip; } }~loop 2 { skip; loop 3 { loop 0 { adv(p); } adv(p); await(p - 2); } loop 1 { } }~await(p + 7);|p0: 1:7~t0: end 4:14 last 4:1 wait 4:1 await(p + 7) p0@13 6 then p0 leave 4:14~t1: a 1:24 fork 1:49 t0 end 1:59~t2: b 1:61~t3: c 2:1 fork 2:26 t0 end 2:53 last 2:36~\n\
 p = newPhaser(); //@\t x.c:7 \t\r~loop 3 {~t = newTid(); reg(t, p); fork(t) { //@ a/b.c:9~adv(p); await(p); // no //@ q.c:1~} //@ end!:3~} //@no~adv(p); await(p); //@ 9:9 x~await(p); //@ 7~|p0: x.c:7~t0: end 9:1 last 7~t1: t a/b.c:9 fork a/b.c:9 t0 end end!:3 last 4:9~t2: t a/b.c:9 fork a/b.c:9 t0 end end!:3 last 4:9~t3: t a/b.c:9 fork a/b.c:9 t0 end end!:3 last 4:9~\n\
 ";
 
@@ -64,6 +64,25 @@ fn put_wait(
     Ok(())
 }
 
+// Appends what a task does next to phasers.
+fn put_nexts(
+    alloc: Global,
+    out: &mut Vec<u8>,
+    places: &TextPlaces<'_>,
+    nexts: &[NextOp],
+) -> Result<(), NoMemory> {
+    for next in nexts {
+        let p = next.p.0;
+        let does = match next.does {
+            Doing::Advances => "adv",
+            Doing::Leaves => "leave",
+        };
+        let word = format!(in alloc; " then p{p} {does} ")?;
+        put_place(alloc, out, places, word.as_str(), next.at)?;
+    }
+    Ok(())
+}
+
 // Appends what is known of a task.
 fn put_task(
     alloc: Global,
@@ -91,7 +110,7 @@ fn put_task(
     if let Some(wait) = &task.wait {
         put_wait(alloc, out, places, wait)?;
     }
-    Ok(())
+    put_nexts(alloc, out, places, task.nexts.as_slice())
 }
 
 // An account as lines.

@@ -8,12 +8,14 @@ use Rattle.pl_syntax.specs.Tree.{Tree, done, plain, fork, loop, count, new_task,
 use Rattle.pl_plan.specs.Unfolding.{Coming, Visit, a_fork, a_loop, a_plain, visits_of}
 use Rattle.pl_plan.specs.Tests.{of_new_phaser, of_new_task}
 use Rattle.source_map.specs.declared.making.MadeKind.{MadeKind}
-use Rattle.source_map.specs.declared.making.MadeKind.TheVariants.{APhaser, ATask}
+use Rattle.source_map.specs.declared.making.MadeKind.TheVariants.{APhaser, ATask, AnOp}
+use Rattle.source_map.specs.Origins.{comes_to_op}
 
 -- coming to this makes such a thing
 abbrev pub makes_it : MadeKind → Coming → Bool
 makes_it APhaser = of_new_phaser
 makes_it ATask = of_new_task
+makes_it AnOp = comes_to_op
 
 -- the body of the fork with this number, among statements of which the first has number n
 abbrev pub fork_body : ℕ → Tree → ℕ → Option Tree

@@ -13,4 +13,5 @@ returns c = record {
   wait = subst
       (λ end. HasWait (kept_layout c.args.facts.now) c.args.facts.now.program.now c.args.world.now.plan (places_of c.args.world.now) c.args.t.0 end c.in_ok-wait.wait)
       (sym c.requires.end) c.in_ok-wait.ensures;
+  nexts = c.in_ok-nexts.ensures;
 }
