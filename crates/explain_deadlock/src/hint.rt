@@ -3,7 +3,7 @@ ghost use Rattle.std.specs.Prelude.{◌≡◌, ◌==◌, ◌<◌, ◌-◌, ◌++
 ghost use Rattle.std.specs.List.{find};
 ghost use Rattle.explain_tasks.specs.Facts.{wait_of};
 ghost use Rattle.explain_tasks.specs.calls.Fitting.{FactsFitPlan};
-ghost use Rattle.explain_deadlock.specs.Hints.{awaited_phaser, before_fork_words, before_words, chain_hint, circle_hint, circle_words, closed_hint, ended_hint, for_event_words, fork_hint, fork_or_others, hint_line, impeding_phase, is_ahead_of_itself, is_behind_a_wait, is_of_text, is_outside, itself_hint, itself_or_circle, leaving_words, let_maker_words, let_task_words, let_words, missing_words, more_words, never_forked_hint, others_words, own_phase_words, pair_words, unforked_hint, waits_at_words, waits_before_fork, waits_for_itself};
+ghost use Rattle.explain_deadlock.specs.Hints.{awaited_phaser_words, before_fork_words, before_words, chain_hint, circle_hint, circle_hint_words, closed_hint, ended_hint, for_event_words, fork_hint, fork_or_others, verdict_hint, impeding_phase, is_ahead_of_itself, is_behind_a_wait, is_of_text, is_outside, itself_hint, itself_or_circle, leaving_words, let_maker_words, let_task_words, let_words, missing_arrivals, arrivals_words, never_forked_hint, others_words, own_phase_words, pair_words, unforked_hint, waits_at_words, waits_before_fork, waits_for_itself};
 ghost use Rattle.pl_core.specs.calls.Worlds.{state_of};
 
 use crate::outcome::WaitVerdict;
@@ -16,7 +16,7 @@ use std::alloc::Global;
 
 // Appends the phaser for which a task waits.
 fn put_awaited_phaser(facts: &Facts, out: &mut Vec<u8>, t: TaskId) -> Result<(), NoMemory>
-    ensures { OnOk result (out.new.items ≡ out.old.items ++ awaited_phaser facts.now t.0) }
+    ensures { OnOk result (out.new.items ≡ out.old.items ++ awaited_phaser_words facts.now t.0) }
 {
     match facts.wait(t) {
         Some(wait) => {
@@ -86,7 +86,7 @@ fn put_unforked(
 
 // Appends so many arrivals.
 fn put_more(alloc: Global, out: &mut Vec<u8>, n: u32) -> Result<(), NoMemory>
-    ensures { OnOk result (out.new.items ≡ out.old.items ++ more_words n) }
+    ensures { OnOk result (out.new.items ≡ out.old.items ++ arrivals_words n) }
 {
     if n == 1 {
         return put_words(out, b"once more");
@@ -102,7 +102,7 @@ fn put_missing(
     wait: Option<&Waiting>,
     phase: Option<Phase>,
 ) -> Result<(), NoMemory>
-    ensures { OnOk result (out.new.items ≡ out.old.items ++ missing_words (option_copied wait.entry) phase) }
+    ensures { OnOk result (out.new.items ≡ out.old.items ++ missing_arrivals (option_copied wait.entry) phase) }
 {
     match wait {
         Some(wait) => match phase {
@@ -120,7 +120,7 @@ fn put_missing_for(
     held: TaskId,
     phase: Option<Phase>,
 ) -> Result<(), NoMemory>
-    ensures { OnOk result (out.new.items ≡ out.old.items ++ missing_words (wait_of facts.now held.0) phase) }
+    ensures { OnOk result (out.new.items ≡ out.old.items ++ missing_arrivals (wait_of facts.now held.0) phase) }
 {
     put_missing(facts.alloc(), out, facts.wait(held), phase)
 }
@@ -387,7 +387,7 @@ fn put_others(out: &mut Vec<u8>, count: usize) -> Result<(), NoMemory>
 // Appends the hint on a circle of two or more.
 fn put_circle_words(facts: &Facts, out: &mut Vec<u8>, shown: &[TaskId]) -> Result<(), NoMemory>
     requires { 0 < length shown.now }
-    ensures { OnOk result (out.new.items ≡ out.old.items ++ circle_words facts.now shown.now) }
+    ensures { OnOk result (out.new.items ≡ out.old.items ++ circle_hint_words facts.now shown.now) }
 {
     put_words(
         out,
@@ -432,20 +432,14 @@ fn put_itself_or_circle(
 fn first_behind_a_wait(facts: &Facts, shown: &[TaskId]) -> Option<TaskId>
     ensures { result ≡ find (waits_before_fork facts.now) shown.now }
 {
-    shown
-        .iter()
-        .copied()
-        .find(|t| waits_before_fork(facts, *t))
+    shown.iter().copied().find(|t| waits_before_fork(facts, *t))
 }
 
 // The first of these tasks that waits for itself.
 fn first_for_itself(facts: &Facts, shown: &[TaskId]) -> Option<TaskId>
     ensures { result ≡ find (waits_for_itself facts.now) shown.now }
 {
-    shown
-        .iter()
-        .copied()
-        .find(|t| waits_for_itself(facts, *t))
+    shown.iter().copied().find(|t| waits_for_itself(facts, *t))
 }
 
 // Appends the hint where this task is not forked before its forker waits, if one is, and else that of the others.
@@ -481,7 +475,7 @@ pub(crate) fn put_hint(
     verdict: &WaitVerdict,
 ) -> Result<(), NoMemory>
     requires fits { FactsFitPlan facts.now world.now.plan }
-    ensures { OnOk result (out.new.items ≡ out.old.items ++ hint_line facts.now (state_of world.now).phases verdict.now) }
+    ensures { OnOk result (out.new.items ≡ out.old.items ++ verdict_hint facts.now (state_of world.now).phases verdict.now) }
 {
     match verdict {
         WaitVerdict::Nobody => Ok(()),
