@@ -14,7 +14,7 @@ use Rattle.report.specs.Standings.{AreStandings}
 use Rattle.report.specs.declared.standing.Standing.{Standing}
 use Rattle.explain_deadlock.specs.declared.outcome.WaitVerdict.{WaitVerdict}
 use Rattle.explain_tasks.specs.Facts.{FactsValue, facts_of}
-use Rattle.explain_deadlock.specs.Hints.{hint_line}
+use Rattle.explain_deadlock.specs.Hints.{verdict_hint}
 use Rattle.explain_deadlock.specs.Paragraphs.{paragraphs}
 use Rattle.explain_deadlock.specs.RunEnds.{IsAccountOf}
 use Rattle.explain_deadlock.specs.VerdictWords.{verdict_line}
@@ -22,7 +22,7 @@ use Rattle.explain_deadlock.specs.Verdicts.{IsVerdict, shown_of, somebody_waits}
 
 -- the lines with this verdict: how many tasks stand in each way, the verdict, the paragraphs, and the hint
 abbrev pub explained_by : FactsValue → (ℕ → Phases) → List ℕ → WaitVerdict → List ℕ
-explained_by f phases counts v = counts ++ verdict_line f v ++ paragraphs f phases (shown_of v) ++ hint_line f phases v
+explained_by f phases counts v = counts ++ verdict_line f v ++ paragraphs f phases (shown_of v) ++ verdict_hint f phases v
 
 -- these lines explain what is known in a state with these phases, behind this line of counts, and tell whether somebody waits for ever
 pub record Explains (f : FactsValue) (phases : ℕ → Phases) (counts : List ℕ) (lines : List ℕ) (waits : Bool) : Type 0 where

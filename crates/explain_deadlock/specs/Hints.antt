@@ -1,6 +1,5 @@
 -- The hint: what to mend, by where the walk of the verdict leads.
-use Rattle.std.specs.Prelude.{ℕ, zero, ◌-◌, ◌==◌, ◌&&◌, not, nat_lt, Bool, true, false, List, [], ◌∷◌, ◌++◌, Option, Some, None, codes, decimal, if◌then◌else◌, length, option_map, slice_index_or}
-use Rattle.std.proofs.Common.{suc}
+use Rattle.std.specs.Prelude.{ℕ, ◌-◌, ◌==◌, ◌&&◌, not, nat_lt, Bool, true, false, List, [], ◌++◌, Option, Some, None, codes, decimal, if◌then◌else◌, length, option_map, slice_get}
 use Rattle.std.specs.List.{find}
 use Rattle.armus_base.specs.declared.ids.TaskId.{TaskId}
 use Rattle.armus_base.specs.States.{Phases}
@@ -20,8 +19,8 @@ use Rattle.explain_deadlock.specs.declared.outcome.WaitVerdict.{WaitVerdict}
 use Rattle.explain_deadlock.specs.declared.outcome.WaitVerdict.TheVariants.{Nobody, Circle, Chain}
 
 -- the phaser for which task t waits: p1
-abbrev pub awaited_phaser : FactsValue → ℕ → List ℕ
-awaited_phaser f t = said_of (λ (w : Waiting). codes "p" ++ decimal w.event.p.0) (wait_of f t)
+abbrev pub awaited_phaser_words : FactsValue → ℕ → List ℕ
+awaited_phaser_words f t = said_of (λ (w : Waiting). codes "p" ++ decimal w.event.p.0) (wait_of f t)
 
 -- ---- the walk comes to an end
 
@@ -38,26 +37,33 @@ is_outside _ _ = false
 -- hint: t1 (fourth) is never forked: fork it, or let it be no member of p0
 abbrev pub never_forked_hint : FactsValue → ℕ → ℕ → List ℕ
 never_forked_hint f held last =
-    line (codes "hint: " ++ named_task f last ++ codes " is never forked: fork it, or let it be no member of " ++ awaited_phaser f held)
+    line (codes "hint: " ++ named_task f last ++ codes " is never forked: fork it, or let it be no member of " ++ awaited_phaser_words f held)
 
 -- so many arrivals: once more, or 2 more times
-abbrev pub more_words : ℕ → List ℕ
-more_words n = if n == 1 then codes "once more" else decimal n ++ codes " more times"
+abbrev pub arrivals_words : ℕ → List ℕ
+arrivals_words n = if n == 1 then codes "once more" else decimal n ++ codes " more times"
 
 -- how often a member with this phase would have to arrive for the event that is awaited so
-abbrev pub missing_words : Option Waiting → Option ℕ → List ℕ
-missing_words (Some w) (Some phase) = more_words (w.event.n - phase)
-missing_words _ _ = []
+abbrev pub missing_arrivals : Option Waiting → Option ℕ → List ℕ
+missing_arrivals (Some w) (Some phase) = arrivals_words (w.event.n - phase)
+missing_arrivals _ _ = []
 
 -- what a task that has ended, and has this phase, would have to do before:  leave p0 before 15:1, or arrive there 2 more times
 abbrev pub leaving_words : FactsValue → ℕ → ℕ → Option ℕ → List ℕ
 leaving_words f held last phase =
-    codes " leave " ++ awaited_phaser f held ++ codes " before " ++ end_words f last ++ codes ", or arrive there " ++ missing_words (wait_of f held) phase
+    codes " leave " ++ awaited_phaser_words f held ++ codes " before " ++ end_words f last ++ codes ", or arrive there " ++ missing_arrivals (wait_of f held) phase
+
+-- hint: t0 made p0, and so is a member of it: let it
+abbrev pub let_maker_words : FactsValue → ℕ → List ℕ
+let_maker_words f held = codes "hint: t0 made " ++ awaited_phaser_words f held ++ codes ", and so is a member of it: let it"
+
+-- hint: let t1 (t)
+abbrev pub let_task_words : FactsValue → ℕ → List ℕ
+let_task_words f last = codes "hint: let " ++ named_task f last
 
 -- whom the hint tells to do so; task 0 is a member just where it made the phaser
 abbrev pub let_words : FactsValue → ℕ → ℕ → List ℕ
-let_words f held last =
-    if last == 0 then codes "hint: t0 made " ++ awaited_phaser f held ++ codes ", and so is a member of it: let it" else codes "hint: let " ++ named_task f last
+let_words f held last = if last == 0 then let_maker_words f held else let_task_words f last
 
 -- hint: let t1 (t) leave p0 before 15:1, or arrive there 2 more times
 abbrev pub ended_hint : FactsValue → ℕ → ℕ → Option ℕ → List ℕ
@@ -123,24 +129,30 @@ itself_hint f t w = line (waits_at_words f t ++ for_event_words w ++ own_phase_w
 
 -- what one task of a circle would have to do before it waits, where this one waits for it: t0 at p1 before 19:1
 abbrev pub before_words : FactsValue → TaskId → TaskId → List ℕ
-before_words f waiter t = named_task f t.0 ++ codes " at " ++ awaited_phaser f waiter.0 ++ codes " before " ++ wait_place f t.0
+before_words f waiter t = named_task f t.0 ++ codes " at " ++ awaited_phaser_words f waiter.0 ++ codes " before " ++ wait_place f t.0
 
--- that the others of the circle may do it too
-abbrev pub others_words : List TaskId → List ℕ
-others_words [] = []
-others_words (t ∷ rest) = codes ", or another one likewise"
+-- the same of two tasks, if they are there
+abbrev pub pair_words : FactsValue → Option TaskId → Option TaskId → List ℕ
+pair_words f (Some waiter) (Some t) = before_words f waiter t
+pair_words f _ _ = []
+
+-- that the others of a circle of so many may do it too
+abbrev pub others_words : ℕ → List ℕ
+others_words n = if nat_lt 2 n then codes ", or another one likewise" else []
 
 -- hint: one of them has to arrive, or leave, before it waits: t0 at p1 before 19:1, or t1 (other) at p0 before 14:3
-abbrev pub circle_words : FactsValue → TaskId → TaskId → TaskId → List TaskId → List ℕ
-circle_words f last t u rest =
+abbrev pub circle_hint_words : FactsValue → List TaskId → List ℕ
+circle_hint_words f shown =
     line
-    (codes "hint: one of them has to arrive, or leave, before it waits: " ++ before_words f last t ++ codes ", or " ++ before_words f t u ++ others_words rest)
+    (codes "hint: one of them has to arrive, or leave, before it waits: "
+    ++ pair_words f (slice_get shown (length shown - 1)) (slice_get shown 0)
+    ++ codes ", or "
+    ++ pair_words f (slice_get shown 0) (slice_get shown 1)
+    ++ others_words (length shown))
 
--- the hint on a circle: of its first two tasks, of which the last one waits for the first
+-- the hint on a circle of two or more: of its first two tasks, each with the one before it
 abbrev pub circle_hint : FactsValue → List TaskId → List ℕ
-circle_hint f [] = []
-circle_hint f (t ∷ []) = []
-circle_hint f (t ∷ u ∷ rest) = circle_words f (slice_index_or (t ∷ u ∷ rest) (length (t ∷ u ∷ rest) - 1) t) t u rest
+circle_hint f shown = if nat_lt (length shown) 2 then [] else circle_hint_words f shown
 
 -- the hint where this task waits for itself, if one does, and else that of the circle
 abbrev pub itself_or_circle : FactsValue → List TaskId → Option TaskId → List ℕ
@@ -159,7 +171,7 @@ closed_hint f shown = fork_or_others f shown (find (waits_before_fork f) shown)
 -- ---- the whole
 
 -- the line of the hint, if one fits
-abbrev pub hint_line : FactsValue → (ℕ → Phases) → WaitVerdict → List ℕ
-hint_line f phases Nobody = []
-hint_line f phases (Circle shown) = closed_hint f shown
-hint_line f phases (Chain held last) = chain_hint f phases held.0 last.0 (situation_of f last.0)
+abbrev pub verdict_hint : FactsValue → (ℕ → Phases) → WaitVerdict → List ℕ
+verdict_hint f phases Nobody = []
+verdict_hint f phases (Circle shown) = closed_hint f shown
+verdict_hint f phases (Chain held last) = chain_hint f phases held.0 last.0 (situation_of f last.0)

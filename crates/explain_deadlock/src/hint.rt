@@ -1,9 +1,9 @@
 // The line of the hint.
-ghost use Rattle.std.specs.Prelude.{◌≡◌, ◌==◌, ◌<◌, ◌-◌, ◌++◌, OnOk, length, option_copied, slice_index_or};
+ghost use Rattle.std.specs.Prelude.{◌≡◌, ◌==◌, ◌<◌, ◌-◌, ◌++◌, OnOk, length, option_copied, slice_get};
 ghost use Rattle.std.specs.List.{find};
-ghost use Rattle.armus_base.specs.declared.ids.TaskId.{TaskId};
+ghost use Rattle.explain_tasks.specs.Facts.{wait_of};
 ghost use Rattle.explain_tasks.specs.calls.Fitting.{FactsFitPlan};
-ghost use Rattle.explain_deadlock.specs.Hints.{awaited_phaser, before_fork_words, before_words, chain_hint, circle_hint, circle_words, closed_hint, ended_hint, for_event_words, fork_hint, fork_or_others, hint_line, impeding_phase, is_ahead_of_itself, is_behind_a_wait, is_of_text, is_outside, itself_hint, itself_or_circle, leaving_words, let_words, missing_words, more_words, never_forked_hint, others_words, own_phase_words, unforked_hint, waits_at_words, waits_before_fork, waits_for_itself};
+ghost use Rattle.explain_deadlock.specs.Hints.{awaited_phaser_words, before_fork_words, before_words, chain_hint, circle_hint, circle_hint_words, closed_hint, ended_hint, for_event_words, fork_hint, fork_or_others, verdict_hint, impeding_phase, is_ahead_of_itself, is_behind_a_wait, is_of_text, is_outside, itself_hint, itself_or_circle, leaving_words, let_maker_words, let_task_words, let_words, missing_arrivals, arrivals_words, never_forked_hint, others_words, own_phase_words, pair_words, unforked_hint, waits_at_words, waits_before_fork, waits_for_itself};
 ghost use Rattle.pl_core.specs.calls.Worlds.{state_of};
 
 use crate::outcome::WaitVerdict;
@@ -16,7 +16,7 @@ use std::alloc::Global;
 
 // Appends the phaser for which a task waits.
 fn put_awaited_phaser(facts: &Facts, out: &mut Vec<u8>, t: TaskId) -> Result<(), NoMemory>
-    ensures { OnOk result (out.new.items ≡ out.old.items ++ awaited_phaser facts.now t.0) }
+    ensures { OnOk result (out.new.items ≡ out.old.items ++ awaited_phaser_words facts.now t.0) }
 {
     match facts.wait(t) {
         Some(wait) => {
@@ -86,7 +86,7 @@ fn put_unforked(
 
 // Appends so many arrivals.
 fn put_more(alloc: Global, out: &mut Vec<u8>, n: u32) -> Result<(), NoMemory>
-    ensures { OnOk result (out.new.items ≡ out.old.items ++ more_words n) }
+    ensures { OnOk result (out.new.items ≡ out.old.items ++ arrivals_words n) }
 {
     if n == 1 {
         return put_words(out, b"once more");
@@ -102,7 +102,7 @@ fn put_missing(
     wait: Option<&Waiting>,
     phase: Option<Phase>,
 ) -> Result<(), NoMemory>
-    ensures { OnOk result (out.new.items ≡ out.old.items ++ missing_words (option_copied wait.entry) phase) }
+    ensures { OnOk result (out.new.items ≡ out.old.items ++ missing_arrivals (option_copied wait.entry) phase) }
 {
     match wait {
         Some(wait) => match phase {
@@ -111,6 +111,18 @@ fn put_missing(
         },
         None => Ok(()),
     }
+}
+
+// Appends how often a member with this phase would have to arrive for the event that a task awaits.
+fn put_missing_for(
+    facts: &Facts,
+    out: &mut Vec<u8>,
+    held: TaskId,
+    phase: Option<Phase>,
+) -> Result<(), NoMemory>
+    ensures { OnOk result (out.new.items ≡ out.old.items ++ missing_arrivals (wait_of facts.now held.0) phase) }
+{
+    put_missing(facts.alloc(), out, facts.wait(held), phase)
 }
 
 // Appends what a task that has ended, and has this phase, would have to do before.
@@ -128,7 +140,24 @@ fn put_leaving(
     put_words(out, b" before ")?;
     facts.put_end_place(out, last)?;
     put_words(out, b", or arrive there ")?;
-    put_missing(facts.alloc(), out, facts.wait(held), phase)
+    put_missing_for(facts, out, held, phase)
+}
+
+// Appends that task 0 is to do so, which made the phaser.
+fn put_let_maker(facts: &Facts, out: &mut Vec<u8>, held: TaskId) -> Result<(), NoMemory>
+    ensures { OnOk result (out.new.items ≡ out.old.items ++ let_maker_words facts.now held.0) }
+{
+    put_words(out, b"hint: t0 made ")?;
+    put_awaited_phaser(facts, out, held)?;
+    put_words(out, b", and so is a member of it: let it")
+}
+
+// Appends that another task is to do so.
+fn put_let_task(facts: &Facts, out: &mut Vec<u8>, last: TaskId) -> Result<(), NoMemory>
+    ensures { OnOk result (out.new.items ≡ out.old.items ++ let_task_words facts.now last.0) }
+{
+    put_words(out, b"hint: let ")?;
+    facts.put_named(out, last)
 }
 
 // Appends whom the hint tells to do so.
@@ -136,12 +165,9 @@ fn put_let(facts: &Facts, out: &mut Vec<u8>, held: TaskId, last: TaskId) -> Resu
     ensures { OnOk result (out.new.items ≡ out.old.items ++ let_words facts.now held.0 last.0) }
 {
     if last.0 == 0 {
-        put_words(out, b"hint: t0 made ")?;
-        put_awaited_phaser(facts, out, held)?;
-        return put_words(out, b", and so is a member of it: let it");
+        return put_let_maker(facts, out, held);
     }
-    put_words(out, b"hint: let ")?;
-    facts.put_named(out, last)
+    put_let_task(facts, out, last)
 }
 
 // Appends the hint where a task that has ended, and has this phase, ends the walk.
@@ -310,43 +336,67 @@ fn put_before(facts: &Facts, out: &mut Vec<u8>, waiter: TaskId, t: TaskId) -> Re
     facts.put_wait_place(out, t)
 }
 
-// Appends that the others of the circle may do it too.
-fn put_others(out: &mut Vec<u8>, rest: &[TaskId]) -> Result<(), NoMemory>
-    ensures { OnOk result (out.new.items ≡ out.old.items ++ others_words rest.now) }
+// The task with this number in a list.
+fn task_at(shown: &[TaskId], k: usize) -> Option<TaskId>
+    ensures { result ≡ slice_get shown.now k }
 {
-    match rest {
-        [] => Ok(()),
-        [_, ..] => put_words(out, b", or another one likewise"),
+    shown.get(k).copied()
+}
+
+// Appends the same of two tasks in a list, if they are there.
+fn put_pair(
+    facts: &Facts,
+    out: &mut Vec<u8>,
+    waiter: Option<TaskId>,
+    t: Option<TaskId>,
+) -> Result<(), NoMemory>
+    ensures { OnOk result (out.new.items ≡ out.old.items ++ pair_words facts.now waiter t) }
+{
+    match waiter {
+        Some(waiter) => match t {
+            Some(t) => put_before(facts, out, waiter, t),
+            None => Ok(()),
+        },
+        None => Ok(()),
     }
 }
 
-// The last one of some tasks.
-fn last_of(shown: &[TaskId]) -> TaskId
-    requires { 0 < length shown.now }
-    ensures { (d : TaskId) → slice_index_or shown.now (length shown.now - 1) d ≡ result }
-{
-    shown[shown.len() - 1]
-}
-
-// Appends the hint on a circle of these two tasks and the rest, whose last one waits for the first.
-fn put_circle_words(
+// Appends the same of the tasks with these numbers in a list.
+fn put_pair_at(
     facts: &Facts,
     out: &mut Vec<u8>,
-    last: TaskId,
-    t: TaskId,
-    u: TaskId,
-    rest: &[TaskId],
+    shown: &[TaskId],
+    waiter: usize,
+    t: usize,
 ) -> Result<(), NoMemory>
-    ensures { OnOk result (out.new.items ≡ out.old.items ++ circle_words facts.now last t u rest.now) }
+    ensures { OnOk result (out.new.items ≡ out.old.items ++ pair_words facts.now (slice_get shown.now waiter) (slice_get shown.now t)) }
+{
+    put_pair(facts, out, task_at(shown, waiter), task_at(shown, t))
+}
+
+// Appends that the others of a circle of so many may do it too.
+fn put_others(out: &mut Vec<u8>, count: usize) -> Result<(), NoMemory>
+    ensures { OnOk result (out.new.items ≡ out.old.items ++ others_words count) }
+{
+    if count > 2 {
+        return put_words(out, b", or another one likewise");
+    }
+    Ok(())
+}
+
+// Appends the hint on a circle of two or more.
+fn put_circle_words(facts: &Facts, out: &mut Vec<u8>, shown: &[TaskId]) -> Result<(), NoMemory>
+    requires { 0 < length shown.now }
+    ensures { OnOk result (out.new.items ≡ out.old.items ++ circle_hint_words facts.now shown.now) }
 {
     put_words(
         out,
         b"hint: one of them has to arrive, or leave, before it waits: ",
     )?;
-    put_before(facts, out, last, t)?;
+    put_pair_at(facts, out, shown, shown.len() - 1, 0)?;
     put_words(out, b", or ")?;
-    put_before(facts, out, t, u)?;
-    put_others(out, rest)?;
+    put_pair_at(facts, out, shown, 0, 1)?;
+    put_others(out, shown.len())?;
     put_words(out, b"\n")
 }
 
@@ -354,11 +404,10 @@ fn put_circle_words(
 fn put_circle_hint(facts: &Facts, out: &mut Vec<u8>, shown: &[TaskId]) -> Result<(), NoMemory>
     ensures { OnOk result (out.new.items ≡ out.old.items ++ circle_hint facts.now shown.now) }
 {
-    match shown {
-        [] => Ok(()),
-        [_] => Ok(()),
-        [t, u, rest @ ..] => put_circle_words(facts, out, last_of(shown), *t, *u, rest),
+    if shown.len() < 2 {
+        return Ok(());
     }
+    put_circle_words(facts, out, shown)
 }
 
 // Appends the hint where this task waits for itself, if one does, and else that of the circle.
@@ -383,17 +432,14 @@ fn put_itself_or_circle(
 fn first_behind_a_wait(facts: &Facts, shown: &[TaskId]) -> Option<TaskId>
     ensures { result ≡ find (waits_before_fork facts.now) shown.now }
 {
-    shown
-        .iter()
-        .find(|t| waits_before_fork(facts, **t))
-        .copied()
+    shown.iter().copied().find(|t| waits_before_fork(facts, *t))
 }
 
 // The first of these tasks that waits for itself.
 fn first_for_itself(facts: &Facts, shown: &[TaskId]) -> Option<TaskId>
     ensures { result ≡ find (waits_for_itself facts.now) shown.now }
 {
-    shown.iter().find(|t| waits_for_itself(facts, **t)).copied()
+    shown.iter().copied().find(|t| waits_for_itself(facts, *t))
 }
 
 // Appends the hint where this task is not forked before its forker waits, if one is, and else that of the others.
@@ -429,7 +475,7 @@ pub(crate) fn put_hint(
     verdict: &WaitVerdict,
 ) -> Result<(), NoMemory>
     requires fits { FactsFitPlan facts.now world.now.plan }
-    ensures { OnOk result (out.new.items ≡ out.old.items ++ hint_line facts.now (state_of world.now).phases verdict.now) }
+    ensures { OnOk result (out.new.items ≡ out.old.items ++ verdict_hint facts.now (state_of world.now).phases verdict.now) }
 {
     match verdict {
         WaitVerdict::Nobody => Ok(()),

@@ -11,7 +11,7 @@ use Rattle.armus_base.specs.Plans.{Plan}
 use Rattle.armus_base.specs.Runs.{state_after}
 use Rattle.armus_base.specs.States.{State}
 use Rattle.explain_deadlock.specs.declared.outcome.WaitVerdict.{WaitVerdict}
-use Rattle.explain_deadlock.specs.Hints.{hint_line}
+use Rattle.explain_deadlock.specs.Hints.{verdict_hint}
 use Rattle.explain_deadlock.specs.ImpederLines.{group_line, rest_line}
 use Rattle.explain_deadlock.specs.Paragraphs.{lines_of_impeders, own_lines, tasks_of}
 use Rattle.explain_tasks.specs.Facts.{FactsValue, facts_of}
@@ -37,7 +37,7 @@ pub record TellsOfEach (f : FactsValue) (plan : Plan) (s : State) (lines : Text)
   pub front : Text
   pub said : List Said
   pub lines_are : (v : WaitVerdict)
-      × (lines ≡ front ++ flat_map (λ x. own_lines f x (tasks_of f x) ++ lines_of_impeders f s.phases (tasks_of f x)) said ++ hint_line f s.phases v)
+      × (lines ≡ front ++ flat_map (λ x. own_lines f x (tasks_of f x) ++ lines_of_impeders f s.phases (tasks_of f x)) said ++ verdict_hint f s.phases v)
   pub once : IsDistinct said
   pub told : (t : TaskId) → t.0 < length plan.parents → (end_of s t.0 ≡ Done → ⊥) → Contains said (own_said f t.0) × Contains (tasks_of f (own_said f t.0)) t
   pub only : (t : TaskId) (x : Said) → Contains (tasks_of f x) t → (x ≡ own_said f t.0) × (t.0 < length plan.parents) × (end_of s t.0 ≡ Done → ⊥)

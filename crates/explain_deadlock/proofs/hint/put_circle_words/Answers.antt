@@ -5,6 +5,5 @@ use Rattle.explain_deadlock.proofs.hint.put_circle_words.Goals as goal
 pub returns : goal.returns
 returns c =
     on_ok_weaker c.put_words-3.result
-    (λ e. six_pieces _ _ _ _ _ _ _ _ _ _ _ _ _ c.in_ok-put_words.ensures c.in_ok-put_before.ensures c.in_ok-put_words-2.ensures c.in_ok-put_before-2.ensures
-    c.in_ok-put_others.ensures e)
+    (λ e. six_pieces _ _ _ _ _ _ _ _ _ _ _ _ _ c.in_ok-put_words.ensures c.in_ok-put_pair_at.ensures c.in_ok-put_words-2.ensures c.in_ok-put_pair_at-2.ensures c.in_ok-put_others.ensures e)
     c.put_words-3.ensures
