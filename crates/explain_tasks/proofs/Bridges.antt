@@ -32,6 +32,7 @@ forkings (Some a) (Some b) = refl
 -- the test of the program is that of what is said
 pub same_saying : (a b : Saying) → value.it a b ≡ same_said (said_by a) (said_by b)
 same_saying a b =
-    ap (λ v. bytes_eq a.front.items b.front.items && (bytes_eq a.name.items b.name.items && (v && (bytes_eq a.words.items b.words.items && (option_eq (λ (x : ℕ × ℕ) y. nat_eq x.0 y.0 && nat_eq x.1 y.1) a.event b.event && option_eq (λ x y. forking_value.it x y) a.forking b.forking))))) (phases a.phase b.phase)
-    ∙ ap (λ v. bytes_eq a.front.items b.front.items && (bytes_eq a.name.items b.name.items && (same_phase a.phase b.phase && (bytes_eq a.words.items b.words.items && (v && option_eq (λ x y. forking_value.it x y) a.forking b.forking))))) (events a.event b.event)
-    ∙ ap (λ v. bytes_eq a.front.items b.front.items && (bytes_eq a.name.items b.name.items && (same_phase a.phase b.phase && (bytes_eq a.words.items b.words.items && (same_event (said_by a).event (said_by b).event && v))))) (forkings a.forking b.forking)
+    let last = bytes_eq a.next.items b.next.items in
+    ap (λ v. bytes_eq a.front.items b.front.items && (bytes_eq a.name.items b.name.items && (v && (bytes_eq a.words.items b.words.items && (option_eq (λ (x : ℕ × ℕ) y. nat_eq x.0 y.0 && nat_eq x.1 y.1) a.event b.event && (option_eq (λ x y. forking_value.it x y) a.forking b.forking && last)))))) (phases a.phase b.phase)
+    ∙ ap (λ v. bytes_eq a.front.items b.front.items && (bytes_eq a.name.items b.name.items && (same_phase a.phase b.phase && (bytes_eq a.words.items b.words.items && (v && (option_eq (λ x y. forking_value.it x y) a.forking b.forking && last)))))) (events a.event b.event)
+    ∙ ap (λ v. bytes_eq a.front.items b.front.items && (bytes_eq a.name.items b.name.items && (same_phase a.phase b.phase && (bytes_eq a.words.items b.words.items && (same_event (said_by a).event (said_by b).event && (v && last)))))) (forkings a.forking b.forking)

@@ -1,5 +1,6 @@
 pub mod Filters
 pub mod FirstThat
+pub mod NextOn
 pub mod EachOnce
 pub mod SameSaid
 pub mod GroupedTasks

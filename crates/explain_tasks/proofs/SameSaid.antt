@@ -63,8 +63,9 @@ forking_itself (Some a) =
     and_from (bytes_eq a.name a.name) (bytes_eq a.at a.at && bytes_eq a.stands a.stands) (bytes_itself a.name)
     (and_from (bytes_eq a.at a.at) (bytes_eq a.stands a.stands) (bytes_itself a.at) (bytes_itself a.stands))
 
-said_with : List ℕ → List ℕ → Option ℕ → List ℕ → Option Event → Option Forking → Said
-said_with front name phase words event forking = record { front = front; name = name; phase = phase; words = words; event = event; forking = forking }
+said_with : List ℕ → List ℕ → Option ℕ → List ℕ → Option Event → Option Forking → List ℕ → Said
+said_with front name phase words event forking next =
+    record { front = front; name = name; phase = phase; words = words; event = event; forking = forking; next = next }
 
 -- where the same is said, what is said is equal
 pub same_said_is : (a b : Said) → same_said a b ≡ true → a ≡ b
@@ -74,14 +75,16 @@ same_said_is a b e =
     let t2 = and_parts (bytes_eq a.name b.name) _ t1.1 in
     let t3 = and_parts (same_phase a.phase b.phase) _ t2.1 in
     let t4 = and_parts (bytes_eq a.words b.words) _ t3.1 in
-    let t5 = and_parts (same_event a.event b.event) (same_forking a.forking b.forking) t4.1 in
-    let whole : said_with a.front a.name a.phase a.words a.event a.forking ≡ said_with b.front b.name b.phase b.words b.event b.forking =
-    ap (λ v. said_with v a.name a.phase a.words a.event a.forking) (bytes_is a.front b.front t1.0)
-    ∙ ap (λ v. said_with b.front v a.phase a.words a.event a.forking) (bytes_is a.name b.name t2.0)
-    ∙ ap (λ v. said_with b.front b.name v a.words a.event a.forking) (phase_is a.phase b.phase t3.0)
-    ∙ ap (λ v. said_with b.front b.name b.phase v a.event a.forking) (bytes_is a.words b.words t4.0)
-    ∙ ap (λ v. said_with b.front b.name b.phase b.words v a.forking) (event_is a.event b.event t5.0)
-    ∙ ap (λ v. said_with b.front b.name b.phase b.words b.event v) (forking_is a.forking b.forking t5.1) in
+    let t5 = and_parts (same_event a.event b.event) _ t4.1 in
+    let t6 = and_parts (same_forking a.forking b.forking) (bytes_eq a.next b.next) t5.1 in
+    let whole : said_with a.front a.name a.phase a.words a.event a.forking a.next ≡ said_with b.front b.name b.phase b.words b.event b.forking b.next =
+    ap (λ v. said_with v a.name a.phase a.words a.event a.forking a.next) (bytes_is a.front b.front t1.0)
+    ∙ ap (λ v. said_with b.front v a.phase a.words a.event a.forking a.next) (bytes_is a.name b.name t2.0)
+    ∙ ap (λ v. said_with b.front b.name v a.words a.event a.forking a.next) (phase_is a.phase b.phase t3.0)
+    ∙ ap (λ v. said_with b.front b.name b.phase v a.event a.forking a.next) (bytes_is a.words b.words t4.0)
+    ∙ ap (λ v. said_with b.front b.name b.phase b.words v a.forking a.next) (event_is a.event b.event t5.0)
+    ∙ ap (λ v. said_with b.front b.name b.phase b.words b.event v a.next) (forking_is a.forking b.forking t6.0)
+    ∙ ap (λ v. said_with b.front b.name b.phase b.words b.event b.forking v) (bytes_is a.next b.next t6.1) in
     whole
 
 -- what is said is the same as itself
@@ -91,4 +94,5 @@ same_said_itself a =
     (and_from (bytes_eq a.name a.name) _ (bytes_itself a.name)
     (and_from (same_phase a.phase a.phase) _ (phase_itself a.phase)
     (and_from (bytes_eq a.words a.words) _ (bytes_itself a.words)
-    (and_from (same_event a.event a.event) (same_forking a.forking a.forking) (event_itself a.event) (forking_itself a.forking)))))
+    (and_from (same_event a.event a.event) _ (event_itself a.event)
+    (and_from (same_forking a.forking a.forking) (bytes_eq a.next a.next) (forking_itself a.forking) (bytes_itself a.next))))))

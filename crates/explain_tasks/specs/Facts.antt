@@ -1,5 +1,6 @@
 -- What an explanation is made of, and how tasks stand by it.
-use Rattle.std.specs.Prelude.{ℕ, Bool, true, false, List, Option, Some, None, slice_get, slice_index_or, option_and_then, length, filter}
+use Rattle.std.specs.Prelude.{ℕ, ◌==◌, Bool, true, false, List, Option, Some, None, slice_get, slice_index_or, option_and_then, length, filter}
+use Rattle.std.specs.List.{find}
 use Rattle.armus_base.specs.declared.ids.TaskId.{TaskId}
 use Rattle.armus_base.specs.Finals.{list_below}
 use Rattle.report.specs.declared.standing.Standing.{Standing}
@@ -8,6 +9,7 @@ use Rattle.explain_facts.specs.declared.account.Account.{Account}
 use Rattle.explain_facts.specs.declared.account.Drawn.{Drawn}
 use Rattle.explain_facts.specs.declared.account.CodeEnd.{CodeEnd}
 use Rattle.explain_facts.specs.declared.account.Forked.{Forked}
+use Rattle.explain_facts.specs.declared.account.NextOp.{NextOp}
 use Rattle.explain_facts.specs.declared.account.TaskAccount.{TaskAccount}
 use Rattle.explain_facts.specs.declared.account.Waiting.{Waiting}
 use Rattle.explain_tasks.specs.declared.situation.Situation.{Situation}
@@ -39,6 +41,10 @@ ending_of f t = option_and_then (λ (a : TaskAccount). a.ended) (slice_get f.acc
 -- where task t waits, if it waits
 abbrev pub wait_of : FactsValue → ℕ → Option Waiting
 wait_of f t = option_and_then (λ (a : TaskAccount). a.wait) (slice_get f.account.tasks t)
+
+-- what task t does next to phaser q, if anything
+abbrev pub next_op_of : FactsValue → ℕ → ℕ → Option NextOp
+next_op_of f t q = option_and_then (λ (a : TaskAccount). find (λ (x : NextOp). x.p.0 == q) a.nexts) (slice_get f.account.tasks t)
 
 -- how a task stands that the report says to stand so, and that this op forks; nobody is refused where nobody avoids
 abbrev pub situation_by : Standing → Option Forked → Situation

@@ -10,7 +10,7 @@ use Rattle.explain_tasks.specs.Facts.{FactsValue, wait_of}
 -- task u, if it impedes the event: it has a phase on the event's phaser, and one below the event's
 abbrev pub impeder_by : Event → ℕ → Option ℕ → Option Impeder
 impeder_by e u None = None
-impeder_by e u (Some n) = if nat_lt n e.n then Some (record { t = record { 0 = u }; phase = n }) else None
+impeder_by e u (Some n) = if nat_lt n e.n then Some (record { t = record { 0 = u }; p = e.p; phase = n }) else None
 
 -- who impedes the event, of the tasks below n, in order of number, each with its phase
 abbrev pub impeders_in : ℕ → (ℕ → Phases) → Event → List Impeder

@@ -4,14 +4,17 @@ use Rattle.std.specs.Str.{bytes_eq}
 use Rattle.armus_base.specs.declared.event.Event.{Event}
 use Rattle.explain_facts.specs.declared.account.Drawn.{Drawn}
 use Rattle.explain_facts.specs.declared.account.CodeEnd.{CodeEnd}
+use Rattle.explain_facts.specs.declared.account.Doing.{Doing}
+use Rattle.explain_facts.specs.declared.account.Doing.TheVariants.{Advances, Leaves}
 use Rattle.explain_facts.specs.declared.account.Forked.{Forked}
+use Rattle.explain_facts.specs.declared.account.NextOp.{NextOp}
 use Rattle.explain_facts.specs.declared.account.Turn.{Turn}
 use Rattle.explain_facts.specs.declared.account.Waiting.{Waiting}
 use Rattle.source_map.specs.declared.place.TextPlace.{TextPlace}
 use Rattle.explain_tasks.specs.declared.impeders.Impeder.{Impeder}
 use Rattle.explain_tasks.specs.declared.situation.Situation.{Situation}
 use Rattle.explain_tasks.specs.declared.situation.Situation.TheVariants.{Deadlocked, Held, HasEnded, NotForkedYet, NeverForked}
-use Rattle.explain_tasks.specs.Facts.{FactsValue, drawing_of, ending_of, forking_of, situation_of, wait_of}
+use Rattle.explain_tasks.specs.Facts.{FactsValue, drawing_of, ending_of, forking_of, next_op_of, situation_of, wait_of}
 use Rattle.explain_tasks.specs.Places.{drawn_place, end_words, fork_place, front_in, name_words, place_in_line, said_of, wait_place}
 
 -- who would fork a task: the forker's name, the place of the fork where it is told, and how the forker stands
@@ -21,7 +24,7 @@ pub record Forking : Type 0 where
   pub stands : List ℕ
 
 -- What is said of a task: in its own paragraph the place with which this begins, and in the line of an impeder its phase; then its name, what is said behind
--- that, the event that it awaits, and who would fork it.
+-- that, the event that it awaits, who would fork it, and what it does next to the phaser of the event that it impedes.
 pub record Said : Type 0 where
   pub front : List ℕ
   pub name : List ℕ
@@ -29,6 +32,7 @@ pub record Said : Type 0 where
   pub words : List ℕ
   pub event : Option Event
   pub forking : Option Forking
+  pub next : List ℕ
 
 -- ---- a task that waits
 
@@ -67,6 +71,7 @@ waiting_said f t stands =
       words = stands ++ said_of (λ (w : Waiting). awaited_words w ++ second_line f (forking_of f t) w) (wait_of f t);
       event = option_map (λ (w : Waiting). w.event) (wait_of f t);
       forking = None;
+      next = [];
     }
 
 -- ---- a task that was not forked
@@ -90,7 +95,7 @@ forking_by f at fork =
 abbrev pub said_as : FactsValue → ℕ → Situation → Said
 said_as f t Deadlocked = waiting_said f t (codes "deadlocked: ")
 said_as f t Held = waiting_said f t (codes "held: ")
-said_as f t HasEnded = record { front = []; name = name_words f t; phase = None; words = []; event = None; forking = None }
+said_as f t HasEnded = record { front = []; name = name_words f t; phase = None; words = []; event = None; forking = None; next = [] }
 said_as f t NotForkedYet =
     record {
       front = said_of (λ (x : Forked). front_in f x.at) (forking_of f t);
@@ -99,6 +104,7 @@ said_as f t NotForkedYet =
       words = codes "not forked yet: ";
       event = None;
       forking = forking_by f [] (forking_of f t);
+      next = [];
     }
 said_as f t NeverForked =
     record {
@@ -108,6 +114,7 @@ said_as f t NeverForked =
       words = codes "never forked";
       event = None;
       forking = None;
+      next = [];
     }
 
 -- what the paragraph of task t says of it
@@ -131,17 +138,44 @@ abbrev pub impeder_forking : FactsValue → ℕ → Situation → Option Forking
 impeder_forking f t NotForkedYet = forking_by f (codes " at " ++ fork_place f t) (forking_of f t)
 impeder_forking f t _ = None
 
--- what the line of an impeder says of it
-abbrev pub impeder_said : FactsValue → Impeder → Said
-impeder_said f i =
+-- that a task does this next to phaser q, up to the place where
+abbrev pub doing_words : ℕ → Doing → List ℕ
+doing_words q Advances = codes "; next adv of p" ++ decimal q ++ codes " at "
+doing_words q Leaves = codes "; p" ++ decimal q ++ codes " is left at "
+
+-- what a task does next to phaser q, with these words behind it: ; next adv of p1 at 12:3, behind this wait
+abbrev pub next_words : FactsValue → ℕ → List ℕ → Option NextOp → List ℕ
+next_words f q behind None = codes "; no adv of p" ++ decimal q ++ codes " follows"
+next_words f q behind (Some x) = doing_words q x.does ++ place_in_line f x.at ++ behind
+
+-- what an impeder that stands so does next to the event's phaser, by what its code has
+abbrev pub next_by_situation : FactsValue → ℕ → Option NextOp → Situation → List ℕ
+next_by_situation f q next Deadlocked = next_words f q (codes ", behind this wait") next
+next_by_situation f q next Held = next_words f q (codes ", behind this wait") next
+next_by_situation f q next HasEnded = []
+next_by_situation f q next NotForkedYet = next_words f q [] next
+next_by_situation f q next NeverForked = []
+
+-- what an impeder does next to the event's phaser; nothing of one that has ended or is never forked
+abbrev pub impeder_next : FactsValue → Impeder → List ℕ
+impeder_next f i = next_by_situation f i.p.0 (next_op_of f i.t.0 i.p.0) (situation_of f i.t.0)
+
+-- what is said of task t where it impedes an event with this phase, and does this next
+abbrev pub impeding_said : FactsValue → ℕ → ℕ → List ℕ → Said
+impeding_said f t phase next =
     record {
       front = [];
-      name = name_words f i.t.0;
-      phase = Some i.phase;
-      words = impeder_words f i.t.0 (situation_of f i.t.0);
+      name = name_words f t;
+      phase = Some phase;
+      words = impeder_words f t (situation_of f t);
       event = None;
-      forking = impeder_forking f i.t.0 (situation_of f i.t.0);
+      forking = impeder_forking f t (situation_of f t);
+      next = next;
     }
+
+-- what the line of an impeder says of it
+abbrev pub impeder_said : FactsValue → Impeder → Said
+impeder_said f i = impeding_said f i.t.0 i.phase (impeder_next f i)
 
 -- ---- the same is said
 
@@ -168,4 +202,5 @@ abbrev pub same_said : Said → Said → Bool
 same_said a b =
     bytes_eq a.front b.front
     && (bytes_eq a.name b.name
-    && (same_phase a.phase b.phase && (bytes_eq a.words b.words && (same_event a.event b.event && same_forking a.forking b.forking))))
+    && (same_phase a.phase b.phase
+    && (bytes_eq a.words b.words && (same_event a.event b.event && (same_forking a.forking b.forking && bytes_eq a.next b.next)))))

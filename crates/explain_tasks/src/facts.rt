@@ -1,10 +1,12 @@
 // What an explanation is made of.
-ghost use Rattle.std.specs.Prelude.{◌≡◌, length, option_copied, slice_get, slice_index_or};
+ghost use Rattle.std.specs.Prelude.{◌≡◌, ◌==◌, length, option_copied, slice_get, slice_index_or};
+ghost use Rattle.std.specs.List.{find};
+ghost use Rattle.explain_facts.specs.declared.account.NextOp.{NextOp};
 ghost use Rattle.report.specs.declared.standing.Standing.TheVariants.{Done};
 
 use crate::situation::{Situation, situation_by};
-use armus_base::TaskId;
-use explain_facts::{Account, CodeEnd, Drawn, Forked, TaskAccount, Waiting};
+use armus_base::{PhaserId, TaskId};
+use explain_facts::{Account, CodeEnd, Drawn, Forked, NextOp, TaskAccount, Waiting};
 use report::Standing;
 use source_map::TextPlaces;
 use std::alloc::Global;
@@ -31,6 +33,25 @@ impl<'a> Model for Facts<'a> {
     ghost invariant = { λ f. length f.standings.now < 2 ^ 32 };
 }
 
+// Whether an op is on a phaser.
+fn is_on(next: NextOp, p: PhaserId) -> bool
+    ensures { result ≡ (next.p.0 == p.0) }
+{
+    next.p.0 == p.0
+}
+
+// The first of these ops that is on a phaser.
+fn next_on(nexts: &[NextOp], p: PhaserId) -> Option<NextOp>
+    ensures { result ≡ find (λ (x : NextOp). x.p.0 == p.0) nexts.now }
+{
+    for next in nexts {
+        if is_on(*next, p) {
+            return Some(*next);
+        }
+    }
+    None
+}
+
 /// How a task stands, and Done where there is no such task.
 pub fn task_standing(standings: &[Standing], t: TaskId) -> Standing
     ensures { result ≡ slice_index_or standings.now t.0 Done }
@@ -42,7 +63,7 @@ pub fn task_standing(standings: &[Standing], t: TaskId) -> Standing
 }
 
 impl<'a> Facts<'a> {
-    ghost use Rattle.explain_tasks.specs.Facts.{drawing_of, ending_of, facts_of, forking_of, situation_of, wait_of};
+    ghost use Rattle.explain_tasks.specs.Facts.{drawing_of, ending_of, facts_of, forking_of, next_op_of, situation_of, wait_of};
     ghost use Rattle.std.specs.Prelude.{◌<◌, ◌^◌};
 
     /// What is known of a text with these places, of the file with this name if it comes from one, with this account, and whose tasks stand so.
@@ -120,6 +141,16 @@ impl<'a> Facts<'a> {
     {
         match self.task(t) {
             Some(task) => task.wait.as_ref(),
+            None => None,
+        }
+    }
+
+    // What a task does next to a phaser, if anything.
+    pub(crate) fn next_op(&self, t: TaskId, p: PhaserId) -> Option<NextOp>
+        ensures { result ≡ next_op_of self.now t.0 p.0 }
+    {
+        match self.task(t) {
+            Some(task) => next_on(task.nexts.as_slice(), p),
             None => None,
         }
     }

@@ -4,7 +4,7 @@ ghost use Rattle.explain_tasks.specs.Impeders.{impeder_by, impeders_in};
 ghost use Rattle.pl_core.specs.calls.Worlds.{state_of};
 
 use crate::facts::Facts;
-use armus_base::{Event, NoMemory, Phase, TaskId};
+use armus_base::{Event, NoMemory, Phase, PhaserId, TaskId};
 use pl_core::World;
 use std::alloc::Global;
 
@@ -13,7 +13,9 @@ use std::alloc::Global;
 pub struct Impeder {
     /// The task.
     pub t: TaskId,
-    /// Its phase on the event's phaser.
+    /// The event's phaser.
+    pub p: PhaserId,
+    /// Its phase there.
     pub phase: Phase,
 }
 
@@ -22,7 +24,11 @@ fn impeder_by(event: Event, u: TaskId, phase: Option<Phase>) -> Option<Impeder>
     ensures { result ≡ impeder_by event u.0 phase }
 {
     match phase {
-        Some(n) if n < event.n => Some(Impeder { t: u, phase: n }),
+        Some(n) if n < event.n => Some(Impeder {
+            t: u,
+            p: event.p,
+            phase: n,
+        }),
         _ => None,
     }
 }

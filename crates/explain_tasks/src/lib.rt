@@ -8,6 +8,7 @@ mod following;
 mod grouping;
 mod impeders;
 mod laws;
+mod nexts;
 mod passing;
 mod saying;
 mod sayings;

@@ -26,4 +26,6 @@ pub struct Saying {
     pub event: Option<(u32, u32)>,
     /// Who would fork it.
     pub forking: Option<ForkingWords>,
+    /// What it does next to the event's phaser, where it impedes an event.
+    pub next: Vec<u8>,
 }

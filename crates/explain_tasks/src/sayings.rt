@@ -1,5 +1,5 @@
 // What is said of tasks.
-ghost use Rattle.std.specs.Prelude.{◌≡◌, ◌++◌, IfOk, OnOk, codes, option_copied, option_map};
+ghost use Rattle.std.specs.Prelude.{◌≡◌, ◌++◌, [], IfOk, OnOk, codes, option_copied, option_map};
 ghost use Rattle.explain_tasks.specs.calls.SayingValues.{forking_said, said_by};
 ghost use Rattle.explain_tasks.specs.Sayings.{awaited_words, phase_words};
 
@@ -41,7 +41,7 @@ impl<'a> Facts<'a> {
     ghost use Rattle.explain_tasks.specs.declared.situation.Situation.TheVariants.{HasEnded, NeverForked, NotForkedYet};
     ghost use Rattle.explain_tasks.specs.Places.{name_words, place_in_line, said_of, wait_place};
     ghost use Rattle.source_map.specs.declared.place.TextPlace.{TextPlace};
-    ghost use Rattle.explain_tasks.specs.Sayings.{forked_words, forker_words, forking_by, impeder_forking, impeder_said, impeder_words, last_words, made_words, own_said, said_as, second_line, turn_words, waiting_said};
+    ghost use Rattle.explain_tasks.specs.Sayings.{forked_words, forker_words, forking_by, impeder_forking, impeder_said, impeder_words, impeding_said, last_words, made_words, own_said, said_as, second_line, turn_words, waiting_said};
 
     // Appends a turn of a loop.
     fn put_turn(&self, out: &mut Vec<u8>, turn: Turn) -> Result<(), NoMemory>
@@ -141,6 +141,7 @@ impl<'a> Facts<'a> {
             words,
             event,
             forking: None,
+            next: Vec::new(self.alloc),
         })
     }
 
@@ -195,6 +196,7 @@ impl<'a> Facts<'a> {
             words: Vec::from_slice(self.alloc, b"not forked yet: ")?,
             event: None,
             forking: self.forking(Vec::new(self.alloc), self.fork(t))?,
+            next: Vec::new(self.alloc),
         })
     }
 
@@ -213,6 +215,7 @@ impl<'a> Facts<'a> {
             words: Vec::from_slice(self.alloc, b"never forked")?,
             event: None,
             forking: None,
+            next: Vec::new(self.alloc),
         })
     }
 
@@ -227,6 +230,7 @@ impl<'a> Facts<'a> {
             words: Vec::new(self.alloc),
             event: None,
             forking: None,
+            next: Vec::new(self.alloc),
         })
     }
 
@@ -329,21 +333,36 @@ impl<'a> Facts<'a> {
         }
     }
 
-    /// What the line of an impeder says of it.
-    pub fn impeder_saying(&self, impeder: Impeder) -> Result<Saying, NoMemory>
-        ensures { IfOk result (λ s. said_by s ≡ impeder_said self.now impeder) }
+    // What is said of a task where it impedes an event with this phase, and does this next.
+    fn impeding_saying(&self, t: TaskId, phase: u32, next: Vec<u8>) -> Result<Saying, NoMemory>
+        ensures { IfOk result (λ s. said_by s ≡ impeding_said self.now t.0 phase next.items) }
     {
-        let t = impeder.t;
         let situation = self.situation(t);
         let mut words = Vec::new(self.alloc);
         self.put_impeder_words(&mut words, t, situation)?;
         Ok(Saying {
             front: Vec::new(self.alloc),
             name: self.name_of(t)?,
-            phase: Some(impeder.phase),
+            phase: Some(phase),
             words,
             event: None,
             forking: self.impeder_forking(t, situation)?,
+            next,
         })
+    }
+
+    /// What the line of a task says of it where it impedes an event with phase 0, but for what it does next.
+    pub fn standing_saying(&self, t: TaskId) -> Result<Saying, NoMemory>
+        ensures { IfOk result (λ s. said_by s ≡ impeding_said self.now t.0 0 []) }
+    {
+        self.impeding_saying(t, 0, Vec::new(self.alloc))
+    }
+
+    /// What the line of an impeder says of it.
+    pub fn impeder_saying(&self, impeder: Impeder) -> Result<Saying, NoMemory>
+        ensures { IfOk result (λ s. said_by s ≡ impeder_said self.now impeder) }
+    {
+        let next = self.impeder_next(impeder)?;
+        self.impeding_saying(impeder.t, impeder.phase, next)
     }
 }

@@ -18,4 +18,5 @@ said_by s =
       words = s.words.items;
       event = option_map (λ e. record { p = record { 0 = e.0 }; n = e.1 }) s.event;
       forking = option_map forking_said s.forking;
+      next = s.next.items;
     }
