@@ -20,7 +20,7 @@ ascend_at (x ∷ us) up zero (suc j) lt within = up.0 (participant_at us j) (Con
 ascend_at (x ∷ us) up (suc i) zero lt within = absurd (omega arith)
 ascend_at (x ∷ us) up (suc i) (suc j) lt within = ascend_at us up.1 i j (omega arith) (omega arith)
 
-distance_is : (o : Option ℕ) (n : ℕ) → is_distance o n ≡ true → o ≡ Some n
+pub distance_is : (o : Option ℕ) (n : ℕ) → is_distance o n ≡ true → o ≡ Some n
 distance_is None n is = absurd (true≢false (sym is))
 distance_is (Some m) n is = ap (λ (k : ℕ). Some k) (eqb-true m n is)
 

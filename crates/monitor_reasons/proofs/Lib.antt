@@ -9,3 +9,4 @@ pub mod Searched
 pub mod AtLevels
 pub mod Placing
 pub mod Passing
+pub mod LevelPlaces

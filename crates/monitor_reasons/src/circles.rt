@@ -1,13 +1,13 @@
 // The circle of a task.
-ghost use Rattle.std.specs.Prelude.{◌≡◌, ℕ, ◌<◌, All, None, Some, IfOk, IfSome, IfNone, MatchOption, false, length, map};
+ghost use Rattle.std.specs.Prelude.{◌≡◌, ℕ, ◌<◌, All, Contains, None, Some, IfOk, IfSome, IfNone, MatchOption, false, length, map};
 ghost use Rattle.monitor_words.specs.Reasons.{HasNoCircle};
 ghost use Rattle.monitor_words.specs.Stops.{IsFirstCircle};
 ghost use Rattle.monitor_search.specs.Known.{has_stuck_number};
 ghost use Rattle.monitor_reasons.specs.Found.{participant_at};
 ghost use Rattle.monitor_reasons.specs.inside.Listings.{listing};
-ghost use Rattle.monitor_reasons.specs.inside.Distances.{AreSearched, IsFoundCircle, IsFirstNext, IsCircleWalk, distance_at, is_distance, is_next};
+ghost use Rattle.monitor_reasons.specs.inside.Distances.{AreLevels, AreSearched, IsFoundCircle, IsFirstNext, IsCircleWalk, distance_at, is_distance, is_next, level_at};
 
-use crate::distances::distances_to;
+use crate::distances::{FoundDistances, distances_to};
 use crate::phaser_places::phaser_places;
 use crate::stopping::stops;
 use armus_base::NoMemory;
@@ -42,23 +42,39 @@ fn is_next(
     is_distance(distances[u], n) && stops(list, stuck, &list[u], &list[t])
 }
 
-// The first place that has the distance n and stops the task at t.
+// The places of a level, where there is one.
+fn level_at(levels: &[Vec<usize>], n: usize) -> &[usize]
+    ensures { result.now ≡ level_at levels.now n }
+{
+    match levels.get(n) {
+        None => &[],
+        Some(level) => level,
+    }
+}
+
+// The first place that has the distance n and stops the task at t, where all that have this distance are among these.
 fn next_place(
     list: &[ListedParticipant],
     stuck: &StuckTasks,
     distances: &[Option<usize>],
     n: usize,
     t: usize,
+    level: &[usize],
 ) -> Option<usize>
     requires long { length distances.now ≡ length list.now }
     requires from { t < length list.now }
+    requires all { (u : ℕ) → u < length list.now → distance_at distances.now u ≡ Some n → Contains level.now u }
     ensures at { IfSome result (IsFirstNext (listing list.now) (has_stuck_number stuck.now) distances.now n t) }
     ensures none { IfNone result ((u : ℕ) → u < length list.now → is_next (listing list.now) (has_stuck_number stuck.now) distances.now n t u ≡ false) }
 {
-    for u in 0..list.len() {
-        if is_next(list, stuck, distances, n, t, u) {
-            return Some(u);
+    let mut first = list.len();
+    for u in level {
+        if *u < first && is_next(list, stuck, distances, n, t, *u) {
+            first = *u;
         }
+    }
+    if first < list.len() {
+        return Some(first);
     }
     None
 }
@@ -68,13 +84,14 @@ fn walk(
     alloc: Global,
     state: &MonitorState,
     stuck: &StuckTasks,
-    distances: &[Option<usize>],
+    found: &FoundDistances,
     task: usize,
     distance: usize,
 ) -> Result<Vec<usize>, NoMemory>
     requires place { task < length state.now.list }
-    requires searched { AreSearched state.now (has_stuck_number stuck.now) task distances.now }
-    requires distance { distance_at distances.now task ≡ Some distance }
+    requires searched { AreSearched state.now (has_stuck_number stuck.now) task found.now.distances.items }
+    requires levels { AreLevels task found.now.distances.items found.now.levels.items }
+    requires distance { distance_at found.now.distances.items task ≡ Some distance }
     ensures circle { IfOk result (λ places. IsFirstCircle state.now (has_stuck_number stuck.now) (participant_at state.now.list task) (map (participant_at state.now.list) places.items)) }
     ensures places { IfOk result (λ places. All (λ i. i < length state.now.list) places.items) }
 {
@@ -83,8 +100,9 @@ fn walk(
     let mut last = task;
     let mut left = distance;
     while left > 0 {
+        let level = level_at(&found.levels, left);
         left -= 1;
-        match next_place(list, stuck, distances, left, last) {
+        match next_place(list, stuck, &found.distances, left, last, level) {
             None => unreachable!(),
             Some(next) => {
                 places.push(next)?;
@@ -106,11 +124,11 @@ pub(crate) fn circle_of(
     ensures { IfOk result (IsFoundCircle state.now (has_stuck_number stuck.now) task) }
 {
     let places = phaser_places(alloc, state.participants())?;
-    let distances = distances_to(alloc, state, &places, stuck, task)?;
-    match distances[task] {
+    let found = distances_to(alloc, state, &places, stuck, task)?;
+    match found.distances[task] {
         None => Ok(None),
         Some(distance) => {
-            let places = walk(alloc, state, stuck, &distances, task, distance)?;
+            let places = walk(alloc, state, stuck, &found, task, distance)?;
             Ok(Some(places))
         }
     }

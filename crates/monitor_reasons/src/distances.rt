@@ -1,7 +1,7 @@
 // How far tasks are from a task that stops them.
 ghost use Rattle.std.specs.Prelude.{◌≡◌, ◌<◌, [], ℕ, List, None, IfOk, is_some, length, replicate};
 ghost use Rattle.monitor_search.specs.Known.{has_stuck_number};
-ghost use Rattle.monitor_reasons.specs.inside.Distances.{AreSearched, distance_at};
+ghost use Rattle.monitor_reasons.specs.inside.Distances.{AreLevels, AreSearched, distance_at};
 ghost use Rattle.monitor_reasons.specs.inside.PhaserPlaces.{ArePhaserPlaces};
 ghost use Rattle.monitor_reasons.specs.inside.Reaching.{passed_on};
 
@@ -57,16 +57,26 @@ fn has_distance(search: &DistanceSearch, task: usize) -> bool
     search.distances[task].is_some()
 }
 
-// The distances that were found.
-fn found_distances(search: DistanceSearch) -> Vec<Option<usize>>
-    ensures { result ≡ search.entry.distances }
+/// How far tasks are from a task.
+#[derive(Drop)]
+pub(crate) struct FoundDistances {
+    /// The distance of each place of the list, where it is known.
+    pub(crate) distances: Vec<Option<usize>>,
+    /// The place of the task itself, and behind it for each distance, from 0 on, the places that have it.
+    pub(crate) levels: Vec<Vec<usize>>,
+}
+
+// The distances that were found, with these levels.
+fn found_distances(search: DistanceSearch, levels: Vec<Vec<usize>>) -> FoundDistances
+    ensures distances { result.distances ≡ search.entry.distances }
+    ensures levels { result.levels ≡ levels }
 {
     let DistanceSearch {
         distances,
         fresh: _,
         passed: _,
     } = search;
-    distances
+    FoundDistances { distances, levels }
 }
 
 /// How far each task is from the task at a place, as far as a circle of it needs that.
@@ -76,24 +86,27 @@ pub(crate) fn distances_to(
     places: &PhaserPlaces,
     stuck: &StuckTasks,
     task: usize,
-) -> Result<Vec<Option<usize>>, NoMemory>
+) -> Result<FoundDistances, NoMemory>
     requires place { task < length state.now.list }
     requires places { ArePhaserPlaces state.now.list places.now }
-    ensures { IfOk result (λ v. AreSearched state.now (has_stuck_number stuck.now) task v.items) }
+    ensures searched { IfOk result (λ found. AreSearched state.now (has_stuck_number stuck.now) task found.distances.items) }
+    ensures levels { IfOk result (λ found. AreLevels task found.distances.items found.levels.items) }
 {
     let list = state.participants();
     let mut search = search_begun(alloc, list.len())?;
+    let mut levels = Vec::new(alloc);
     let mut behind = Vec::new(alloc);
     behind.push(task)?;
     for d in 0..list.len() {
         if behind.as_slice().is_empty() {
-            return Ok(found_distances(search));
+            return Ok(found_distances(search, levels));
         }
         reach_level(&mut search, places, list, stuck, &behind, d)?;
+        levels.push(behind)?;
         if has_distance(&search, task) {
-            return Ok(found_distances(search));
+            return Ok(found_distances(search, levels));
         }
         behind = take_fresh(&mut search, alloc);
     }
-    Ok(found_distances(search))
+    Ok(found_distances(search, levels))
 }

@@ -1,6 +1,7 @@
 pub mod ByIndex
 pub mod Carried
 pub mod Filtered
+pub mod FreedWildcards
 pub mod Groups
 pub mod KeptByTable
 pub mod LeastPhases

@@ -58,9 +58,9 @@ pub(crate) fn somebody_runs_of(state: &MonitorState, tasks: &[u64]) -> bool
     false
 }
 
-// Whether who is in this condition runs, or is a wildcard that somebody who runs may play.
+/// Whether who is in this condition runs, or is a wildcard that somebody who runs may play.
 #[tactic(auto, unfolding(crate::specs::inside::Leaving::is_freed))]
-fn is_freed(state: &MonitorState, condition: &ListedCondition) -> bool
+pub(crate) fn is_freed(state: &MonitorState, condition: &ListedCondition) -> bool
     ensures { result ≡ is_freed state.now.list (condition_value condition.now) }
 {
     match condition {

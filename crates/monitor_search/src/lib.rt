@@ -3,6 +3,7 @@
 //! The tests of the monitor stand in the gallery.
 #![tactic(auto)]
 
+mod ahead;
 mod cascade;
 mod grouping;
 mod known_tasks;
@@ -15,6 +16,7 @@ mod phases;
 mod stuck;
 mod waits;
 
+pub use ahead::keeps_stuck_ahead;
 pub use known_tasks::{StuckTask, StuckTasks};
 pub use laws::one_known;
 pub use stuck::stuck_after;

@@ -1,11 +1,13 @@
 -- How far tasks are from a task that stops them, by their places: a task has the distance n where the shortest chain from it to the task has n others.
-use Rattle.std.specs.Prelude.{◌≡◌, ℕ, zero, suc, ◌<◌, ◌≤◌, ◌-◌, ◌==◌, Bool, true, false, ◌&&◌, ◌||◌, if◌then◌else◌, All, Option, Some, None, List, [], ◌∷◌, length, map, nat_lt, slice_index_or}
+use Rattle.std.specs.Prelude.{◌≡◌, ℕ, zero, suc, ◌<◌, ◌≤◌, ◌-◌, ◌==◌, Bool, true, false, ◌&&◌, ◌||◌, if◌then◌else◌, All, Contains, Option, Some, None, List, [], ◌∷◌, length, map, nat_lt, slice_index_or}
 use Rattle.std.specs.Global.{Vec}
+use Rattle.std.specs.List.{slice_get}
 use Rattle.monitor_laws.specs.States.{TraceState}
 use Rattle.monitor_words.specs.Reasons.{HasNoCircle}
 use Rattle.monitor_words.specs.Stops.{IsFirstCircle, stops}
 use Rattle.monitor_words.proofs.Circles.{leads}
 use Rattle.monitor_reasons.specs.Found.{participant_at}
+use Rattle.monitor_reasons.specs.inside.PhaserPlaces.{places_in_group}
 
 -- who stands at u stops who stands at t
 abbrev pub stops_at : TraceState → (ℕ → Bool) → ℕ → ℕ → Bool
@@ -90,6 +92,19 @@ pub record AreSearched (s : TraceState) (stuck : ℕ → Bool) (f : ℕ) (distan
   pub bound : ℕ
   pub known : AreKnownDistances s stuck f bound distances
   pub none : distance_at distances f ≡ None → HasNoCircle s stuck (participant_at s.list f)
+
+-- the places of a level, where there is one
+abbrev pub level_at : List (Vec ℕ) → ℕ → List ℕ
+level_at levels n = places_in_group (slice_get levels n)
+
+-- whoever has a distance stands in the level behind it, as far as there are levels
+abbrev pub HaveLevels : List (Option ℕ) → List (Vec ℕ) → Type 0
+HaveLevels distances levels = (u n : ℕ) → u < length distances → distance_at distances u ≡ Some n → suc n < length levels → Contains (level_at levels (suc n)) u
+
+-- the levels are as many as a circle of f needs
+pub record AreLevels (f : ℕ) (distances : List (Option ℕ)) (levels : List (Vec ℕ)) : Type 0 where
+  pub have : HaveLevels distances levels
+  pub far : (n : ℕ) → distance_at distances f ≡ Some n → n < length levels
 
 -- the places of the first circle of f, or none where it has no circle
 abbrev pub IsFoundCircle : TraceState → (ℕ → Bool) → ℕ → Option (Vec ℕ) → Type 0
