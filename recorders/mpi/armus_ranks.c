@@ -2112,13 +2112,22 @@ int MPI_Wait(MPI_Request *q, MPI_Status *status) {
 }
 
 /* Handles and what is known of them, as they stand before a call that may change them. */
-struct before { int n; MPI_Request *handles; struct request *known_ones; MPI_Request few[FEW]; struct request few_known[FEW]; };
+struct before {
+    int n;
+    MPI_Request *handles;
+    struct request *known_ones;
+    MPI_Status *statuses;                           /* where the program wants none, and yet it has to be asked which messages came */
+    MPI_Request few[FEW];
+    struct request few_known[FEW];
+    MPI_Status few_statuses[FEW];
+};
 
 static void make_room(struct before *b, int n) {
     bool few = n <= FEW;
     b->n = counts() && n > 0 ? n : 0;
     b->handles = few ? b->few : malloc((size_t)n * sizeof *b->handles);
     b->known_ones = few ? b->few_known : malloc((size_t)n * sizeof *b->known_ones);
+    b->statuses = NULL;
     b->n = b->handles != NULL && b->known_ones != NULL ? b->n : 0;
 }
 
@@ -2138,7 +2147,21 @@ static void free_before(const struct before *b) {
     if (b->handles != b->few) {
         free(b->handles);
         free(b->known_ones);
+        free(b->statuses);
     }
+}
+
+/* Where a call with several requests tells which messages came. */
+static MPI_Status *statuses_of(struct before *b, MPI_Status *wanted) {
+    bool asks = false;
+    for (int i = 0; i < b->n && wanted == MPI_STATUSES_IGNORE; i++) {
+        const struct request *r = &b->known_ones[i];
+        asks |= r->kind == ANY || (r->kind == RECEIVE && r->channel->tag == EVERY_TAG);
+    }
+    if (asks) {
+        b->statuses = b->n <= FEW ? b->few_statuses : malloc((size_t)b->n * sizeof *b->statuses);
+    }
+    return b->statuses != NULL ? b->statuses : wanted;
 }
 
 static void one_is_done(const struct before *b, int i, const MPI_Status *status) {
@@ -2175,14 +2198,15 @@ static void some_are_done(const struct before *b, const int *done, const int *wh
         return result; \
     }
 #define INTO (status == MPI_STATUS_IGNORE ? into : (into = status))
-OF_SEVERAL(Waitall, waits(b.n, b.handles, b.known_ones, true, HERE), (int n, MPI_Request *q, MPI_Status *status), (n, q, status), all_are_done(&b, status))
+#define ALL (status = statuses_of(&b, status))
+OF_SEVERAL(Waitall, waits(b.n, b.handles, b.known_ones, true, HERE), (int n, MPI_Request *q, MPI_Status *status), (n, q, ALL), all_are_done(&b, status))
 OF_SEVERAL(Waitany, waits(b.n, b.handles, b.known_ones, false, HERE), (int n, MPI_Request *q, int *which, MPI_Status *status), (n, q, which, INTO), one_is_done(&b, *which, into))
-OF_SEVERAL(Waitsome, waits(b.n, b.handles, b.known_ones, false, HERE), (int n, MPI_Request *q, int *done, int *which, MPI_Status *status), (n, q, done, which, status),
+OF_SEVERAL(Waitsome, waits(b.n, b.handles, b.known_ones, false, HERE), (int n, MPI_Request *q, int *done, int *which, MPI_Status *status), (n, q, done, which, ALL),
     some_are_done(&b, done, which, status))
-OF_SEVERAL(Testall, begins(NONE, NULL, 0, 0, HERE), (int n, MPI_Request *q, int *flag, MPI_Status *status), (n, q, flag, status), if (*flag) { all_are_done(&b, status); })
+OF_SEVERAL(Testall, begins(NONE, NULL, 0, 0, HERE), (int n, MPI_Request *q, int *flag, MPI_Status *status), (n, q, flag, ALL), if (*flag) { all_are_done(&b, status); })
 OF_SEVERAL(Testany, begins(NONE, NULL, 0, 0, HERE), (int n, MPI_Request *q, int *which, int *flag, MPI_Status *status), (n, q, which, flag, INTO),
     if (*flag && *which != MPI_UNDEFINED) { one_is_done(&b, *which, into); })
-OF_SEVERAL(Testsome, begins(NONE, NULL, 0, 0, HERE), (int n, MPI_Request *q, int *done, int *which, MPI_Status *status), (n, q, done, which, status),
+OF_SEVERAL(Testsome, begins(NONE, NULL, 0, 0, HERE), (int n, MPI_Request *q, int *done, int *which, MPI_Status *status), (n, q, done, which, ALL),
     some_are_done(&b, done, which, status))
 
 int MPI_Test(MPI_Request *q, int *flag, MPI_Status *status) {
