@@ -15,7 +15,7 @@ use Rattle.clock_semantics.specs.Unfolding.{ClockUnfolding}
 use Rattle.clock_source_map.specs.ClockOffsets.{clock_offsets}
 use Rattle.clock_source_map.specs.ClockOrigins.{StartedActivity, MadeThing, all_begun, all_things, all_waits}
 use Rattle.clock_source_map.specs.ClockOps.{is_await}
-use Rattle.explain_clock.specs.ClockCircles.{IsCircle}
+use Rattle.explain_clock.specs.ClockCircles.{IsClockCircle}
 use Rattle.explain_clock.specs.ClockExplanations.{clock_lines, some_activity_waits}
 use Rattle.explain_clock.specs.ClockFacts.{AreClockFacts, AreTextFacts, ClockFacts, ClockWait, IsWaitBy, ClockTextValue, is_pending}
 use Rattle.explain_clock.specs.calls.Laws.{ClockExplanationExists, OneClockExplanation}
@@ -52,7 +52,7 @@ one_facts file text p u plan a f g x y =
 pub one_clock_explanation : OneClockExplanation
 one_clock_explanation file text p u plan a lines others waits other x y =
     let same = one_facts file text p u plan a x.facts y.facts x.are_facts y.are_facts in
-    let own : IsCircle y.facts.blocked x.circle = subst (λ (f : ClockFacts). IsCircle f.blocked x.circle) same x.circle_is in
+    let own : IsClockCircle y.facts.blocked x.circle = subst (λ (f : ClockFacts). IsClockCircle f.blocked x.circle) same x.circle_is in
     let circles : x.circle ≡ y.circle = one_circle y.facts.blocked x.circle y.circle own y.circle_is in (
       x.lines_are ∙ ap (λ (f : ClockFacts). clock_lines f x.circle) same ∙ ap (clock_lines y.facts) circles ∙ sym y.lines_are,
       x.waits_are ∙ ap (λ (f : ClockFacts). some_activity_waits f.ends) same ∙ sym y.waits_are,

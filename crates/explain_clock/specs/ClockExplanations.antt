@@ -14,7 +14,7 @@ use Rattle.clock_syntax.specs.Grammar.{IsClockText}
 use Rattle.clock_syntax.specs.Trees.{ClockTree}
 use Rattle.clock_semantics.specs.Unfolding.{ClockUnfolding, clock_unfolded, plan_of_moves}
 use Rattle.clock_source_map.specs.ClockOrigins.{StartedActivity, MadeThing}
-use Rattle.explain_clock.specs.ClockCircles.{IsCircle, clock_verdict_line}
+use Rattle.explain_clock.specs.ClockCircles.{IsClockCircle, clock_verdict_line}
 use Rattle.explain_clock.specs.ClockFacts.{AreClockFacts, ClockFacts, ClockWait, ClockTextValue}
 use Rattle.explain_clock.specs.ClockWords.{activity_words, front_of, made_clock_words, made_finish_words, standing_words, waits_at}
 
@@ -168,6 +168,6 @@ pub record ExplainsActivities (file : Option (List ℕ)) (text : List ℕ) (p : 
   pub facts : ClockFacts
   pub are_facts : AreClockFacts file text p u plan a facts
   pub circle : List TaskId
-  pub circle_is : IsCircle facts.blocked circle
+  pub circle_is : IsClockCircle facts.blocked circle
   pub lines_are : lines ≡ clock_lines facts circle
   pub waits_are : waits ≡ some_activity_waits facts.ends

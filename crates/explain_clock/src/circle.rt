@@ -2,7 +2,7 @@
 ghost use Rattle.std.specs.Prelude.{◌≡◌, ◌++◌, IfOk, OnOk, flat_map};
 ghost use Rattle.std.specs.List.{enumerate_from};
 ghost use Rattle.armus_base.specs.calls.Statuses.{IsInOrder};
-ghost use Rattle.explain_clock.specs.ClockCircles.{IsCircle, at_words, circle_line, circle_words, clock_verdict_line, link_words, linked_words, waiting_at_words};
+ghost use Rattle.explain_clock.specs.ClockCircles.{IsClockCircle, waiting_place_words, circle_line, activity_circle_words, clock_verdict_line, activity_link_words, linked_activity_words, waiting_at_words};
 
 use crate::facts::ClockFacts;
 use crate::text_facts::ClockTextFacts;
@@ -15,7 +15,7 @@ use verdict::cycle;
 /// The circle of these statuses: that of their report, or nobody where nobody is deadlocked.
 pub(crate) fn circle_of(alloc: Global, blocked: &[Status]) -> Result<List<TaskId>, NoMemory>
     requires in_order { IsInOrder blocked.now }
-    ensures circle { IfOk result (IsCircle blocked.now) }
+    ensures circle { IfOk result (IsClockCircle blocked.now) }
 {
     let dead = dead_of(alloc, blocked)?;
     match cycle(alloc, blocked, dead.as_slice())? {
@@ -26,7 +26,7 @@ pub(crate) fn circle_of(alloc: Global, blocked: &[Status]) -> Result<List<TaskId
 
 // Appends what stands between the activity with this place in the circle and the one behind it.
 fn put_link(out: &mut Vec<u8>, k: usize) -> Result<(), NoMemory>
-    ensures { OnOk result (out.new.items ≡ out.old.items ++ link_words k) }
+    ensures { OnOk result (out.new.items ≡ out.old.items ++ activity_link_words k) }
 {
     if k == 0 {
         put_words(out, b" waits for ")
@@ -38,7 +38,7 @@ fn put_link(out: &mut Vec<u8>, k: usize) -> Result<(), NoMemory>
 impl<'a> ClockTextFacts<'a> {
     // Appends where an activity waits, if it does.
     fn put_at(&self, out: &mut Vec<u8>, n: Option<u32>) -> Result<(), NoMemory>
-        ensures { OnOk result (out.new.items ≡ out.old.items ++ at_words self.now n) }
+        ensures { OnOk result (out.new.items ≡ out.old.items ++ waiting_place_words self.now n) }
     {
         let Some(n) = n else {
             return Ok(());
@@ -59,7 +59,7 @@ impl<'a> ClockFacts<'a> {
 
     // Appends the activity with this place in the circle, and its link.
     fn put_linked(&self, out: &mut Vec<u8>, k: usize, t: TaskId) -> Result<(), NoMemory>
-        ensures { OnOk result (out.new.items ≡ out.old.items ++ linked_words self.now k t) }
+        ensures { OnOk result (out.new.items ≡ out.old.items ++ linked_activity_words self.now k t) }
     {
         self.put_waiting_at(out, t.0)?;
         put_link(out, k)
@@ -67,7 +67,7 @@ impl<'a> ClockFacts<'a> {
 
     // Appends these activities, each with its link.
     fn put_links(&self, out: &mut Vec<u8>, circle: &[TaskId]) -> Result<(), NoMemory>
-        ensures { OnOk result (out.new.items ≡ out.old.items ++ flat_map (λ (k, v). linked_words self.now k v) (enumerate_from 0 circle.now)) }
+        ensures { OnOk result (out.new.items ≡ out.old.items ++ flat_map (λ (k, v). linked_activity_words self.now k v) (enumerate_from 0 circle.now)) }
     {
         for (k, t) in circle.iter().enumerate() {
             self.put_linked(out, k, *t)?;
@@ -77,7 +77,7 @@ impl<'a> ClockFacts<'a> {
 
     // Appends the activities of the circle.
     fn put_circle_words(&self, out: &mut Vec<u8>, circle: &[TaskId]) -> Result<(), NoMemory>
-        ensures { OnOk result (out.new.items ≡ out.old.items ++ circle_words self.now circle.now) }
+        ensures { OnOk result (out.new.items ≡ out.old.items ++ activity_circle_words self.now circle.now) }
     {
         match circle {
             [] => Ok(()),

@@ -8,7 +8,7 @@ ghost use Rattle.clock_syntax.specs.Trees.{clock_count};
 ghost use Rattle.clock_semantics.specs.Unfolding.{ClockUnfolding, clock_plan_of, clock_unfolded};
 ghost use Rattle.explain_clock.specs.ClockFacts.{ClockFacts};
 ghost use Rattle.explain_clock.specs.ClockExplanations.{ExplainsActivities, clock_lines, some_activity_waits};
-ghost use Rattle.explain_clock.specs.inside.ToldOf.{IsToldOf};
+ghost use Rattle.explain_clock.specs.inside.ToldOf.{IsToldByFacts};
 
 use crate::circle::circle_of;
 use crate::counts::{put_counts, somebody_waits};
@@ -58,7 +58,7 @@ fn explain_waits(
     requires few { length end.now.ends < 2 ^ 32 }
     requires in_order { IsInOrder end.now.blocked }
     ensures { IfOk result (λ e. (f : ClockFacts) → f ≡ record { of_text = of_text.now; ends = end.now.ends; blocked = end.now.blocked; waits = waits.items }
-        → IsToldOf f e.lines × (e.has_waiting ≡ some_activity_waits f.ends)) }
+        → IsToldByFacts f e.lines × (e.has_waiting ≡ some_activity_waits f.ends)) }
 {
     let facts = ClockFacts::new(of_text, end, waits);
     let circle = circle_of(of_text.alloc, end.blocked.as_slice())?;
@@ -88,7 +88,7 @@ fn explain_layout(
       ends = end.now.ends;
       blocked = end.now.blocked;
       waits = waits.items;
-    } → IsToldOf f e.lines × (e.has_waiting ≡ some_activity_waits f.ends)) }
+    } → IsToldByFacts f e.lines × (e.has_waiting ≡ some_activity_waits f.ends)) }
 {
     let of_text = ClockTextFacts::new(alloc, places, file, layout);
     let explanation = explain_waits(&of_text, end, waits)?;

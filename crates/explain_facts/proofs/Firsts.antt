@@ -8,18 +8,18 @@ use Rattle.armus_base.proofs.Below.{given_below_same}
 use Rattle.explain_facts.specs.Accounts.{does_to, done_or, first_on}
 use Rattle.explain_facts.specs.declared.account.Doing.{Doing}
 use Rattle.explain_facts.specs.declared.account.NextOp.{NextOp}
-use Rattle.explain_facts.specs.inside.Firsts.{AreFirsts, AreFirstsBefore, first_or}
+use Rattle.explain_facts.specs.inside.Firsts.{AreFirsts, AreFirstsBefore, known_or}
 
 -- nothing is found yet
 pub firsts_start : (ops : List Op) (i n : ℕ) (firsts : List (Option (Doing × ℕ))) → firsts ≡ replicate n None → AreFirstsBefore ops i n ops i firsts
 firsts_start ops i n firsts is = record {
   sized = ap length is ∙ length-replicate n None;
-  each = λ q lt. ap (λ xs. first_or (slice_index_or xs q None) (first_on q i ops)) is ∙ ap (λ x. first_or x (first_on q i ops)) (get_or-replicate n q None None lt);
+  each = λ q lt. ap (λ xs. known_or (slice_index_or xs q None) (first_on q i ops)) is ∙ ap (λ x. known_or x (first_on q i ops)) (get_or-replicate n q None None lt);
 }
 
 -- one op more
 kept_or : (kept : Option (Doing × ℕ)) (does : Option Doing) (at : ℕ) (behind : Option (Doing × ℕ)) →
-    first_or (first_or kept (option_map (λ d. (d, at)) does)) behind ≡ first_or kept (done_or does at behind)
+    known_or (known_or kept (option_map (λ d. (d, at)) does)) behind ≡ known_or kept (done_or does at behind)
 kept_or None None at behind = refl
 kept_or None (Some d) at behind = refl
 kept_or (Some x) None at behind = refl
@@ -28,21 +28,21 @@ kept_or (Some x) (Some d) at behind = refl
 pub firsts_next :
     (ops : List Op) (i n : ℕ) (o : Op) (left left' : List Op) (at : ℕ) (firsts firsts' : List (Option (Doing × ℕ))) →
     AreFirstsBefore ops i n left at firsts → left ≡ o ∷ left' → length firsts' ≡ length firsts →
-    ((q : ℕ) → q < length firsts → slice_index_or firsts' q None ≡ first_or (slice_index_or firsts q None) (option_map (λ d. (d, at)) (does_to q o))) →
+    ((q : ℕ) → q < length firsts → slice_index_or firsts' q None ≡ known_or (slice_index_or firsts q None) (option_map (λ d. (d, at)) (does_to q o))) →
     AreFirstsBefore ops i n left' (at + 1) firsts'
 firsts_next ops i n o left left' at firsts firsts' are is sized noted = record {
   sized = sized ∙ are.sized;
   each = λ q lt.
       let one : at + 1 ≡ suc at = omega arith in
-      ap (λ k. first_or (slice_index_or firsts' q None) (first_on q k left')) one
-      ∙ ap (λ x. first_or x (first_on q (suc at) left')) (noted q (omega (arith, lt, are.sized)))
+      ap (λ k. known_or (slice_index_or firsts' q None) (first_on q k left')) one
+      ∙ ap (λ x. known_or x (first_on q (suc at) left')) (noted q (omega (arith, lt, are.sized)))
       ∙ kept_or (slice_index_or firsts q None) (does_to q o) at (first_on q (suc at) left')
-      ∙ ap (λ xs. first_or (slice_index_or firsts q None) (first_on q at xs)) (sym is)
+      ∙ ap (λ xs. known_or (slice_index_or firsts q None) (first_on q at xs)) (sym is)
       ∙ are.each q lt;
 }
 
 -- and none is left
-kept_is : (kept : Option (Doing × ℕ)) → first_or kept None ≡ kept
+kept_is : (kept : Option (Doing × ℕ)) → known_or kept None ≡ kept
 kept_is None = refl
 kept_is (Some x) = refl
 
@@ -51,7 +51,7 @@ pub firsts_end :
     AreFirsts ops i n firsts
 firsts_end ops i n left at firsts are none = record {
   sized = are.sized;
-  each = λ q lt. sym (kept_is (slice_index_or firsts q None)) ∙ ap (λ xs. first_or (slice_index_or firsts q None) (first_on q at xs)) (sym none) ∙ are.each q lt;
+  each = λ q lt. sym (kept_is (slice_index_or firsts q None)) ∙ ap (λ xs. known_or (slice_index_or firsts q None) (first_on q at xs)) (sym none) ∙ are.each q lt;
 }
 
 -- what comes next is by them

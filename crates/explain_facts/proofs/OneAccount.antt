@@ -19,7 +19,7 @@ use Rattle.pl_syntax.proofs.OneListOfOffsets.{one_list_of_offsets}
 use Rattle.source_map.specs.Origins.{op_origin, phaser_origins, statement_in, written_statements}
 use Rattle.source_map.specs.Turns.{op_turns}
 use Rattle.source_map.specs.declared.place.TextPlace.{TextPlace}
-use Rattle.explain_facts.specs.Accounts.{AreNexts, IsLayout, IsTaskAccount, HasWait, IsWaiting, Layout, first_on, next_op, placed_turns, statement_place, words_of}
+use Rattle.explain_facts.specs.Accounts.{AreNextOps, IsLayout, IsTaskAccount, HasWait, IsWaiting, Layout, first_on, next_op, placed_turns, statement_place, words_of}
 use Rattle.explain_facts.specs.calls.Laws.{OneAccount}
 use Rattle.explain_facts.specs.declared.account.Account.{Account}
 use Rattle.explain_facts.specs.declared.account.Drawn.{Drawn}
@@ -100,7 +100,7 @@ module _ (l : Layout) (p : Program) (plan : Plan) (a : ℕ → Place) (t : ℕ) 
   one_wait (Refused e) v w x y = x ∙ sym y
   one_wait Unforked v w x y = x ∙ sym y
 
-  one_list_of_nexts : (v w : List NextOp) → AreNexts l p plan a t v → AreNexts l p plan a t w → v ≡ w
+  one_list_of_nexts : (v w : List NextOp) → AreNextOps l p plan a t v → AreNextOps l p plan a t w → v ≡ w
   one_list_of_nexts v w x y =
       x.are
       ∙ (ap (λ i. given_below (λ q. next_op l p t q (first_on q i (drop i (code_of plan t)))) (length plan.makers))

@@ -159,7 +159,7 @@ next_op l p t q None = None
 next_op l p t q (Some (does, i)) = Some (record { p = record { 0 = q }; does = does; at = op_place l p t (op_origin p t i) })
 
 -- what task t does next to each phaser, in order of number: by the ops of its code from the one on at which it stands
-pub record AreNexts (l : Layout) (p : Program) (plan : Plan) (a : ℕ → Place) (t : ℕ) (nexts : List NextOp) : Type 0 where
+pub record AreNextOps (l : Layout) (p : Program) (plan : Plan) (a : ℕ → Place) (t : ℕ) (nexts : List NextOp) : Type 0 where
   pub op : ℕ
   pub stands : IsAtOp (code_of plan t) (a t).done op
   pub are : nexts ≡ given_below (λ q. next_op l p t q (first_on q op (drop op (code_of plan t)))) (length plan.makers)
@@ -172,7 +172,7 @@ pub record IsTaskAccount (l : Layout) (p : Program) (plan : Plan) (a : ℕ → P
   pub fork : account.fork ≡ forked_of l p plan t
   pub ended : account.ended ≡ ended_of l p t
   pub wait : HasWait l p plan a t (end_of (state_at plan a) t) account.wait
-  pub nexts : AreNexts l p plan a t account.nexts
+  pub nexts : AreNextOps l p plan a t account.nexts
 
 -- the account of the text, which is that of this program, whose plan has been run up to these places
 pub record IsAccount (text : List ℕ) (p : Program) (plan : Plan) (a : ℕ → Place) (account : Account) : Type 0 where

@@ -4,9 +4,9 @@ ghost use Rattle.armus_base.specs.Finals.{given_below};
 ghost use Rattle.armus_base.specs.CheckedPlans.{IsCheckedPlan};
 ghost use Rattle.pl_core.specs.calls.Worlds.{places_of};
 ghost use Rattle.source_map.specs.Origins.{op_origins};
-ghost use Rattle.explain_facts.specs.Accounts.{AreNexts, does_to, next_op, op_place};
+ghost use Rattle.explain_facts.specs.Accounts.{AreNextOps, does_to, next_op, op_place};
 ghost use Rattle.explain_facts.specs.calls.Known.{AreKnownFacts, kept_layout};
-ghost use Rattle.explain_facts.specs.inside.Firsts.{AreFirsts, first_or};
+ghost use Rattle.explain_facts.specs.inside.Firsts.{AreFirsts, known_or};
 
 use crate::account::{Doing, NextOp};
 use crate::facts::TextFacts;
@@ -19,7 +19,7 @@ use std::alloc::Global;
 fn note_at(firsts: &mut [Option<(Doing, u32)>], p: PhaserId, does: Doing, i: u32)
     ensures sized { length firsts.new ≡ length firsts.old }
     ensures noted { (q : ℕ) → q < length firsts.old →
-        slice_index_or firsts.new q None ≡ first_or (slice_index_or firsts.old q None) (if p.0 == q then Some (does, i) else None) }
+        slice_index_or firsts.new q None ≡ known_or (slice_index_or firsts.old q None) (if p.0 == q then Some (does, i) else None) }
 {
     let at = p.0 as usize;
     if at < firsts.len() {
@@ -33,7 +33,7 @@ fn note_at(firsts: &mut [Option<(Doing, u32)>], p: PhaserId, does: Doing, i: u32
 fn note(firsts: &mut [Option<(Doing, u32)>], op: Op, i: u32)
     ensures sized { length firsts.new ≡ length firsts.old }
     ensures noted { (q : ℕ) → q < length firsts.old →
-        slice_index_or firsts.new q None ≡ first_or (slice_index_or firsts.old q None) (option_map (λ does. (does, i)) (does_to q op)) }
+        slice_index_or firsts.new q None ≡ known_or (slice_index_or firsts.old q None) (option_map (λ does. (does, i)) (does_to q op)) }
 {
     match op {
         Op::Adv { p } => note_at(firsts, p, Doing::Advances, i),
@@ -149,7 +149,7 @@ pub(crate) fn nexts_of(
     requires known { AreKnownFacts facts.now }
     requires checked { IsCheckedPlan world.now.plan }
     requires task { t.0 < length world.now.plan.parents }
-    ensures { IfOk result (AreNexts (kept_layout facts.now) facts.now.program.now world.now.plan (places_of world.now) t.0) }
+    ensures { IfOk result (AreNextOps (kept_layout facts.now) facts.now.program.now world.now.plan (places_of world.now) t.0) }
 {
     let plan = world.plan();
     let from = world.op(t);

@@ -144,16 +144,16 @@ doing_words q Advances = codes "; next adv of p" ++ decimal q ++ codes " at "
 doing_words q Leaves = codes "; p" ++ decimal q ++ codes " is left at "
 
 -- what a task does next to phaser q, with these words behind it: ; next adv of p1 at 12:3, behind this wait
-abbrev pub next_words : FactsValue → ℕ → List ℕ → Option NextOp → List ℕ
-next_words f q behind None = codes "; no adv of p" ++ decimal q ++ codes " follows"
-next_words f q behind (Some x) = doing_words q x.does ++ place_in_line f x.at ++ behind
+abbrev pub next_op_words : FactsValue → ℕ → List ℕ → Option NextOp → List ℕ
+next_op_words f q behind None = codes "; no adv of p" ++ decimal q ++ codes " follows"
+next_op_words f q behind (Some x) = doing_words q x.does ++ place_in_line f x.at ++ behind
 
 -- what an impeder that stands so does next to the event's phaser, by what its code has
 abbrev pub next_by_situation : FactsValue → ℕ → Option NextOp → Situation → List ℕ
-next_by_situation f q next Deadlocked = next_words f q (codes ", behind this wait") next
-next_by_situation f q next Held = next_words f q (codes ", behind this wait") next
+next_by_situation f q next Deadlocked = next_op_words f q (codes ", behind this wait") next
+next_by_situation f q next Held = next_op_words f q (codes ", behind this wait") next
 next_by_situation f q next HasEnded = []
-next_by_situation f q next NotForkedYet = next_words f q [] next
+next_by_situation f q next NotForkedYet = next_op_words f q [] next
 next_by_situation f q next NeverForked = []
 
 -- what an impeder does next to the event's phaser; nothing of one that has ended or is never forked

@@ -38,7 +38,7 @@ fn put_none(alloc: Global, out: &mut Vec<u8>, q: u32) -> Result<(), NoMemory>
 
 impl<'a> Facts<'a> {
     ghost use Rattle.std.specs.Str.{bytes_eq};
-    ghost use Rattle.explain_tasks.specs.Sayings.{impeder_next, next_by_situation, next_words};
+    ghost use Rattle.explain_tasks.specs.Sayings.{impeder_next, next_by_situation, next_op_words};
 
     // Appends what a task does next to a phaser, with these words behind it.
     fn put_next(
@@ -48,7 +48,7 @@ impl<'a> Facts<'a> {
         behind: &[u8],
         next: Option<NextOp>,
     ) -> Result<(), NoMemory>
-        ensures { OnOk result (out.new.items ≡ out.old.items ++ next_words self.now p.0 behind.now next) }
+        ensures { OnOk result (out.new.items ≡ out.old.items ++ next_op_words self.now p.0 behind.now next) }
     {
         match next {
             None => put_none(self.alloc, out, p.0),

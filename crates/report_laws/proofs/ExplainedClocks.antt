@@ -29,7 +29,7 @@ use Rattle.report.proofs.OneReport.{one_cycle_text}
 use Rattle.report.specs.Standings.{AreStandings, Stands}
 use Rattle.report.specs.declared.standing.Standing.{Standing}
 use Rattle.report.specs.declared.standing.Standing.TheVariants as way
-use Rattle.explain_clock.specs.ClockCircles.{IsCircle, clock_verdict_line}
+use Rattle.explain_clock.specs.ClockCircles.{IsClockCircle, clock_verdict_line}
 use Rattle.explain_clock.specs.ClockExplanations.{is_ended, is_unstarted, lines_below, paragraph_at, some_activity_waits, waits_there}
 use Rattle.command_line.specs.declared.command.RunKind.TheVariants.{Plain}
 use Rattle.program_io.specs.Texts.{Text}
@@ -203,10 +203,10 @@ module _ (form : Form) (text : Text) (status number : ℕ) (lines report : Text)
   blocked_are =
       x.explains.tells.are_facts.blocked_are ∙ ap (λ (s : State). (final_of moves s).blocked) same_state ∙ ap (λ (q : Plan). (final_of q run.state).blocked) (sym plans)
 
-  circle_is : IsCircle (final_of plan run.state).blocked x.explains.tells.circle
-  circle_is = subst (λ (ss : List Status). IsCircle ss x.explains.tells.circle) blocked_are x.explains.tells.circle_is
+  circle_is : IsClockCircle (final_of plan run.state).blocked x.explains.tells.circle
+  circle_is = subst (λ (ss : List Status). IsClockCircle ss x.explains.tells.circle) blocked_are x.explains.tells.circle_is
 
-  cycle_of : IsSomeDead (final_of plan run.state).blocked → (circle : List TaskId) → IsCircle (final_of plan run.state).blocked circle
+  cycle_of : IsSomeDead (final_of plan run.state).blocked → (circle : List TaskId) → IsClockCircle (final_of plan run.state).blocked circle
       → run.report_is.cycle_text ≡ cycle_line circle
   cycle_of some circle (inl (none, empty)) = absurd (none some)
   cycle_of some circle (inr reported) =

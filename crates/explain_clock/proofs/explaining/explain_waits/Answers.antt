@@ -1,7 +1,7 @@
 use Rattle.std.proofs.Common.{◌≡◌, ◌∙◌, List, ap, subst, sym}
 use Rattle.armus_base.specs.declared.status.Status.{Status}
 use Rattle.armus_base.specs.declared.ids.TaskId.{TaskId}
-use Rattle.explain_clock.specs.ClockCircles.{IsCircle}
+use Rattle.explain_clock.specs.ClockCircles.{IsClockCircle}
 use Rattle.explain_clock.specs.ClockExplanations.{clock_lines, some_activity_waits}
 use Rattle.explain_clock.specs.ClockFacts.{ClockFacts}
 use Rattle.explain_clock.proofs.explaining.explain_waits.Goals as goal
@@ -10,10 +10,10 @@ pub returns : goal.returns
 returns c = λ f is.
     let circle = c.in_ok-circle.circle in
     let known : c.new-facts.result ≡ f = c.new-facts.ensures ∙ sym is in
-    let own : IsCircle c.args.end.now.blocked circle = subst (λ (ss : List Status). IsCircle ss circle) c.as_slice.ensures.items c.in_ok-circle.ensures.circle in (
+    let own : IsClockCircle c.args.end.now.blocked circle = subst (λ (ss : List Status). IsClockCircle ss circle) c.as_slice.ensures.items c.in_ok-circle.ensures.circle in (
       (
         circle,
-        subst (λ (g : ClockFacts). IsCircle g.blocked circle) (sym is) own,
+        subst (λ (g : ClockFacts). IsClockCircle g.blocked circle) (sym is) own,
         c.in_ok-explanation.ensures.lines
             ∙ ap (λ (ts : List TaskId). clock_lines c.new-facts.result ts) c.as_slice-2.ensures.items
             ∙ ap (λ (g : ClockFacts). clock_lines g circle) known,

@@ -3,7 +3,7 @@ use Rattle.std.specs.Prelude.{option_map, slice_index_or}
 use Rattle.std.proofs.lemmas.List.{take_at}
 use Rattle.explain_facts.specs.Accounts.{does_to}
 use Rattle.explain_facts.specs.declared.account.Doing.{Doing}
-use Rattle.explain_facts.specs.inside.Firsts.{AreFirstsBefore, first_or}
+use Rattle.explain_facts.specs.inside.Firsts.{AreFirstsBefore, known_or}
 use Rattle.explain_facts.proofs.Firsts.{firsts_end, firsts_next, firsts_start}
 use Rattle.explain_facts.proofs.nexts.firsts_of.Goals as goal
 
@@ -32,7 +32,7 @@ ops-preserved c =
           (firsts_next c.args.ops c.args.i c.args.phasers c.in-Some.op c.ops.left c.next.new.self c.ops.at old new c.ops.invariant.so_far c.in-Some.ensures.some sized
           (subst
           (λ (xs : List (Option (Doing × ℕ))). (q : ℕ) → q < length xs →
-              slice_index_or new q None ≡ first_or (slice_index_or xs q None) (option_map (λ d. (d, c.ops.at)) (does_to q c.in-Some.op)))
+              slice_index_or new q None ≡ known_or (slice_index_or xs q None) (option_map (λ d. (d, c.ops.at)) (does_to q c.in-Some.op)))
           before c.note.ensures.noted));
     }
 
