@@ -1,10 +1,10 @@
 -- Who would fork a task that is not forked yet waits, or is not forked yet itself; and where a walk comes to an end, a held task waits for one that has ended
 -- or is never forked.
-use Rattle.std.proofs.Common.{◌≡◌, ℕ, ◌<◌, Bool, true, false, Option, Some, None, IsSome, List, length, arith, sym, ◌∙◌, ap, subst, refl, inl, inr, ◌⊎◌, eq-eqb}
+use Rattle.std.proofs.Common.{◌≡◌, ℕ, ◌+◌, ◌<◌, Bool, true, false, Option, Some, None, IsSome, List, [], ◌∷◌, ◌++◌, get_or, length, length-append, arith, sym, ◌∙◌, ap, subst, refl, inl, inr, ◌⊎◌, eq-eqb}
 use borrow.Author.Tests.{eqb-true}
 use Rattle.std.specs.Prelude.{Contains, MatchOption, option_map, slice_index_or, ◌==◌, ◌||◌}
 use Rattle.std.proofs.lemmas.Bool.{cases_eq, cases_lt, false≢true}
-use Rattle.std.proofs.lemmas.List.{get_or_past}
+use Rattle.std.proofs.lemmas.List.{get_or-append-add, get_or_past}
 use Rattle.std.proofs.lemmas.Option.{slice_get_cases, slice_get_within}
 use Rattle.armus_base.specs.declared.ending.TaskEnd.{TaskEnd}
 use Rattle.armus_base.specs.declared.ending.TaskEnd.TheVariants.{Blocked, Done as EndsDone, Refused as EndsRefused, Unforked as EndsUnforked}
@@ -43,7 +43,6 @@ use Rattle.explain_deadlock.proofs.AccountTold.{forker_before, part_of}
 use Rattle.explain_deadlock.proofs.DeadNexts.{deadlocked_dead, impedes, next_dead}
 use Rattle.explain_deadlock.proofs.FitsEnds.{all_stand, checked_here, dead_in_state, dead_is, of_plan_here, published_is, stands_here, waiting_is, waits_for_some}
 use Rattle.explain_deadlock.proofs.RestsAtEnd.{rests_at_end}
-use Rattle.explain_deadlock.proofs.VerdictWalks.{last_is_next}
 
 -- ---- how a task has ended that stands so
 
@@ -253,7 +252,13 @@ module _ (plan : Plan) (steps : List Step) (run : IsPlainRun plan steps) (maxima
   chain_ends None held last is = absurd (cc)
   chain_ends (Some start) held last w =
       let end = no_next last.0 (situation_of f last.0) refl w.ends in
-      let next = last_is_next f s.phases start held last w in
+      let long = length-append w.before (held ∷ last ∷ []) in
+      let step = w.steps (length w.before + 0) held (omega arith) in
+      let first : get_or (w.before ++ held ∷ last ∷ []) (length w.before + 0) held ≡ held = get_or-append-add w.before (held ∷ last ∷ []) 0 held in
+      let second : get_or (w.before ++ held ∷ last ∷ []) (length w.before + 0 + 1) held ≡ last =
+      ap (λ k. get_or (w.before ++ held ∷ last ∷ []) k held) (omega arith) ∙ get_or-append-add w.before (held ∷ last ∷ []) 1 held in
+      let next : IsNext f s.phases held last =
+      subst (λ x. IsNext f s.phases x last) first (subst (λ y. IsNext f s.phases (get_or (w.before ++ held ∷ last ∷ []) (length w.before + 0) held) y) second step) in
       (before_end held last (situation_of f held.0) refl next end, end)
 
 -- ---- the impeders of a held task

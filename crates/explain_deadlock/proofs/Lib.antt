@@ -21,6 +21,5 @@ pub mod WalksMapped
 pub mod DeadNexts
 pub mod DeadlockShown
 pub mod ForkersWait
-pub mod HintsAreSo
 pub mod EachToldOnce
 pub mod WaitingAlike

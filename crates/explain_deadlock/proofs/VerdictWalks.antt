@@ -1,7 +1,7 @@
 -- What the walk along the nexts shows.
-use Rattle.std.proofs.Common.{◌≡◌, ℕ, ◌+◌, ◌-◌, ◌<◌, Bool, true, false, Some, None, List, [], ◌∷◌, ◌++◌, length, length-append, get_or, set, take, arith, sym, ◌∙◌, ap, subst, refl, inl, inr, append_assoc}
+use Rattle.std.proofs.Common.{◌≡◌, ℕ, ◌+◌, ◌-◌, ◌<◌, Bool, true, false, Some, None, List, [], ◌∷◌, ◌++◌, length, get_or, set, take, arith, sym, ◌∙◌, ap, subst, refl, inl, inr, append_assoc}
 use Rattle.std.specs.Prelude.{Contains, ◌↔◌}
-use Rattle.std.proofs.lemmas.List.{get_or-append-add, take_more, take_all}
+use Rattle.std.proofs.lemmas.List.{take_more, take_all}
 use Rattle.std.proofs.lemmas.List.Elements.{Contains-append_left, Contains-push, Contains-push_cases}
 use Rattle.armus_base.specs.declared.ids.TaskId.{TaskId}
 use Rattle.armus_base.specs.Relations.{IsWalk, IsWalkCycle}
@@ -51,16 +51,6 @@ module _ (f : FactsValue) (phases : ℕ → Phases) (start t : TaskId) (path : L
       first : (xs : List TaskId) → 0 < length xs → (d : TaskId) → get_or (xs ++ t ∷ []) 0 d ≡ get_or xs 0 d
       first [] l d = absurd (omega arith)
       first (x ∷ xs) l d = refl
-
--- where the walk comes to an end, the last task is the next of the one before it
-pub last_is_next : (f : FactsValue) (phases : ℕ → Phases) (start held last : TaskId) → IsVerdictFrom f phases (Some start) (Chain held last) → IsNext f phases held last
-last_is_next f phases start held last w =
-    let long = length-append w.before (held ∷ last ∷ []) in
-    let step = w.steps (length w.before + 0) held (omega arith) in
-    let first : get_or (w.before ++ held ∷ last ∷ []) (length w.before + 0) held ≡ held = get_or-append-add w.before (held ∷ last ∷ []) 0 held in
-    let second : get_or (w.before ++ held ∷ last ∷ []) (length w.before + 0 + 1) held ≡ last =
-    ap (λ k. get_or (w.before ++ held ∷ last ∷ []) k held) (omega arith) ∙ get_or-append-add w.before (held ∷ last ∷ []) 1 held in
-    subst (λ x. IsNext f phases x last) first (subst (λ y. IsNext f phases (get_or (w.before ++ held ∷ last ∷ []) (length w.before + 0) held) y) second step)
 
 -- the flags tell which tasks stand on a path, also where one more does
 pub set_task_flags :

@@ -1,5 +1,5 @@
 // Laws of explanations.
-ghost use Rattle.explain_deadlock.specs.calls.Laws.{ChainsEnd, DeadlockStandsFirst, ExplanationExists, ForkersAreToCome, HeldAreNotImpededByDead, LastKeepsWaiting, NothingIsSaidTwice, OneExplanation, ShownAreDead, WaitingIsTold};
+ghost use Rattle.explain_deadlock.specs.calls.Laws.{ChainsEnd, DeadlockStandsFirst, ExplanationExists, ForkersAreToCome, HeldAreNotImpededByDead, NothingIsSaidTwice, OneExplanation, ShownAreDead, WaitingIsTold};
 ghost use Rattle.explain_deadlock.specs.Laws.{DeadlockIsReported, EachHasAParagraph, EachImpederIsTold, SaysWhatIsSo, WaitAlike};
 
 /// The places of a text's plan have one explanation at most.
@@ -63,9 +63,4 @@ pub fn held_are_not_impeded_by_dead()
 pub fn walks_end()
     ensures forkers { ForkersAreToCome }
     ensures chains { ChainsEnd }
-{}
-
-/// Where the walk comes to an end, the last task keeps the one before it waiting, with the phase from which the hint counts the missing arrivals.
-pub fn last_keeps_waiting()
-    ensures { LastKeepsWaiting }
 {}

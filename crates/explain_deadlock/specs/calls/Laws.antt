@@ -20,9 +20,7 @@ use Rattle.explain_deadlock.specs.declared.outcome.WaitVerdict.TheVariants.{Chai
 use Rattle.explain_tasks.specs.declared.situation.Situation.{Situation}
 use Rattle.explain_tasks.specs.declared.situation.Situation.TheVariants.{Deadlocked, HasEnded, Held, NeverForked, NotForkedYet}
 use Rattle.explain_deadlock.specs.Explanations.{IsExplanationAt}
-use Rattle.explain_tasks.specs.Facts.{FactsValue, is_waiting, situation_of, tasks_that, wait_of}
-use Rattle.explain_facts.specs.declared.account.Waiting.{Waiting}
-use Rattle.explain_deadlock.specs.Hints.{impeding_phase}
+use Rattle.explain_tasks.specs.Facts.{FactsValue, is_waiting, situation_of, tasks_that}
 use Rattle.explain_deadlock.specs.ImpederLines.{told_of}
 use Rattle.explain_tasks.specs.Impeders.{impeders_by_facts}
 use Rattle.explain_tasks.specs.Nexts.{IsNext, next_of}
@@ -90,14 +88,6 @@ ChainsEnd =
     (plan : Plan) (steps : List Step) (f : FactsValue) (held last : TaskId) → IsPlainRun plan steps → IsMaximal plan steps → AreFactsAt plan (places steps) f →
     IsVerdict f (state_at plan (places steps)).phases (Chain held last) →
     (situation_of f held.0 ≡ Held) × ((situation_of f last.0 ≡ HasEnded) ⊎ (situation_of f last.0 ≡ NeverForked))
-
--- where the walk comes to an end, the last task keeps the one before it waiting, with the phase from which a hint counts the missing arrivals
-abbrev pub LastKeepsWaiting : Type 0
-LastKeepsWaiting =
-    (plan : Plan) (steps : List Step) (f : FactsValue) (held last : TaskId) → IsPlainRun plan steps → IsMaximal plan steps → AreFactsAt plan (places steps) f →
-    IsVerdict f (state_at plan (places steps)).phases (Chain held last) →
-    (w : Waiting) × (m : ℕ) × (wait_of f held.0 ≡ Some w) × ((state_at plan (places steps)).phases last.0 w.event.p.0 ≡ Some m) × (m < w.event.n)
-    × (impeding_phase (impeders_by_facts f (state_at plan (places steps)).phases held.0) last.0 ≡ Some m)
 
 -- there are tasks, each of them stands so to the one behind it, and the last to the first
 pub record ShowsCircle (R : TaskId → TaskId → Type 0) (shown : List TaskId) : Type 0 where
