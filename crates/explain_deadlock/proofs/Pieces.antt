@@ -20,3 +20,6 @@ eight_pieces o o1 o2 o3 o4 o5 o6 o7 o8 a b c d e f g h e1 e2 e3 e4 e5 e6 e7 e8 =
 
 pub four_pieces : (o o1 o2 o3 o4 a b c d : List ℕ) → o1 ≡ o ++ a → o2 ≡ o1 ++ b → o3 ≡ o2 ++ c → o4 ≡ o3 ++ d → o4 ≡ o ++ (a ++ b ++ c ++ d)
 four_pieces o o1 o2 o3 o4 a b c d e1 e2 e3 e4 = two_pieces o o3 o4 (a ++ b ++ c) d (three_pieces o o1 o2 o3 a b c e1 e2 e3) e4
+
+pub five_pieces : (o o1 o2 o3 o4 o5 a b c d e : List ℕ) → o1 ≡ o ++ a → o2 ≡ o1 ++ b → o3 ≡ o2 ++ c → o4 ≡ o3 ++ d → o5 ≡ o4 ++ e → o5 ≡ o ++ (a ++ b ++ c ++ d ++ e)
+five_pieces o o1 o2 o3 o4 o5 a b c d e e1 e2 e3 e4 e5 = two_pieces o o4 o5 (a ++ b ++ c ++ d) e (four_pieces o o1 o2 o3 o4 a b c d e1 e2 e3 e4) e5
