@@ -113,7 +113,7 @@ module _ (plan : Plan) (a : ℕ → Place) (f : FactsValue) (at : AreFactsAt pla
       )
 
   -- and what does so by the statuses is an impeder
-  waits_is : (t v : TaskId) (e : Event) → end_of s t.0 ≡ Blocked e → WaitsFor blocked t v → (m : ℕ) × Contains (imps t.0) (impeder v.0 m)
+  waits_is : (t v : TaskId) (e : Event) → end_of s t.0 ≡ Blocked e → WaitsFor blocked t v → (m : ℕ) × Contains (imps t.0) (impeder e v.0 m)
   waits_is t v e ended (x, in', is_t, (y, inside, is_v, (k, member, l, is, (p, below)))) =
       let published = published_is plan a f at t.0 e ended in
       let of_plan = of_plan_here plan a f at in
@@ -141,5 +141,5 @@ module _ (plan : Plan) (a : ℕ → Place) (f : FactsValue) (at : AreFactsAt pla
         least = λ v waits is_dead.
             let (k, there) = waits_is t v e ended waits in
             let passes : is_deadlocked (situation_of f v.0) ≡ true = ap is_deadlocked (dead_is plan a f at v.0 is_dead).3 in
-            subst (λ (x : TaskId). x.0 ≤ v.0) same (least_found passing (imps t.0) i ascend found (impeder v.0 k) there passes);
+            subst (λ (x : TaskId). x.0 ≤ v.0) same (least_found passing (imps t.0) i ascend found (impeder e v.0 k) there passes);
       }

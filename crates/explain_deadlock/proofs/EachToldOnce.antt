@@ -239,11 +239,11 @@ module _ (n : ℕ) (phases : ℕ → Phases) where
   behind_by None i there = absurd (nothing_in_nil i there)
   behind_by (Some w) i there = let (lt, phase, below) = impeder_is n phases w.event i there in (w, refl, lt, phase, below)
 
-  from_behind : (o : Option Waiting) (w : Waiting) (u m : ℕ) → o ≡ Some w → u < n → phases u w.event.p.0 ≡ Some m → m < w.event.n → Contains (impeders_by n phases o) (impeder u m)
+  from_behind : (o : Option Waiting) (w : Waiting) (u m : ℕ) → o ≡ Some w → u < n → phases u w.event.p.0 ≡ Some m → m < w.event.n → Contains (impeders_by n phases o) (impeder w.event u m)
   from_behind None w u m is lt phase below = absurd (cc)
   from_behind (Some v) w u m is lt phase below =
       let same : w ≡ v = cc in
-      subst (λ (x : Waiting). Contains (impeders_in n phases x.event) (impeder u m)) same (impeder_there n phases w.event u m lt phase below)
+      subst (λ (x : Waiting). Contains (impeders_in n phases x.event) (impeder w.event u m)) same (impeder_there n phases w.event u m lt phase below)
 
 pub each_impeder_told : EachImpederIsTold
 each_impeder_told f phases t =
@@ -259,7 +259,7 @@ each_impeder_told f phases t =
             let (w, wait, lt, phase, below) = behind_by n phases (wait_of f t) i there in
             subst (IsImpededBy f phases t) same (w, wait, lt, i.phase, phase, below),
         λ (w, wait, lt, k, phase, below).
-            let there = there_all f is ascend told (impeder u.0 k) (from_behind n phases (wait_of f t) w u.0 k wait lt phase below) in
+            let there = there_all f is ascend told (impeder w.event u.0 k) (from_behind n phases (wait_of f t) w u.0 k wait lt phase below) in
             subst (λ x. Contains (named_impeders f phases t) x) (same_task (record { 0 = u.0 }) u refl) there,
       ),
     )

@@ -107,13 +107,13 @@ module _ (plan : Plan) (a : ℕ → Place) (f : FactsValue) (at : AreFactsAt pla
   wait_is t w is =
       let (lt, there) = part_there (λ (x : TaskAccount). x.wait) f.account.tasks t w is in
       let within : t < n = omega (arith, lt, has.known.all_told) in
-      let d : TaskAccount = record { drawn = None; fork = None; ended = None; wait = None } in
+      let d : TaskAccount = record { drawn = None; fork = None; ended = None; wait = None; nexts = [] } in
       (within, wait_tells has.known.layout has.program plan a t (end_of s t) (slice_index_or f.account.tasks t d).wait w (has.known.each t d within).wait (there d))
 
   -- and of a task that is blocked it tells the wait
   pub wait_told : (t : ℕ) (e : Event) → t < n → end_of s t ≡ Blocked e → (w : Waiting) × (wait_of f t ≡ Some w) × (w.event ≡ e)
   wait_told t e lt ended =
-      let d : TaskAccount = record { drawn = None; fork = None; ended = None; wait = None } in
+      let d : TaskAccount = record { drawn = None; fork = None; ended = None; wait = None; nexts = [] } in
       let known : HasWait has.known.layout has.program plan a t (Blocked e) (slice_index_or f.account.tasks t d).wait =
       subst (λ (end : TaskEnd). HasWait has.known.layout has.program plan a t end (slice_index_or f.account.tasks t d).wait) ended (has.known.each t d lt).wait in
       let (w, there, event) = blocked_tells has.known.layout has.program plan a t e (slice_index_or f.account.tasks t d).wait known in
@@ -165,9 +165,9 @@ module _ (plan : Plan) (a : ℕ → Place) (f : FactsValue) (at : AreFactsAt pla
 
   -- who impedes the event of a task that is blocked is one of its impeders
   pub impeder_here : (t : ℕ) (e : Event) → t < n → end_of s t ≡ Blocked e → (u m : ℕ) → s.phases u e.p.0 ≡ Some m → m < e.n →
-      Contains (impeders_by_facts f s.phases t) (impeder u m)
+      Contains (impeders_by_facts f s.phases t) (impeder e u m)
   impeder_here t e lt ended u m is below =
-      subst (λ xs. Contains xs (impeder u m)) (sym (impeders_here t e lt ended))
+      subst (λ xs. Contains xs (impeder e u m)) (sym (impeders_here t e lt ended))
       (impeder_there (length f.standings) s.phases e u m (let l = of_plan_here.member u e.p.0 m is in omega (arith, l, all_stand)) is below)
 
   -- a dead task has a deadlocked impeder
@@ -178,7 +178,7 @@ module _ (plan : Plan) (a : ℕ → Place) (f : FactsValue) (at : AreFactsAt pla
       let also : IsDeadIn s within.by = record { tasks = d.tasks; inside = within.inside; deadlocked = d.deadlocked } in
       let by = dead_is within.by ((dead_by_final plan s within.by of_plan_here).1 also) in
       let lt = of_plan_here.published t within.event within.waits in (
-        impeder within.by within.phase,
+        impeder within.event within.by within.phase,
         impeder_here t within.event lt (blocked_is t within.event within.waits) within.by within.phase within.impedes within.below,
         ap is_deadlocked by.3,
       )
@@ -195,7 +195,7 @@ module _ (plan : Plan) (a : ℕ → Place) (f : FactsValue) (at : AreFactsAt pla
   first_impeder rest t e lt ended [] none =
       absurd (rest t e (published_is t e ended)
       (λ u m is. elim (cases_lt m e.n) [
-        | inl below ↦ absurd (nothing_in_nil (impeder u m) (subst (λ xs. Contains xs (impeder u m)) none (impeder_here t e lt ended u m is below)))
+        | inl below ↦ absurd (nothing_in_nil (impeder e u m) (subst (λ xs. Contains xs (impeder e u m)) none (impeder_here t e lt ended u m is below)))
         | inr le ↦ omega arith
       ]))
   first_impeder rest t e lt ended (i ∷ imps) some = refl
@@ -220,7 +220,7 @@ module _ (plan : Plan) (a : ℕ → Place) (f : FactsValue) (at : AreFactsAt pla
     forkers = λ t x is.
         let (lt, there) = part_there (λ (y : TaskAccount). y.fork) f.account.tasks t x is in
         let within : t < n = omega (arith, lt, has.known.all_told) in
-        let d : TaskAccount = record { drawn = None; fork = None; ended = None; wait = None } in
+        let d : TaskAccount = record { drawn = None; fork = None; ended = None; wait = None; nexts = [] } in
         let before = forker_before has.known.layout has.program plan checked_here t x within (sym (has.known.each t d within).fork ∙ there d) in
         omega arith;
   }

@@ -145,7 +145,7 @@ module _ (plan : Plan) (steps : List Step) (run : IsPlainRun plan steps) (maxima
 
   fork_told : (t : ℕ) (o : Option Forked) → 0 < t → t < n → forking_of f t ≡ o → MatchOption o (HasFork plan t → ⊥) (λ x. HasFork plan t × (x.by.0 ≡ parent_of plan t))
   fork_told t o pos lt is =
-      let d : TaskAccount = record { drawn = None; fork = None; ended = None; wait = None } in
+      let d : TaskAccount = record { drawn = None; fork = None; ended = None; wait = None; nexts = [] } in
       subst (λ (p : Option Forked). MatchOption p (HasFork plan t → ⊥) (λ x. HasFork plan t × (x.by.0 ≡ parent_of plan t))) (sym (fork_is t lt d) ∙ is)
       (forkers_fork f.text at.account.program plan a f.account at.account.unfolds at.account.known t d pos lt)
 
@@ -169,7 +169,7 @@ module _ (plan : Plan) (steps : List Step) (run : IsPlainRun plan steps) (maxima
     earlier : forker < t
     unfolding forker
     earlier =
-        let d : TaskAccount = record { drawn = None; fork = None; ended = None; wait = None } in
+        let d : TaskAccount = record { drawn = None; fork = None; ended = None; wait = None; nexts = [] } in
         forker_before at.account.known.layout at.account.program plan (checked_here plan a f at) t some_fork.0 below
         (sym (at.account.known.each t d below).fork ∙ (sym (fork_is t below d) ∙ some_fork.1))
 

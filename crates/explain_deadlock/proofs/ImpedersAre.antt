@@ -11,34 +11,34 @@ use Rattle.armus_base.proofs.Elements.{Contains-cons_cases, nothing_in_nil}
 use Rattle.explain_tasks.specs.declared.impeders.Impeder.{Impeder}
 use Rattle.explain_tasks.specs.Impeders.{impeder_by, impeders_in}
 
--- task u with this phase
-abbrev pub impeder : ℕ → ℕ → Impeder
-impeder u m = record { t = record { 0 = u }; phase = m }
+-- task u with this phase on the event's phaser
+abbrev pub impeder : Event → ℕ → ℕ → Impeder
+impeder e u m = record { t = record { 0 = u }; p = e.p; phase = m }
 
 -- who has a phase below the event's is an impeder
-behind_is : (e : Event) (u m : ℕ) (o : Option ℕ) → o ≡ Some m → m < e.n → impeder_by e u o ≡ Some (impeder u m)
+behind_is : (e : Event) (u m : ℕ) (o : Option ℕ) → o ≡ Some m → m < e.n → impeder_by e u o ≡ Some (impeder e u m)
 behind_is e u m None is lt = absurd (cc)
 behind_is e u m (Some n) is lt =
     let same : n ≡ m = cc in
     let below : nat_lt n e.n ≡ true = grind (arith, nat_tests) in
-    ap (λ b. if b then Some (record { t = record { 0 = u }; phase = n }) else None) below ∙ ap (λ k. Some (record { t = record { 0 = u }; phase = k })) same
+    ap (λ b. if b then Some (record { t = record { 0 = u }; p = e.p; phase = n }) else None) below ∙ ap (λ k. Some (record { t = record { 0 = u }; p = e.p; phase = k })) same
 
 -- and an impeder has one
 is_behind : (e : Event) (u : ℕ) (o : Option ℕ) (i : Impeder) → impeder_by e u o ≡ Some i → (i.t.0 ≡ u) × (o ≡ Some i.phase) × (i.phase < e.n)
 is_behind e u None i is = absurd (cc)
 is_behind e u (Some n) i is = step (nat_lt n e.n) refl is
   where
-    step : (b : Bool) → nat_lt n e.n ≡ b → (if b then Some (record { t = record { 0 = u }; phase = n }) else None) ≡ Some i → (i.t.0 ≡ u) × (Some n ≡ Some i.phase) × (i.phase < e.n)
+    step : (b : Bool) → nat_lt n e.n ≡ b → (if b then Some (record { t = record { 0 = u }; p = e.p; phase = n }) else None) ≡ Some i → (i.t.0 ≡ u) × (Some n ≡ Some i.phase) × (i.phase < e.n)
     step true below s =
-        let same : record { t = record { 0 = u }; phase = n } ≡ i = cc in
+        let same : record { t = record { 0 = u }; p = e.p; phase = n } ≡ i = cc in
         let phase : n ≡ i.phase = ap (λ (j : Impeder). j.phase) same in
         let lt : n < e.n = grind (arith, nat_tests) in
         (ap (λ (j : Impeder). j.t.0) (sym same), ap Some phase, subst (λ k. k < e.n) phase lt)
     step false below s = absurd (cc)
 
 module _ (n : ℕ) (phases : ℕ → Phases) (e : Event) where
-  pub impeder_there : (u m : ℕ) → u < n → phases u e.p.0 ≡ Some m → m < e.n → Contains (impeders_in n phases e) (impeder u m)
-  impeder_there u m lt is below = given_from (λ v. impeder_by e v (phases v e.p.0)) n u (impeder u m) lt (behind_is e u m (phases u e.p.0) is below)
+  pub impeder_there : (u m : ℕ) → u < n → phases u e.p.0 ≡ Some m → m < e.n → Contains (impeders_in n phases e) (impeder e u m)
+  impeder_there u m lt is below = given_from (λ v. impeder_by e v (phases v e.p.0)) n u (impeder e u m) lt (behind_is e u m (phases u e.p.0) is below)
 
   pub impeder_is : (i : Impeder) → Contains (impeders_in n phases e) i → (i.t.0 < n) × (phases i.t.0 e.p.0 ≡ Some i.phase) × (i.phase < e.n)
   impeder_is i there =

@@ -37,8 +37,8 @@ by_number : (e : Event) (u : ℕ) (o : Option ℕ) (i : Impeder) → impeder_by 
 by_number e u None i is = absurd (cc)
 by_number e u (Some n) i is = step (nat_lt n e.n) is
   where
-    step : (b : Bool) → (if b then Some (record { t = record { 0 = u }; phase = n }) else None) ≡ Some i → i.t.0 ≡ u
-    step true s = let same : record { t = record { 0 = u }; phase = n } ≡ i = cc in ap (λ (j : Impeder). j.t.0) (sym same)
+    step : (b : Bool) → (if b then Some (record { t = record { 0 = u }; p = e.p; phase = n }) else None) ≡ Some i → i.t.0 ≡ u
+    step true s = let same : record { t = record { 0 = u }; p = e.p; phase = n } ≡ i = cc in ap (λ (j : Impeder). j.t.0) (sym same)
     step false s = absurd (cc)
 
 -- an impeder is a task below the bound

@@ -16,7 +16,7 @@ use Rattle.explain_tasks.specs.Facts.{FactsValue, situation_of, wait_of}
 use Rattle.explain_tasks.specs.Groups.{each_once}
 use Rattle.explain_tasks.specs.Impeders.{impeders_by, impeders_in, impeders_by_facts}
 use Rattle.explain_tasks.specs.Places.{name_words}
-use Rattle.explain_tasks.specs.Sayings.{Said, impeder_forking, impeder_said, impeder_words, same_forking, same_said}
+use Rattle.explain_tasks.specs.Sayings.{Said, impeder_forking, impeder_next, impeder_said, impeder_words, same_forking, same_said}
 use Rattle.explain_tasks.specs.calls.Grouped.{IsGrouped, NotesSaid}
 use Rattle.explain_tasks.proofs.EachOnce as each
 use Rattle.explain_tasks.proofs.GroupedTasks.{at_contains}
@@ -108,20 +108,47 @@ numbers_are f numbers said have =
 
 -- ---- impeders by their numbers
 
-regroup : (n p w g : Bool) → (p && (true && (n && (true && (w && (true && g)))))) ≡ (true && (n && (p && (w && (true && g)))))
-regroup true true w g = refl
-regroup true false w g = refl
-regroup false true w g = refl
-regroup false false w g = refl
+regroup : (n p w g x : Bool) → (p && ((true && (n && (true && (w && (true && (g && true)))))) && x)) ≡ (true && (n && (p && (w && (true && (g && x))))))
+regroup true true true true x = refl
+regroup true true true false x = refl
+regroup true true false g x = refl
+regroup true false w g x = refl
+regroup false true w g x = refl
+regroup false false w g x = refl
 
+-- where the phases are the same and the numbers, what is said is the same just where what comes next is
 pub same_by_number :
     (f : FactsValue) (numbers : List ℕ) (a b : Impeder) → AreNumbers f numbers → a.t.0 < length numbers → b.t.0 < length numbers →
-    ((a.phase == b.phase) && (get_or numbers a.t.0 0 == get_or numbers b.t.0 0)) ≡ same_said (impeder_said f a) (impeder_said f b)
+    ((a.phase == b.phase) && ((get_or numbers a.t.0 0 == get_or numbers b.t.0 0) && bytes_eq (impeder_next f a) (impeder_next f b)))
+    ≡ same_said (impeder_said f a) (impeder_said f b)
 same_by_number f numbers a b are lt lt' =
-    ap (λ x. (a.phase == b.phase) && x) (are.same a.t.0 b.t.0 (subst (λ n. a.t.0 < n) are.sized lt) (subst (λ n. b.t.0 < n) are.sized lt'))
+    ap (λ x. (a.phase == b.phase) && (x && bytes_eq (impeder_next f a) (impeder_next f b)))
+    (are.same a.t.0 b.t.0 (subst (λ n. a.t.0 < n) are.sized lt) (subst (λ n. b.t.0 < n) are.sized lt'))
     ∙ regroup (bytes_eq (name_words f a.t.0) (name_words f b.t.0)) (a.phase == b.phase)
     (bytes_eq (impeder_words f a.t.0 (situation_of f a.t.0)) (impeder_words f b.t.0 (situation_of f b.t.0)))
     (same_forking (impeder_forking f a.t.0 (situation_of f a.t.0)) (impeder_forking f b.t.0 (situation_of f b.t.0)))
+    (bytes_eq (impeder_next f a) (impeder_next f b))
+
+-- where the numbers differ, what is said does
+pub other_by_number :
+    (f : FactsValue) (numbers : List ℕ) (a b : Impeder) → AreNumbers f numbers → a.t.0 < length numbers → b.t.0 < length numbers →
+    (get_or numbers a.t.0 0 == get_or numbers b.t.0 0) ≡ false → false ≡ same_said (impeder_said f a) (impeder_said f b)
+other_by_number f numbers a b are lt lt' off =
+    let next = bytes_eq (impeder_next f a) (impeder_next f b) in
+    sym (ap (λ x. (a.phase == b.phase) && (x && next)) off ∙ never (a.phase == b.phase)) ∙ same_by_number f numbers a b are lt lt'
+  where
+    never : (p : Bool) → (p && false) ≡ false
+    never true = refl
+    never false = refl
+
+-- where they are the same, and the phases, what comes next decides
+pub next_by_number :
+    (f : FactsValue) (numbers : List ℕ) (a b : Impeder) → AreNumbers f numbers → a.t.0 < length numbers → b.t.0 < length numbers →
+    (a.phase == b.phase) ≡ true → (get_or numbers a.t.0 0 == get_or numbers b.t.0 0) ≡ true →
+    bytes_eq (impeder_next f a) (impeder_next f b) ≡ same_said (impeder_said f a) (impeder_said f b)
+next_by_number f numbers a b are lt lt' phase number =
+    let next = bytes_eq (impeder_next f a) (impeder_next f b) in
+    sym (ap (λ p. p && ((get_or numbers a.t.0 0 == get_or numbers b.t.0 0) && next)) phase ∙ ap (λ x. x && next) number) ∙ same_by_number f numbers a b are lt lt'
 
 -- ---- the first three things that are said
 

@@ -44,10 +44,10 @@ keeping_words n said tasks =
     ++ said_of decimal said.phase
     ++ codes ", "
 
--- the line of these impeders:   t1 to t3 (t) keep it waiting with phase 0, deadlocked at 11:7: await(pc)
+-- the line of these impeders:   t1 to t3 (t) keep it waiting with phase 0, deadlocked at 11:7: await(pc); no adv of p1 follows
 abbrev pub group_line : FactsValue → ℕ → Said → List TaskId → List ℕ
 group_line f n said tasks =
-    line (keeping_words n said tasks ++ said.words ++ forking_words said.forking (length tasks) (forkers_of f tasks))
+    line (keeping_words n said tasks ++ said.words ++ forking_words said.forking (length tasks) (forkers_of f tasks) ++ said.next)
 
 -- the impeders of whom this is said
 abbrev pub group_of : FactsValue → List Impeder → Said → List TaskId

@@ -3,7 +3,6 @@ ghost use Rattle.explain_deadlock.specs.ImpederLines.{forkers_of, is_forker_of, 
 ghost use Rattle.explain_deadlock.specs.inside.Numbered.{AddsFirst, AreNumbers, AreWithin};
 ghost use Rattle.explain_tasks.specs.calls.Fitting.{FactsFitPlan};
 ghost use Rattle.std.specs.Prelude.{◌≡◌, ◌++◌, ◌<◌, ◌||◌, ◌∷◌, if◌then◌else◌, [], ℕ, IfOk, OnOk, Some, false, decimal, flat_map, option_map, length, slice_index_or, filter, map, not, take};
-ghost use Rattle.explain_tasks.specs.Facts.{FactsValue};
 ghost use Rattle.explain_tasks.specs.Sayings.{impeder_said, same_said};
 ghost use Rattle.std.specs.List.{list_any};
 ghost use Rattle.explain_tasks.specs.Places.{said_of};
@@ -92,30 +91,40 @@ fn is_task(task: Option<TaskId>, impeder: Impeder) -> bool
 }
 
 // Whether the same is said of two impeders, by the numbers of what is said.
-fn is_same(numbers: &[usize], a: Impeder, b: Impeder) -> bool
+fn is_same(facts: &Facts, numbers: &[usize], a: Impeder, b: Impeder) -> Result<bool, NoMemory>
+    requires numbers { AreNumbers facts.now numbers.now }
     requires a { a.t.0 < length numbers.now }
     requires b { b.t.0 < length numbers.now }
-    ensures { (f : FactsValue) → AreNumbers f numbers.now → result ≡ same_said (impeder_said f a) (impeder_said f b) }
+    ensures { IfOk result (λ same. same ≡ same_said (impeder_said facts.now a) (impeder_said facts.now b)) }
 {
     if a.phase != b.phase {
-        return false;
+        return Ok(false);
     }
-    numbers[a.t.0 as usize] == numbers[b.t.0 as usize]
+    if numbers[a.t.0 as usize] != numbers[b.t.0 as usize] {
+        return Ok(false);
+    }
+    facts.is_same_next(a, b)
 }
 
 // Whether the same is said of one of these impeders as of another one.
-fn is_among(numbers: &[usize], firsts: &[Impeder], impeder: Impeder) -> bool
+fn is_among(
+    facts: &Facts,
+    numbers: &[usize],
+    firsts: &[Impeder],
+    impeder: Impeder,
+) -> Result<bool, NoMemory>
+    requires numbers { AreNumbers facts.now numbers.now }
     requires firsts { AreWithin (length numbers.now) firsts.now }
     requires impeder { impeder.t.0 < length numbers.now }
-    ensures { (f : FactsValue) → AreNumbers f numbers.now →
-        result ≡ list_any (λ said. same_said said (impeder_said f impeder)) (map (impeder_said f) firsts.now) }
+    ensures { IfOk result (λ found.
+        found ≡ list_any (λ said. same_said said (impeder_said facts.now impeder)) (map (impeder_said facts.now) firsts.now)) }
 {
     for first in firsts {
-        if is_same(numbers, *first, impeder) {
-            return true;
+        if is_same(facts, numbers, *first, impeder)? {
+            return Ok(true);
         }
     }
-    false
+    Ok(false)
 }
 
 // Appends a task, unless it is told.
@@ -195,6 +204,7 @@ fn put_group(
     put_keeping(facts.alloc(), out, count, saying, tasks)?;
     put_kept(out, &saying.words)?;
     put_forking(facts, out, &saying.forking, tasks)?;
+    put_kept(out, &saying.next)?;
     put_words(out, b"\n")
 }
 
@@ -216,16 +226,22 @@ fn impeders_at(
 }
 
 // Adds an impeder, unless there are three, or the same is said of one that is there.
-fn add_first(firsts: &mut Vec<Impeder>, numbers: &[usize], impeder: Impeder) -> Result<(), NoMemory>
+fn add_first(
+    facts: &Facts,
+    firsts: &mut Vec<Impeder>,
+    numbers: &[usize],
+    impeder: Impeder,
+) -> Result<(), NoMemory>
+    requires numbers { AreNumbers facts.now numbers.now }
     requires firsts { AreWithin (length numbers.now) firsts.old.items }
     requires impeder { impeder.t.0 < length numbers.now }
     ensures firsts { AreWithin (length numbers.now) firsts.new.items }
-    ensures added { OnOk result ((f : FactsValue) → AreNumbers f numbers.now → AddsFirst f (impeder_said f impeder ∷ []) firsts.old.items firsts.new.items) }
+    ensures added { OnOk result (AddsFirst facts.now (impeder_said facts.now impeder ∷ []) firsts.old.items firsts.new.items) }
 {
     if firsts.len() >= MOST_GROUPS {
         return Ok(());
     }
-    if is_among(numbers, firsts, impeder) {
+    if is_among(facts, numbers, firsts, impeder)? {
         return Ok(());
     }
     firsts.push(impeder)?;
@@ -234,17 +250,19 @@ fn add_first(firsts: &mut Vec<Impeder>, numbers: &[usize], impeder: Impeder) -> 
 
 // Adds of these impeders the first ones of which something else is said, up to three.
 fn add_firsts(
+    facts: &Facts,
     firsts: &mut Vec<Impeder>,
     numbers: &[usize],
     impeders: &[Impeder],
 ) -> Result<(), NoMemory>
+    requires numbers { AreNumbers facts.now numbers.now }
     requires firsts { AreWithin (length numbers.now) firsts.old.items }
     requires impeders { AreWithin (length numbers.now) impeders.now }
     ensures firsts { AreWithin (length numbers.now) firsts.new.items }
-    ensures added { OnOk result ((f : FactsValue) → AreNumbers f numbers.now → AddsFirst f (map (impeder_said f) impeders.now) firsts.old.items firsts.new.items) }
+    ensures added { OnOk result (AddsFirst facts.now (map (impeder_said facts.now) impeders.now) firsts.old.items firsts.new.items) }
 {
     for impeder in impeders {
-        add_first(firsts, numbers, *impeder)?;
+        add_first(facts, firsts, numbers, *impeder)?;
     }
     Ok(())
 }
@@ -263,8 +281,8 @@ fn first_impeders(
 {
     let at_next = impeders_at(facts, next, impeders)?;
     let mut firsts = Vec::new(facts.alloc());
-    add_firsts(&mut firsts, numbers, &at_next)?;
-    add_firsts(&mut firsts, numbers, impeders)?;
+    add_firsts(facts, &mut firsts, numbers, &at_next)?;
+    add_firsts(facts, &mut firsts, numbers, impeders)?;
     Ok(firsts)
 }
 
@@ -282,7 +300,8 @@ fn group(
 {
     let mut all = Vec::new(facts.alloc());
     for impeder in impeders {
-        push_unless(&mut all, impeder.t, !is_same(numbers, first, *impeder))?;
+        let is_same = is_same(facts, numbers, first, *impeder)?;
+        push_unless(&mut all, impeder.t, !is_same)?;
     }
     Ok(all)
 }
@@ -301,7 +320,8 @@ fn rest(
 {
     let mut rest = Vec::new(facts.alloc());
     for impeder in impeders {
-        push_unless(&mut rest, impeder.t, is_among(numbers, firsts, *impeder))?;
+        let is_told = is_among(facts, numbers, firsts, *impeder)?;
+        push_unless(&mut rest, impeder.t, is_told)?;
     }
     Ok(rest)
 }

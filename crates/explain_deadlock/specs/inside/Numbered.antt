@@ -1,15 +1,15 @@
 -- What is said of impeders, by the numbers of what is said of tasks.
-use Rattle.std.specs.Prelude.{◌≡◌, ◌==◌, ℕ, ◌<◌, List, ◌++◌, All, length, map, slice_index, take}
+use Rattle.std.specs.Prelude.{◌≡◌, ◌==◌, ℕ, ◌<◌, List, [], ◌++◌, All, length, map, slice_index, take}
 use Rattle.explain_tasks.specs.declared.impeders.Impeder.{Impeder}
 use Rattle.explain_tasks.specs.Facts.{FactsValue}
 use Rattle.explain_tasks.specs.Groups.{each_once}
-use Rattle.explain_tasks.specs.Sayings.{Said, impeder_said, same_said}
+use Rattle.explain_tasks.specs.Sayings.{Said, impeder_said, impeding_said, same_said}
 
--- what the line of task u says where it impedes an event with phase 0
+-- what the line of task u says where it impedes an event with phase 0, but for what it does next
 abbrev pub said_at : FactsValue → ℕ → Said
-said_at f u = impeder_said f (record { t = record { 0 = u }; phase = 0 })
+said_at f u = impeding_said f u 0 []
 
--- each task has a number, and two have the same exactly where the same is said of them but for the phase
+-- each task has a number, and two have the same exactly where the same is said of them but for the phase and for what they do next
 pub record AreNumbers (f : FactsValue) (numbers : List ℕ) : Type 0 where
   pub sized : length numbers ≡ length f.standings
   pub same :

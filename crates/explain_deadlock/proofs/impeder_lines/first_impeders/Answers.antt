@@ -21,6 +21,6 @@ returns-clause-told c =
     let all = c.args.impeders.now in
     let at_next : c.deref.result.now ≡ filter (is_this_impeder c.args.next) all = c.deref.ensures.value ∙ c.in_ok-at_next.ensures in
     let one : map say c.add_firsts.new.firsts.items ≡ take 3 (each_once same_said (map say c.deref.result.now)) =
-    c.in_ok-add_firsts.ensures.added f c.requires.numbers [] (ap (map say) c.new-firsts.ensures.items) in
-    c.in_ok-add_firsts-2.ensures.added f c.requires.numbers (map say c.deref.result.now) one
+    c.in_ok-add_firsts.ensures.added [] (ap (map say) c.new-firsts.ensures.items) in
+    c.in_ok-add_firsts-2.ensures.added (map say c.deref.result.now) one
     ∙ ap (λ xs. take 3 (each_once same_said xs)) (ap (λ (xs : List Impeder). map say xs ++ map say all) at_next ∙ sym (map-append say (filter (is_this_impeder c.args.next) all) all))

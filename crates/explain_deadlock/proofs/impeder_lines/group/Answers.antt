@@ -10,9 +10,9 @@ loop-impeder-preserved c =
     let f = c.args.facts.now in
     let said = impeder_said f c.args.first in
     let i = c.loop-impeder.impeder-index in
-    let d : Impeder = record { t = record { 0 = 0 }; phase = 0 } in
+    let d : Impeder = record { t = record { 0 = 0 }; p = record { 0 = 0 }; phase = 0 } in
     let x : Impeder = get_or c.args.impeders.now i d in
     c.in_ok-push_unless.ensures
-    ∙ ap (λ b. c.loop-impeder.all.items ++ (if not (not b) then x.t ∷ [] else [])) (c.is_same.ensures f c.requires.numbers)
+    ∙ ap (λ b. c.loop-impeder.all.items ++ (if not (not b) then x.t ∷ [] else [])) c.in_ok-is_same.ensures
     ∙ ap (λ xs. xs ++ (if not (not (same_said said (impeder_said f x))) then x.t ∷ [] else [])) c.loop-impeder.invariant
     ∙ group_more f c.args.impeders.now said i d c.loop-impeder-test.true
