@@ -1,6 +1,7 @@
 pub mod Unchanged
 pub mod TakenLines
 pub mod Refused
+pub mod StuckPlaces
 pub mod Guarded
 pub mod WaitsNewly
 pub mod Gone

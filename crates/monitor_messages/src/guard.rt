@@ -15,23 +15,28 @@ use crate::known_state::{KnownState, told_by, told_change};
 use armus_base::NoMemory;
 use monitor_reasons::{reason_of, sentence_of};
 use monitor_search::{StuckTasks, stuck_after};
-use monitor_state::{FaultOfLine, ListedParticipant, MonitorState};
+use monitor_state::{FaultOfLine, MonitorState};
 use monitor_words::{put_answer, put_refusal};
 use std::alloc::Global;
 use std::mem;
 use trace_lines::{Announcement, TraceLine};
 
 // The place in the list of a stuck task that is there with the name t.
-fn stuck_place(list: &[ListedParticipant], stuck: &StuckTasks, t: &[u8]) -> Option<usize>
-    ensures at { IfSome result (λ i. (i < length list.now) × (is_stuck_as stuck.now t.now (participant_at list.now i) ≡ true)) }
-    ensures none { IfNone result (list_any (is_stuck_as stuck.now t.now) list.now ≡ false) }
+fn stuck_place(state: &MonitorState, stuck: &StuckTasks, t: &[u8]) -> Option<usize>
+    ensures at { IfSome result (λ i. (i < length state.now.list) × (is_stuck_as stuck.now t.now (participant_at state.now.list i) ≡ true)) }
+    ensures none { IfNone result (list_any (is_stuck_as stuck.now t.now) state.now.list ≡ false) }
 {
-    for (at, participant) in list.iter().enumerate() {
-        if participant.is_there_as(t) && stuck.has_number(participant.number()) {
-            return Some(at);
+    let list = state.participants();
+    match state.place_of(t) {
+        None => None,
+        Some(at) => {
+            if stuck.has_number(list[at].number()) {
+                Some(at)
+            } else {
+                None
+            }
         }
     }
-    None
 }
 
 // Appends the answer that the task at this place must not wait, since it would be stuck.
@@ -60,7 +65,7 @@ fn put_wait_answer(
 ) -> Result<bool, NoMemory>
     ensures { IfOk result (λ refuses. AnswersWait state.now stuck.now t.now out.old.items out.new.items refuses) }
 {
-    match stuck_place(state.participants(), stuck, t) {
+    match stuck_place(state, stuck, t) {
         None => {
             put_answer(out, t)?;
             Ok(false)
@@ -87,7 +92,7 @@ fn stand_back(
     let go = TraceLine::Announces(t, Announcement::Goes, None);
     state.take_line(alloc, &go)?;
     let stands = TraceLine::Announces(t, Announcement::Stands, place);
-    let (stuck, _) = told_change(alloc, out, state, &stands, was)?;
+    let (stuck, _) = told_change(alloc, out, state, &stands, was, false)?;
     Ok(stuck)
 }
 

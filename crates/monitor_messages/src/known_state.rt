@@ -1,9 +1,10 @@
 // A state of which it is known who is stuck in it.
-ghost use Rattle.std.specs.Prelude.{◌≡◌, ◌++◌, ℕ, Bool, false, IfNone, IfOk, IfSome, OnOk};
+ghost use Rattle.std.specs.Prelude.{◌≡◌, ◌++◌, ℕ, Bool, false, true, IfNone, IfOk, IfSome, OnOk};
 ghost use Rattle.std.specs.Option.{option_map};
 ghost use Rattle.monitor_laws.specs.Faults.{first_fault};
 ghost use Rattle.monitor_laws.specs.States.{TraceState, after_line, nobody_named};
 ghost use Rattle.monitor_laws.specs.Lawful.{IsLawfulState};
+ghost use Rattle.monitor_search.specs.calls.Ahead.{KeepsWhoeverIsStuck};
 ghost use Rattle.monitor_search.specs.Known.{AreStuckTasks, KeepsStuck, has_stuck_number};
 ghost use Rattle.monitor_words.specs.Messages.{asked_words, report_words};
 ghost use Rattle.monitor_words.specs.Stops.{TellsStuck};
@@ -15,7 +16,7 @@ ghost use Rattle.monitor_messages.specs.inside.Taken.{IsTaken};
 use crate::changes::put_change;
 use armus_base::NoMemory;
 use monitor_rows::{is_anybody_kept_waiting, put_state_report, put_wait_list};
-use monitor_search::{StuckTasks, stuck_after};
+use monitor_search::{StuckTasks, keeps_stuck_ahead, stuck_after};
 use monitor_state::{FaultOfLine, MonitorState};
 use std::alloc::Global;
 use std::marker::Model;
@@ -64,16 +65,20 @@ pub(crate) fn told_by(
     }
 }
 
-/// The same, where they are to be found.
+/// The same, where they are to be found, or it is known that the same are stuck.
 pub(crate) fn told_change(
     alloc: Global,
     out: &mut Vec<u8>,
     state: &MonitorState,
     line: &TraceLine,
     was: StuckTasks,
+    keeps: bool,
 ) -> Result<(StuckTasks, bool), NoMemory>
-    ensures { IfOk result (λ r. (s : TraceState) → IsKnownBefore s (line_value line.now) was state.now → AreStuckTasks state.now r.0 × TellsChange s (line_value line.now) was state.now r.0 out.old.items out.new.items r.1) }
+    ensures { IfOk result (λ r. (s : TraceState) → IsKnownBefore s (line_value line.now) was state.now → (keeps ≡ true → KeepsWhoeverIsStuck s (line_value line.now)) → AreStuckTasks state.now r.0 × TellsChange s (line_value line.now) was state.now r.0 out.old.items out.new.items r.1) }
 {
+    if keeps {
+        return Ok((was, false));
+    }
     let found = stuck_after(alloc, state, line, &was)?;
     told_by(alloc, out, state, line, was, found)
 }
@@ -93,6 +98,30 @@ fn put_asked(
         TraceLine::AsksList => put_wait_list(alloc, out, state, stuck),
         _ => Ok(()),
     }
+}
+
+// Takes a line in a state of which it is known who is stuck, appends the message that it calls for, and answers whether somebody is told; or its first fault.
+// Where memory is wanting, nothing is said of what is known.
+fn take_known<'a>(
+    alloc: Global,
+    out: &mut Vec<u8>,
+    state: &mut MonitorState,
+    stuck: &mut StuckTasks,
+    line: &TraceLine<'a>,
+) -> Result<Result<bool, FaultOfLine<'a>>, NoMemory>
+    requires { IsLawfulState state.old × AreStuckTasks state.old stuck.old }
+    ensures known { OnOk result (IsLawfulState state.new × AreStuckTasks state.new stuck.new) }
+    ensures taken { IfOk result (λ end. IsTaken false state.old (line_value line.now) state.new out.old.items out.new.items end) }
+{
+    let keeps = keeps_stuck_ahead(state, line);
+    if let Some(fault) = state.take_line(alloc, line)? {
+        return Ok(Err(fault));
+    }
+    let was = mem::replace(stuck, StuckTasks::none(alloc));
+    let (found, told) = told_change(alloc, out, state, line, was, keeps)?;
+    *stuck = found;
+    put_asked(alloc, out, state, stuck, line)?;
+    Ok(Ok(told))
 }
 
 impl KnownState {
@@ -129,14 +158,12 @@ impl KnownState {
     ) -> Result<Result<bool, FaultOfLine<'a>>, NoMemory>
         ensures { IfOk result (λ end. IsTaken false self.old (line_value line.now) self.new out.old.items out.new.items end) }
     {
-        let KnownState { mut state, stuck } = mem::replace(self, KnownState::new(alloc));
-        if let Some(fault) = state.take_line(alloc, line)? {
-            *self = KnownState { state, stuck };
-            return Ok(Err(fault));
+        match take_known(alloc, out, &mut self.state, &mut self.stuck, line) {
+            Ok(end) => Ok(end),
+            Err(wanting) => {
+                *self = KnownState::new(alloc);
+                Err(wanting)
+            }
         }
-        let (stuck, told) = told_change(alloc, out, &state, line, stuck)?;
-        put_asked(alloc, out, &state, &stuck, line)?;
-        *self = KnownState { state, stuck };
-        Ok(Ok(told))
     }
 }

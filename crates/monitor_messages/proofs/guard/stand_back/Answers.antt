@@ -11,5 +11,5 @@ returns c = λ s p n known.
     let stands : IsKnownBefore s (Announces t Stands place) c.args.was c.take_line.new.self =
     stands_known s t p n place c.args.was c.args.state.now c.take_line.new.self _ known c.in_ok-take_line.ensures.fault c.in_ok-take_line.ensures.taken
     in
-    let told = c.in_ok-stuck.ensures s stands in
+    let told = c.in_ok-stuck.ensures s stands (λ on. absurd (cc)) in
     (stands, told.0, (_, told.1))
