@@ -134,7 +134,13 @@ impl<'p> Origins<'p> {
         ensures { IfOk result (λ ops. ops.items ≡ op_origins program.now t.0) }
     {
         let mut ops = Vec::new(alloc);
-        push_of_task(MadeKind::AnOp, program, &self.statements, self.fork(t), &mut ops)?;
+        push_of_task(
+            MadeKind::AnOp,
+            program,
+            &self.statements,
+            self.fork(t),
+            &mut ops,
+        )?;
         Ok(ops)
     }
 

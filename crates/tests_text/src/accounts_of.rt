@@ -7,8 +7,8 @@ ghost use Rattle.pl_syntax.specs.Tree.{count};
 
 use armus_base::{NoMemory, Plan};
 use explain_facts::{
-    Account, Doing, NextOp, TaskAccount, Waiting, account_exists, account_of, forkers_fork, one_account,
-    statements_have_places, tasks_are_of_text,
+    Account, Doing, NextOp, TaskAccount, Waiting, account_exists, account_of, forkers_fork,
+    one_account, statements_have_places, tasks_are_of_text,
 };
 use pl_plan::{Unfolded, unfold};
 use pl_syntax::{Program, parse};

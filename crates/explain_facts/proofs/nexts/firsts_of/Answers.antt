@@ -32,7 +32,7 @@ ops-preserved c =
           (firsts_next c.args.ops c.args.i c.args.phasers c.in-Some.op c.ops.left c.next.new.self c.ops.at old new c.ops.invariant.so_far c.in-Some.ensures.some sized
           (subst
           (λ (xs : List (Option (Doing × ℕ))). (q : ℕ) → q < length xs →
-              slice_index_or new q None ≡ first_or (slice_index_or xs q None) (option_map (λ d. (d, c.ops.at)) (does_to q c.in-Some.op)))
+          slice_index_or new q None ≡ first_or (slice_index_or xs q None) (option_map (λ d. (d, c.ops.at)) (does_to q c.in-Some.op)))
           before c.note.ensures.noted));
     }
 
