@@ -1,7 +1,7 @@
 -- One more byte: what a listener has behind it.
-use Rattle.std.proofs.Common.{◌≡◌, ℕ, ◌<◌, ◌≤◌, false, ◌||◌, None, Some, List, [], ◌∷◌, ◌++◌, length, take, refl, sym, ◌∙◌, ap, subst, inl, inr, ◌⊎◌, arith, append-nil, append_assoc, length-append}
+use Rattle.std.proofs.Common.{◌≡◌, ℕ, zero, suc, ◌<◌, ◌≤◌, ◌-◌, false, ◌||◌, None, Some, List, [], ◌∷◌, ◌+◌, ◌++◌, length, take, refl, sym, ◌∙◌, ap, subst, inl, inr, ◌⊎◌, arith, append-nil, append_assoc, length-append}
 use Rattle.std.specs.Prelude.{min, nat_lt, ◌==◌}
-use Rattle.std.proofs.Math.Nat.{min-le_right}
+use Rattle.std.proofs.Math.Nat.{min-le_left, min-le_right}
 use Rattle.std.proofs.lemmas.Bool.{cond-true, cond-false, lt-ltb, le-ltb, or_parts}
 use Rattle.std.proofs.lemmas.List.{length-take, take_all, take-append-le}
 use Rattle.armus_base.proofs.Elements.{Contains-cons_cases}
@@ -33,18 +33,21 @@ kept_long line rest front long =
     let f = min-le_right 512 (length rest) in
     omega arith
 
--- a line with one more byte, which is no LF
-no_end_more : (rest : List ℕ) (b : ℕ) → has_line_end rest ≡ false → (b == 10) ≡ false → has_line_end (rest ++ b ∷ []) ≡ false
-no_end_more [] b none other = ap (λ x. x || false) other
-no_end_more (r ∷ rest) b none other =
+-- a line with more bytes, of which none is an LF
+pub no_end_more : (rest part : List ℕ) → has_line_end rest ≡ false → has_line_end part ≡ false → has_line_end (rest ++ part) ≡ false
+no_end_more [] part none other = other
+no_end_more (r ∷ rest) part none other =
     let parts = or_parts (r == 10) (has_line_end rest) none in
-    ap (λ x. x || has_line_end (rest ++ b ∷ [])) parts.0 ∙ no_end_more rest b parts.1 other
+    ap (λ x. x || has_line_end (rest ++ part)) parts.0 ∙ no_end_more rest part parts.1 other
 
-pub cut_more : (bytes : List ℕ) (lines : List (List ℕ)) (rest : List ℕ) (b : ℕ) → AreHeardLines bytes lines rest → (b == 10) ≡ false → AreHeardLines (bytes ++ b ∷ []) lines (rest ++ b ∷ [])
-cut_more bytes lines rest b cut other = record {
-  are = ap (λ l. l ++ b ∷ []) cut.are ∙ append_assoc (ended_lines lines) rest (b ∷ []);
+pub no_end_alone : (b : ℕ) → (b == 10) ≡ false → has_line_end (b ∷ []) ≡ false
+no_end_alone b other = ap (λ x. x || false) other
+
+pub cut_more : (bytes : List ℕ) (lines : List (List ℕ)) (rest part : List ℕ) → AreHeardLines bytes lines rest → has_line_end part ≡ false → AreHeardLines (bytes ++ part) lines (rest ++ part)
+cut_more bytes lines rest part cut other = record {
+  are = ap (λ l. l ++ part) cut.are ∙ append_assoc (ended_lines lines) rest part;
   whole = cut.whole;
-  open_end = no_end_more rest b cut.open_end other;
+  open_end = no_end_more rest part cut.open_end other;
 }
 
 -- the LF of a line
@@ -100,21 +103,39 @@ long_end_heard options bytes output h l long =
       front = refl;
     }
 
--- a byte of a line that is not too long with it
-pub byte_kept : (options : MonitorOptions) (bytes output : List ℕ) (h : Heard) (b : ℕ) (more : List ℕ) → more ≡ h.line ++ b ∷ [] → IsListening options bytes output h → (b == 10) ≡ false → length h.line < 511 → IsListening options (bytes ++ b ∷ []) (output ++ []) (record { run = h.run; line = more })
-byte_kept options bytes output h b more is l other short =
+-- bytes of a line that is not too long with them
+pub bytes_kept : (options : MonitorOptions) (bytes output : List ℕ) (h : Heard) (part more : List ℕ) → more ≡ h.line ++ part → IsListening options bytes output h → has_line_end part ≡ false → length h.line + length part < 512 → IsListening options (bytes ++ part) (output ++ []) (record { run = h.run; line = more })
+bytes_kept options bytes output h part more is l other short =
     let kept = kept_short h.line l.rest l.front (omega arith) in
-    let long = length-append l.rest (b ∷ []) in
+    let long = length-append l.rest part in
     let same = ap length kept.0 in
     record {
       lines = l.lines;
-      rest = l.rest ++ b ∷ [];
-      cut = cut_more bytes l.lines l.rest b l.cut other;
+      rest = l.rest ++ part;
+      cut = cut_more bytes l.lines l.rest part l.cut other;
       leads =
-          subst (IsMonitorRunOf options (called_lines l.lines (l.rest ++ b ∷ [])) h.run) (sym (append-nil output))
-          (subst (λ lines. IsMonitorRunOf options lines h.run output) (called_short l.lines l.rest kept.1 ∙ sym (called_short l.lines (l.rest ++ b ∷ []) (omega arith))) l.leads);
-      front = is ∙ ap (λ l. l ++ b ∷ []) kept.0 ∙ sym (take_all 512 (l.rest ++ b ∷ []) (omega arith));
+          subst (IsMonitorRunOf options (called_lines l.lines (l.rest ++ part)) h.run) (sym (append-nil output))
+          (subst (λ lines. IsMonitorRunOf options lines h.run output) (called_short l.lines l.rest kept.1 ∙ sym (called_short l.lines (l.rest ++ part) (omega arith))) l.leads);
+      front = is ∙ ap (λ l. l ++ part) kept.0 ∙ sym (take_all 512 (l.rest ++ part) (omega arith));
     }
+
+pub byte_kept : (options : MonitorOptions) (bytes output : List ℕ) (h : Heard) (b : ℕ) (more : List ℕ) → more ≡ h.line ++ b ∷ [] → IsListening options bytes output h → (b == 10) ≡ false → length h.line < 511 → IsListening options (bytes ++ b ∷ []) (output ++ []) (record { run = h.run; line = more })
+byte_kept options bytes output h b more is l other short = bytes_kept options bytes output h (b ∷ []) more is l (no_end_alone b other) (omega arith)
+
+-- there is room for these first bytes, or there are none
+pub room_for : (line bytes : List ℕ) (room count : ℕ) → room ≡ 511 - length line → count ≤ room → count ≤ length bytes → (length line + length (take count bytes) < 512) ⊎ (take count bytes ≡ [])
+room_for line bytes room zero is few within = inr refl
+room_for line bytes room (suc n) is few within =
+    inl (let long : length (take (suc n) bytes) ≡ min (suc n) (length bytes) = length-take (suc n) bytes in let most = min-le_left (suc n) (length bytes) in omega arith)
+
+-- some first bytes that have room, or none where there is none
+pub quiet_kept : (h : Heard) (part more : List ℕ) → more ≡ h.line ++ part → has_line_end part ≡ false → (length h.line + length part < 512) ⊎ (part ≡ []) → HearsBytes h part [] (record { run = h.run; line = more })
+quiet_kept h part more is none (inl short) options heard earlier l = bytes_kept options heard earlier h part more is l none short
+quiet_kept h part more is none (inr empty) options heard earlier l =
+    let same : more ≡ h.line = is ∙ ap (λ p. h.line ++ p) empty ∙ append-nil h.line in
+    subst (λ p. IsListening options (heard ++ p) (earlier ++ []) (record { run = h.run; line = more })) (sym empty)
+    (subst (λ line. IsListening options (heard ++ []) (earlier ++ []) (record { run = h.run; line = line })) (sym same)
+    (subst (λ bytes. IsListening options bytes (earlier ++ []) h) (sym (append-nil heard)) (subst (λ output. IsListening options heard output h) (sym (append-nil earlier)) l)))
 
 -- a byte by which a line is too long
 pub byte_too_many : (options : MonitorOptions) (bytes output : List ℕ) (h : Heard) (b : ℕ) (more : List ℕ) (run : MonitorRun) (message : List ℕ) → more ≡ h.line ++ b ∷ [] → IsListening options bytes output h → (b == 10) ≡ false → length h.line ≡ 511 → IsNextRun h.run more run message → IsListening options (bytes ++ b ∷ []) (output ++ message) (record { run = run; line = more })
@@ -125,7 +146,7 @@ byte_too_many options bytes output h b more run message is l other full next =
     record {
       lines = l.lines;
       rest = l.rest ++ b ∷ [];
-      cut = cut_more bytes l.lines l.rest b l.cut other;
+      cut = cut_more bytes l.lines l.rest (b ∷ []) l.cut (no_end_alone b other);
       leads =
           subst (λ lines. IsMonitorRunOf options lines run (output ++ message)) (sym (called_long l.lines (l.rest ++ b ∷ []) (omega arith))) (
             h.run,
@@ -147,7 +168,7 @@ byte_passed options bytes output h b l other long =
     record {
       lines = l.lines;
       rest = l.rest ++ b ∷ [];
-      cut = cut_more bytes l.lines l.rest b l.cut other;
+      cut = cut_more bytes l.lines l.rest (b ∷ []) l.cut (no_end_alone b other);
       leads =
           subst (IsMonitorRunOf options (called_lines l.lines (l.rest ++ b ∷ [])) h.run) (sym (append-nil output))
           (subst (λ lines. IsMonitorRunOf options lines h.run output) (sym (called_long l.lines (l.rest ++ b ∷ []) behind))

@@ -6,7 +6,7 @@ use Rattle.std.proofs.lemmas.List.{reverse-append, reverse-reverse}
 use Rattle.armus_base.proofs.Elements.{Contains-head, Contains-tail, nothing_in_nil}
 use Rattle.monitor.specs.HeardLines.{AreHeardLines, ended_lines, has_line_end}
 use Rattle.monitor.specs.Laws.{HasOneCut, HasSomeCut}
-use Rattle.monitor.proofs.Bytes.{cut_end, cut_more}
+use Rattle.monitor.proofs.Bytes.{cut_end, cut_more, no_end_alone}
 
 -- an LF behind some bytes
 ends_behind : (front rest : List ℕ) → has_line_end (front ++ 10 ∷ rest) ≡ true
@@ -76,7 +76,7 @@ cut_of (b ∷ back) = by_byte (cases_Bool (b == 10)) (cut_of back)
     by_byte (inl end) (lines, rest, cut) =
         (rest ∷ lines, [], subst (λ x. AreHeardLines x (rest ∷ lines) []) (ap (λ x. reverse back ++ x ∷ []) (sym (eqb-true b 10 end)) ∙ sym turned) (cut_end (reverse back) lines rest cut))
     by_byte (inr other) (lines, rest, cut) =
-        (lines, rest ++ b ∷ [], subst (λ x. AreHeardLines x lines (rest ++ b ∷ [])) (sym turned) (cut_more (reverse back) lines rest b cut other))
+        (lines, rest ++ b ∷ [], subst (λ x. AreHeardLines x lines (rest ++ b ∷ [])) (sym turned) (cut_more (reverse back) lines rest (b ∷ []) cut (no_end_alone b other)))
 
 pub has_some_cut : HasSomeCut
 has_some_cut bytes = let found = cut_of (reverse bytes) in (found.0, found.1, subst (λ x. AreHeardLines x found.0 found.1) (reverse-reverse bytes) found.2)

@@ -1,6 +1,7 @@
--- A piece of a trace, byte by byte.
-use Rattle.std.proofs.Common.{◌≡◌, ℕ, ◌<◌, ◌+◌, List, [], ◌∷◌, ◌++◌, length, take, drop, get_or, sym, ◌∙◌, ap, subst, append-nil, append_assoc}
-use Rattle.std.proofs.lemmas.List.{take_more, take-append-drop}
+-- A piece of a trace, part by part.
+use Rattle.std.proofs.Common.{◌≡◌, ℕ, ◌<◌, ◌+◌, ◌-◌, List, [], ◌∷◌, ◌++◌, length, take, drop, get_or, sym, ◌∙◌, ap, subst, append-nil, append_assoc, arith}
+use Rattle.std.proofs.Math.Seq.{take-add}
+use Rattle.std.proofs.lemmas.List.{length-drop, take_all, take_more, take-append-drop}
 use Rattle.monitor.specs.Transfers.{Transfer, bytes_written}
 use Rattle.monitor.specs.inside.Listening.{Heard, HearsBytes, StopsHearing}
 use Rattle.monitor.proofs.Bytes.{hears_more}
@@ -36,3 +37,13 @@ stops_before old now piece i log heard = record {
   between = now;
   hears = subst (λ output. HearsBytes old (take i piece) output now) (sym (append-nil (bytes_written log))) heard;
 }
+
+-- first bytes of the rest that call for nothing
+pub quiet_more : (old now new : Heard) (piece : List ℕ) (i count : ℕ) (log : List Transfer) → HearsBytes old (take i piece) (bytes_written log) now → HearsBytes now (take count (take (length piece - i) (drop i piece))) [] new →
+    HearsBytes old (take (i + count) piece) (bytes_written log) new
+quiet_more old now new piece i count log heard hears =
+    let long = length-drop i piece in
+    let rest : take (length piece - i) (drop i piece) ≡ drop i piece = take_all (length piece - i) (drop i piece) (omega arith) in
+    subst (λ bytes. HearsBytes old bytes (bytes_written log) new) (sym (take-add i count piece))
+    (subst (λ output. HearsBytes old (take i piece ++ take count (drop i piece)) output new) (append-nil (bytes_written log))
+    (hears_more old now new (take i piece) (take count (drop i piece)) (bytes_written log) [] heard (subst (λ (l : List ℕ). HearsBytes now (take count l) [] new) rest hears)))

@@ -34,13 +34,22 @@ pub(crate) fn hear_piece<P: Port>(
     ensures cause { IfErr result (λ e. HasHearCause e (P.write_faults port.old) (P.write_faults port.new)) }
     ensures other { P.read_faults port.new ≡ P.read_faults port.old }
 {
-    for byte in piece {
-        if let Err(NoMemory) = listener.hear_byte(alloc, out, *byte) {
+    let mut at = 0;
+    while at < piece.len() {
+        match listener.hear_quiet(&piece[at..]) {
+            Err(NoMemory) => return Err(HearFault::NoMemory),
+            Ok(count) => at += count,
+        }
+        if at == piece.len() {
+            return Ok(());
+        }
+        if let Err(NoMemory) = listener.hear_byte(alloc, out, piece[at]) {
             return Err(HearFault::NoMemory);
         }
         if let Err(WriteFault) = write_called(port, out) {
             return Err(HearFault::WriteFailed);
         }
+        at += 1;
     }
     Ok(())
 }

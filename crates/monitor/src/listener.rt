@@ -1,7 +1,7 @@
 // A listener: what is known behind the bytes that came, and the line that is not whole yet.
-ghost use Rattle.std.specs.Prelude.{◌≡◌, ◌∷◌, [], ◌++◌, List, ℕ, OnOk};
+ghost use Rattle.std.specs.Prelude.{◌≡◌, ◌≤◌, ◌∷◌, [], ◌++◌, List, ℕ, IfOk, OnOk, false, length, take};
 ghost use Rattle.monitor_messages.specs.Runs.{MonitorOptions, run_begun};
-ghost use Rattle.monitor.specs.HeardLines.{HasHeardAll};
+ghost use Rattle.monitor.specs.HeardLines.{HasHeardAll, has_line_end};
 ghost use Rattle.monitor.specs.inside.Listening.{HearsBytes, IsListening};
 
 use armus_base::NoMemory;
@@ -27,6 +27,23 @@ impl Model for Listener {
     ghost view = { λ l. record { run = l.monitor; line = l.line.items } };
 }
 
+// How many of these bytes stand in front of their first LF, as far as there is room for them.
+fn quiet_count(bytes: &[u8], room: usize) -> usize
+    ensures room { result ≤ room }
+    ensures within { result ≤ length bytes.now }
+    ensures quiet { has_line_end (take result bytes.now) ≡ false }
+{
+    for (count, byte) in bytes.iter().enumerate() {
+        if count == room {
+            return count;
+        }
+        if *byte == b'\n' {
+            return count;
+        }
+    }
+    bytes.len()
+}
+
 impl Listener {
     /// Before the first byte.
     pub(crate) fn new(alloc: Global, guards: bool, keeps_going: bool) -> Listener
@@ -43,6 +60,17 @@ impl Listener {
         ensures { result.now ≡ self.now.run }
     {
         &self.monitor
+    }
+
+    /// Hears first bytes of these that call for nothing, and answers how many: at most those in front of the first LF.
+    pub(crate) fn hear_quiet(&mut self, bytes: &[u8]) -> Result<usize, NoMemory>
+        ensures within { IfOk result (λ count. count ≤ length bytes.now) }
+        ensures heard { IfOk result (λ count. HearsBytes self.old (take count bytes.now) [] self.new) }
+    {
+        let room = (KEPT_BYTES - 1).saturating_sub(self.line.len());
+        let count = quiet_count(bytes, room);
+        self.line.extend_from_slice(&bytes[..count])?;
+        Ok(count)
     }
 
     // Hears the end of a line; one that is too long was heard before.
