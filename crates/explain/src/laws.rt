@@ -1,11 +1,17 @@
 // Laws of the outputs of a text, as contracts of functions with an empty body.
 ghost use Rattle.explain.specs.ClockExplained.{AnswersClock};
-ghost use Rattle.explain.specs.Outputs.{AnswersAvoided, AnswersEither, AnswersStepsOf};
+ghost use Rattle.explain.specs.Outputs.{AnswersAvoided, AnswersEither, AnswersStepsOf, AnswersText};
 ghost use Rattle.explain.specs.ShownShort.{IsShownShort};
 ghost use Rattle.explain.specs.calls.Laws.{EachHasOutput, IsOneOutput};
 
-/// A text of either language has one whole output at most, with one status; and it has one: it is explained, or refused.
+/// A text of PL has one whole output at most, with one status; and it has one: it is explained, or refused.
 pub fn one_output()
+    ensures one { IsOneOutput AnswersText }
+    ensures exists { EachHasOutput AnswersText }
+{}
+
+/// A text of either language has one whole output at most, with one status; and it has one: it is explained in its language, or refused.
+pub fn one_either_output()
     ensures one { IsOneOutput AnswersEither }
     ensures exists { EachHasOutput AnswersEither }
 {}

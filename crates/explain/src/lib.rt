@@ -16,6 +16,9 @@ mod shortened;
 mod top;
 
 pub use answer::WantedOutput;
-pub use laws::{one_avoided_output, one_clock_output, one_output, one_steps_output, shown_short};
+pub use laws::{
+    one_avoided_output, one_clock_output, one_either_output, one_output, one_steps_output,
+    shown_short,
+};
 pub use request::{Request, request_of};
 pub use top::explain;

@@ -68,12 +68,12 @@ fn explain_source<S: Source, K: Sink>(
 ///
 /// Where the words ask for an explanation, it reads a text of at most `MAX_TEXT_BYTES` bytes from `src`, which is the file that the words name, or else
 /// standard input. It runs the text's plan to its end, writes the explanation of how its tasks stand there to `out`, and answers 0 where no task waits and 1
-/// where one does. Where they ask for steps, it writes a line for each of the first steps of the serial plain run before; such a text may be one of clocks.
-/// Where they ask for the run that avoids deadlock, it explains each refusal of it, and answers 1 also where somebody was refused. Where they ask for clocks,
-/// the text is one of clocks, and it explains how its activities stand. Of a text that is refused, or too long, it writes why and where, and answers 3. It
-/// writes the lines of help or of the version and answers 0, where the words ask for them, and for all other words the line of usage, and answers 2; nothing
-/// is read then. Of an explanation it shows at most 60 lines, unless the words ask for all of it. It answers 4 and 5 where the source or the sink failed, and 6 for want of memory; after 4 and 6 nothing was written, and after 5 at most
-/// first bytes were.
+/// where one does. Where they ask for steps, it writes a line for each of the first steps of the serial plain run before. With both, a text that begins as one
+/// of clocks, or whose file is named so, is read as one, and it explains how its activities stand; where the words ask for clocks, each text is. Where they ask
+/// for the run that avoids deadlock, it explains each refusal of it, and answers 1 also where somebody was refused. Of a text that is refused, or too long, it
+/// writes why and where, and answers 3. It writes the lines of help or of the version and answers 0, where the words ask for them, and for all other words the
+/// line of usage, and answers 2; nothing is read then. Of an explanation it shows at most 60 lines, unless the words ask for all of it. It answers 4 and 5 where
+/// the source or the sink failed, and 6 for want of memory; after 4 and 6 nothing was written, and after 5 at most first bytes were.
 pub fn explain<S: Source, K: Sink>(alloc: Global, words: &[String], src: &mut S, out: &mut K) -> u8
     ensures call { IsExplainCall (asked (map string_bytes words.now)) (passage S.left S.faults src.old src.new) (passage K.taken K.faults out.old out.new)
         (src.new ≡ src.old) (out.new ≡ out.old) result }

@@ -1,5 +1,6 @@
-use Rattle.explain.proofs.EitherOutput.{each_text_has_output, one_either_output}
+use Rattle.explain.proofs.EachText.{each_text_is_met}
+use Rattle.explain.proofs.OneOutput.{one_output as one_proved}
 use Rattle.explain.proofs.laws.one_output.Goals as goal
 
 pub returns : goal.returns
-returns c = record { one = one_either_output; exists = each_text_has_output }
+returns c = record { one = one_proved; exists = each_text_is_met }
