@@ -164,6 +164,29 @@ fn cycle_of(
 }
 
 impl ImpederWalk {
+    // Whether a few looks that begin at task t itself tell that it is not dead. Who is found not to be dead on the way is marked.
+    fn tells_alive(&mut self, world: &World, t: TaskId, event: Event) -> bool
+        requires task { t.0 < length world.now.plan.parents }
+        requires phaser { event.p.0 < length world.now.plan.makers }
+        requires alive { AreAlive (supposed_statuses world.now t.0 event) (length world.now.plan.parents) self.old.alive.items }
+        ensures marked { AreAlive (supposed_statuses world.now t.0 event) (length world.now.plan.parents) self.new.alive.items }
+        ensures told { result ≡ true → IsDeadBy (supposed_statuses world.now t.0 event) t.0 → ⊥ }
+    {
+        let _plan = world.plan();
+        let mut at = t;
+        for _ in 0..MOST_LOOKS {
+            if let Some(next) = next_of(world, &self.alive, at, t, event) {
+                at = next;
+            } else if at.0 == t.0 {
+                return true;
+            } else {
+                self.alive[at.0 as usize] = true;
+                at = t;
+            }
+        }
+        false
+    }
+
     // The walk begins anew, at the least published task that may be dead; false only where nobody is dead.
     fn begin(&mut self, alloc: Global, world: &World, t: TaskId, event: Event) -> bool
         requires task { t.0 < length world.now.plan.parents }
@@ -222,7 +245,8 @@ impl ImpederWalk {
 }
 
 /// What walks tell of task `t`, were it published on the event, in a world where nobody is dead: the cycle of the statuses where it is dead by them, and no
-/// cycle where it is not. None where the walks are longer than what is looked at: the impeders of at most twelve tasks are looked for.
+/// cycle where it is not. None where the walks are longer than what is looked at: the impeders of at most twelve tasks are looked for from the task itself, which
+/// tells of most tasks that they are not dead, and as many again from the least task that may be dead, where the cycle of a refusal begins.
 pub(crate) fn told_by_walks(
     alloc: Global,
     world: &World,
@@ -241,7 +265,7 @@ pub(crate) fn told_by_walks(
         path: Vec::new(alloc),
         at: t,
     };
-    if !walk.begin(alloc, world, t, event) {
+    if walk.tells_alive(world, t, event) || !walk.begin(alloc, world, t, event) {
         return Ok(Some(None));
     }
     for _ in 0..MOST_LOOKS {

@@ -6,6 +6,7 @@ ghost use Rattle.pl_core.specs.calls.Stands.{IsEnabled};
 ghost use Rattle.world_runs.specs.calls.RecordedRuns.{IsRecordedRun};
 ghost use Rattle.world_runs.specs.inside.Turns.{left_in};
 
+use crate::journal_turns::go_in_order;
 use crate::live_task::LiveTask;
 use crate::{RoundWorkers, RunOptions};
 use armus_base::{Final, Gate, List, NoMemory, Plan, TaskId};
@@ -45,10 +46,13 @@ fn run_named<N: PlanName, R: Threads + Wait + Sync, G: Gate>(
 {
     let shared: LockedWorld<'_, N> = LockedWorld::start(alloc, plan)?;
     go_by_rounds(rt, alloc, &shared, plan, workers, gate)?;
-    finish(alloc, shared.into_logged())
+    let mut logged = shared.into_logged();
+    go_in_order(alloc, &mut logged, gate)?;
+    finish(alloc, logged)
 }
 
-// Rounds of turns until one in which nobody makes a step: each other round makes one, and a plan has at most two for each op.
+// Rounds of turns of several workers, until one has work for one worker alone, or nobody makes a step: each other round makes one, and a plan has at most two
+// for each op.
 fn go_by_rounds<N: PlanName, R: Threads + Wait + Sync, G: Gate>(
     rt: &R,
     alloc: Global,
@@ -64,13 +68,11 @@ fn go_by_rounds<N: PlanName, R: Threads + Wait + Sync, G: Gate>(
     tasks.push(LiveTask::new(TaskId(0), plan))?;
     let mut round_workers = RoundWorkers::new();
     for _ in 0..=u64::from(plan.ops()) * 2 {
-        take_turns(
-            rt,
-            shared,
-            gate,
-            round_workers.workers(workers),
-            tasks.as_mut_slice(),
-        )?;
+        let some = round_workers.workers(workers);
+        if some < 2 {
+            break;
+        }
+        take_turns(rt, shared, gate, some, tasks.as_mut_slice())?;
         let made = steps_of(tasks.as_slice());
         if made == 0 {
             break;

@@ -5,6 +5,7 @@
 
 mod ending;
 mod journal;
+mod journal_turns;
 mod laws;
 mod live_task;
 mod next_step;

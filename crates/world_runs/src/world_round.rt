@@ -97,8 +97,13 @@ fn turn<S: NextStep, G: Gate>(
     Ok(moved)
 }
 
-// Of what kind the next step of a task is, if it may go on; before an op, and before an await that an order is asked for, it calls the gate.
-fn next_kind<G: Gate>(world: &World, t: TaskId, gate: &G, keeps_order: bool) -> Option<StepKind>
+/// Of what kind the next step of a task is, if it may go on; before an op, and before an await that an order is asked for, it calls the gate.
+pub(crate) fn next_kind<G: Gate>(
+    world: &World,
+    t: TaskId,
+    gate: &G,
+    keeps_order: bool,
+) -> Option<StepKind>
     requires task { t.0 < length world.now.plan.parents }
     ensures kind { MatchOption result (IsEnabled world.now t.0 → ⊥) (λ kind. IsEnabled world.now t.0 × IsOfKind world.now t.0 kind) }
     ensures checked { IsCheckedPlan world.now.plan }
