@@ -10,3 +10,4 @@ pub mod AtLevels
 pub mod Placing
 pub mod Passing
 pub mod LevelPlaces
+pub mod Played

@@ -5,7 +5,9 @@ ghost use Rattle.monitor_words.specs.Stops.{IsFirstCircle};
 ghost use Rattle.monitor_search.specs.Known.{has_stuck_number};
 ghost use Rattle.monitor_reasons.specs.Found.{participant_at};
 ghost use Rattle.monitor_reasons.specs.inside.Listings.{listing};
+ghost use Rattle.monitor_state.specs.NumberedLists.{AreAscending};
 ghost use Rattle.monitor_reasons.specs.inside.Distances.{AreLevels, AreSearched, IsFoundCircle, IsFirstNext, IsCircleWalk, distance_at, is_distance, is_next, level_at};
+ghost use Rattle.monitor_reasons.specs.inside.PhaserPlaces.{HaveWildcardPlaces, places_numbered};
 
 use crate::distances::{FoundDistances, distances_to};
 use crate::phaser_places::phaser_places;
@@ -25,21 +27,37 @@ fn is_distance(distance: Option<usize>, n: usize) -> bool
     }
 }
 
+// The places of the wildcards that the task with this number alone may play.
+fn played_by<'p>(found: &FoundDistances<'p>, number: u64) -> &'p [usize]
+    ensures { result.now ≡ places_numbered found.now.wildcards.now number }
+{
+    match found.wildcards.get(&number) {
+        None => &[],
+        Some(group) => group,
+    }
+}
+
 // Whether the task at u has the distance n and stops the one at t.
 fn is_next(
     list: &[ListedParticipant],
     stuck: &StuckTasks,
-    distances: &[Option<usize>],
+    found: &FoundDistances,
     n: usize,
     t: usize,
     u: usize,
 ) -> bool
-    requires long { length distances.now ≡ length list.now }
+    requires long { length found.now.distances.items ≡ length list.now }
+    requires ascending { AreAscending list.now }
+    requires wildcards { HaveWildcardPlaces list.now (places_numbered found.now.wildcards.now) }
     requires from { t < length list.now }
     requires to { u < length list.now }
-    ensures { result ≡ is_next (listing list.now) (has_stuck_number stuck.now) distances.now n t u }
+    ensures { result ≡ is_next (listing list.now) (has_stuck_number stuck.now) found.now.distances.items n t u }
 {
-    is_distance(distances[u], n) && stops(list, stuck, &list[u], &list[t])
+    if !is_distance(found.distances[u], n) {
+        return false;
+    }
+    let played = played_by(found, list[u].number());
+    stops(list, stuck, played, u, t)
 }
 
 // The places of a level, where there is one.
@@ -56,20 +74,22 @@ fn level_at(levels: &[Vec<usize>], n: usize) -> &[usize]
 fn next_place(
     list: &[ListedParticipant],
     stuck: &StuckTasks,
-    distances: &[Option<usize>],
+    found: &FoundDistances,
     n: usize,
     t: usize,
     level: &[usize],
 ) -> Option<usize>
-    requires long { length distances.now ≡ length list.now }
+    requires long { length found.now.distances.items ≡ length list.now }
+    requires ascending { AreAscending list.now }
+    requires wildcards { HaveWildcardPlaces list.now (places_numbered found.now.wildcards.now) }
     requires from { t < length list.now }
-    requires all { (u : ℕ) → u < length list.now → distance_at distances.now u ≡ Some n → Contains level.now u }
-    ensures at { IfSome result (IsFirstNext (listing list.now) (has_stuck_number stuck.now) distances.now n t) }
-    ensures none { IfNone result ((u : ℕ) → u < length list.now → is_next (listing list.now) (has_stuck_number stuck.now) distances.now n t u ≡ false) }
+    requires all { (u : ℕ) → u < length list.now → distance_at found.now.distances.items u ≡ Some n → Contains level.now u }
+    ensures at { IfSome result (IsFirstNext (listing list.now) (has_stuck_number stuck.now) found.now.distances.items n t) }
+    ensures none { IfNone result ((u : ℕ) → u < length list.now → is_next (listing list.now) (has_stuck_number stuck.now) found.now.distances.items n t u ≡ false) }
 {
     let mut first = list.len();
     for u in level {
-        if *u < first && is_next(list, stuck, distances, n, t, *u) {
+        if *u < first && is_next(list, stuck, found, n, t, *u) {
             first = *u;
         }
     }
@@ -91,6 +111,7 @@ fn walk(
     requires place { task < length state.now.list }
     requires searched { AreSearched state.now (has_stuck_number stuck.now) task found.now.distances.items }
     requires levels { AreLevels task found.now.distances.items found.now.levels.items }
+    requires wildcards { HaveWildcardPlaces state.now.list (places_numbered found.now.wildcards.now) }
     requires distance { distance_at found.now.distances.items task ≡ Some distance }
     ensures circle { IfOk result (λ places. IsFirstCircle state.now (has_stuck_number stuck.now) (participant_at state.now.list task) (map (participant_at state.now.list) places.items)) }
     ensures places { IfOk result (λ places. All (λ i. i < length state.now.list) places.items) }
@@ -102,7 +123,7 @@ fn walk(
     while left > 0 {
         let level = level_at(&found.levels, left);
         left -= 1;
-        match next_place(list, stuck, &found.distances, left, last, level) {
+        match next_place(list, stuck, found, left, last, level) {
             None => unreachable!(),
             Some(next) => {
                 places.push(next)?;

@@ -1,11 +1,15 @@
 // Who stops whom.
-ghost use Rattle.std.specs.Prelude.{◌≡◌, ◌&&◌, ◌==◌, Contains};
+ghost use Rattle.std.specs.Prelude.{◌≡◌, ◌<◌, ◌&&◌, ◌==◌, ℕ, Contains, true, false, length};
 ghost use Rattle.std.specs.List.{list_any};
 ghost use Rattle.monitor_laws.specs.Stuck.{has_phase_below};
-ghost use Rattle.monitor_words.specs.Stops.{impedes_wait, keeps_waiting, lone_task, stands_for, stops, waited_for};
+ghost use Rattle.monitor_words.specs.Stops.{impedes_wait, keeps_waiting, lone_task, stands_for, waited_for};
+ghost use Rattle.monitor_state.specs.NumberedLists.{AreAscending};
 ghost use Rattle.monitor_state.specs.Values.{condition_value};
 ghost use Rattle.monitor_search.specs.Known.{has_stuck_number};
+ghost use Rattle.monitor_reasons.specs.Found.{participant_at};
+ghost use Rattle.monitor_reasons.specs.inside.Distances.{stops_at};
 ghost use Rattle.monitor_reasons.specs.inside.Listings.{is_one_word, listing};
+ghost use Rattle.monitor_reasons.specs.inside.PhaserPlaces.{ArePlayedBy};
 
 use monitor_search::StuckTasks;
 use monitor_state::{ListedCondition, ListedParticipant};
@@ -81,23 +85,57 @@ fn keeps_for(w: &ListedParticipant, u: &ListedParticipant, t: &ListedParticipant
     stands_for(w, u) && keeps_waiting(w, t)
 }
 
-// Whether somebody of the list who stands for u of it keeps t waiting; mostly u itself does.
-fn is_kept_for(list: &[ListedParticipant], u: &ListedParticipant, t: &ListedParticipant) -> bool
-    requires { Contains list.now u.now }
-    ensures { result ≡ list_any (λ w. stands_for w u.now && keeps_waiting w t.now) list.now }
+// Whether who stands at this place stands for the task at u, and keeps the one at t waiting.
+fn keeps_at(list: &[ListedParticipant], place: usize, u: usize, t: usize) -> bool
+    requires from { t < length list.now }
+    requires to { u < length list.now }
+    ensures on { result ≡ true → list_any (λ w. stands_for w (participant_at list.now u) && keeps_waiting w (participant_at list.now t)) list.now ≡ true }
+    ensures off { result ≡ false → place < length list.now → (stands_for (participant_at list.now place) (participant_at list.now u) && keeps_waiting (participant_at list.now place) (participant_at list.now t)) ≡ false }
 {
-    keeps_waiting(u, t) || list.iter().any(|w| keeps_for(w, u, t))
+    place < list.len() && keeps_for(&list[place], &list[u], &list[t])
 }
 
-/// Whether task u of the list stops t: it is stuck, and somebody of the list who stands for it keeps t waiting.
+// Whether somebody at these places stands for the task at u, and keeps the one at t waiting.
+fn some_keeps_for(list: &[ListedParticipant], places: &[usize], u: usize, t: usize) -> bool
+    requires from { t < length list.now }
+    requires to { u < length list.now }
+    ensures on { result ≡ true → list_any (λ w. stands_for w (participant_at list.now u) && keeps_waiting w (participant_at list.now t)) list.now ≡ true }
+    ensures off { result ≡ false → (i : ℕ) → Contains places.now i → i < length list.now → (stands_for (participant_at list.now i) (participant_at list.now u) && keeps_waiting (participant_at list.now i) (participant_at list.now t)) ≡ false }
+{
+    for place in places {
+        if keeps_at(list, *place, u, t) {
+            return true;
+        }
+    }
+    false
+}
+
+// Whether somebody of the list who stands for the task at u keeps the one at t waiting. The wildcards of the one at u stand at these places; mostly it keeps t
+// waiting itself.
+fn is_kept_for(list: &[ListedParticipant], played: &[usize], u: usize, t: usize) -> bool
+    requires from { t < length list.now }
+    requires to { u < length list.now }
+    requires ascending { AreAscending list.now }
+    requires played { ArePlayedBy list.now (participant_at list.now u).number played.now }
+    ensures { result ≡ list_any (λ w. stands_for w (participant_at list.now u) && keeps_waiting w (participant_at list.now t)) list.now }
+{
+    keeps_waiting(&list[u], &list[t]) || some_keeps_for(list, played, u, t)
+}
+
+/// Whether the task at u stops the one at t: it is stuck, and somebody of the list who stands for it keeps the one at t waiting. The wildcards of the one at u
+/// stand at these places.
 pub(crate) fn stops(
     list: &[ListedParticipant],
     stuck: &StuckTasks,
-    u: &ListedParticipant,
-    t: &ListedParticipant,
+    played: &[usize],
+    u: usize,
+    t: usize,
 ) -> bool
-    requires { Contains list.now u.now }
-    ensures { result ≡ stops (listing list.now) (has_stuck_number stuck.now) u.now t.now }
+    requires from { t < length list.now }
+    requires to { u < length list.now }
+    requires ascending { AreAscending list.now }
+    requires played { ArePlayedBy list.now (participant_at list.now u).number played.now }
+    ensures { result ≡ stops_at (listing list.now) (has_stuck_number stuck.now) u t }
 {
-    stuck.has_number(u.number()) && is_kept_for(list, u, t)
+    stuck.has_number(list[u].number()) && is_kept_for(list, played, u, t)
 }

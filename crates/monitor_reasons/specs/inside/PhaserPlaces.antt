@@ -26,6 +26,10 @@ places_numbered groups k = places_in_group (get_by (λ j. k == j) groups)
 abbrev pub HaveWaitingPlaces : List Participant → (List ℕ → List ℕ) → Type 0
 HaveWaitingPlaces us group = (i : ℕ) (q : List ℕ) (n : ℕ) → i < length us → (participant_at us i).condition ≡ Waiting q n → Contains (group q) i
 
+-- each wildcard that the task with this number alone may play stands at one of these places
+abbrev pub ArePlayedBy : List Participant → ℕ → List ℕ → Type 0
+ArePlayedBy us k places = (i : ℕ) → i < length us → list_any (λ j. j == k) (lone_task (participant_at us i).condition) ≡ true → Contains places i
+
 -- each wildcard that one task alone may play stands at a place under the number of that task
 abbrev pub HaveWildcardPlaces : List Participant → (ℕ → List ℕ) → Type 0
 HaveWildcardPlaces us group = (i k : ℕ) → i < length us → list_any (λ j. j == k) (lone_task (participant_at us i).condition) ≡ true → Contains (group k) i

@@ -8,11 +8,11 @@ use Rattle.monitor_reasons.proofs.circles.next_place.Goals as goal
 use Rattle.monitor_reasons.proofs.circles.next_place.Goals.{then-u-first+then-is_next, else-u-first, else-u-first-via-then-u-first+else-is_next, else-u-first-via-else-u-first}
 
 pub loop-u-init : goal.loop-u-init
-loop-u-init c = least_of_none (λ k. is_next (listing c.args.list.now) (has_stuck_number c.args.stuck.now) c.args.distances.now c.args.n c.args.t k) (length c.args.list.now)
+loop-u-init c = least_of_none (λ k. is_next (listing c.args.list.now) (has_stuck_number c.args.stuck.now) c.args.found.now.distances.items c.args.n c.args.t k) (length c.args.list.now)
 
 pub loop-u-preserved : goal.loop-u-preserved
 loop-u-preserved c =
-    let p : ℕ → Bool = λ k. is_next (listing c.args.list.now) (has_stuck_number c.args.stuck.now) c.args.distances.now c.args.n c.args.t k in
+    let p : ℕ → Bool = λ k. is_next (listing c.args.list.now) (has_stuck_number c.args.stuck.now) c.args.found.now.distances.items c.args.n c.args.t k in
     let most = length c.args.list.now in
     let level = c.args.level.now in
     let i = c.loop-u.u-index in
@@ -28,20 +28,20 @@ loop-u-preserved c =
 
 pub returns-then-first-list-clause-at : goal.returns-then-first-list-clause-at
 returns-then-first-list-clause-at c =
-    let p : ℕ → Bool = λ k. is_next (listing c.args.list.now) (has_stuck_number c.args.stuck.now) c.args.distances.now c.args.n c.args.t k in
+    let p : ℕ → Bool = λ k. is_next (listing c.args.list.now) (has_stuck_number c.args.stuck.now) c.args.found.now.distances.items c.args.n c.args.t k in
     let listed : c.loop-u.first < length c.args.list.now = search rules in
     let past : length c.args.level.now ≤ c.loop-u.u-index = search rules in
     let least = subst (λ l. IsLeastOf p (length c.args.list.now) l c.loop-u.first) (take_all c.loop-u.u-index c.args.level.now past) c.loop-u.invariant in
     record {
       within = listed;
       goes = least.1 listed;
-      first = none_first (listing c.args.list.now) (has_stuck_number c.args.stuck.now) c.args.distances.now c.args.n c.args.t c.loop-u.first c.args.level.now c.requires.all least;
+      first = none_first (listing c.args.list.now) (has_stuck_number c.args.stuck.now) c.args.found.now.distances.items c.args.n c.args.t c.loop-u.first c.args.level.now c.requires.all least;
     }
 
 pub returns-clause-none : goal.returns-clause-none
 returns-clause-none c = λ u within.
-    let p : ℕ → Bool = λ k. is_next (listing c.args.list.now) (has_stuck_number c.args.stuck.now) c.args.distances.now c.args.n c.args.t k in
+    let p : ℕ → Bool = λ k. is_next (listing c.args.list.now) (has_stuck_number c.args.stuck.now) c.args.found.now.distances.items c.args.n c.args.t k in
     let all : length c.args.list.now ≤ c.loop-u.first = search rules in
     let past : length c.args.level.now ≤ c.loop-u.u-index = search rules in
     let least = subst (λ l. IsLeastOf p (length c.args.list.now) l c.loop-u.first) (take_all c.loop-u.u-index c.args.level.now past) c.loop-u.invariant in
-    none_first (listing c.args.list.now) (has_stuck_number c.args.stuck.now) c.args.distances.now c.args.n c.args.t c.loop-u.first c.args.level.now c.requires.all least u (omega arith)
+    none_first (listing c.args.list.now) (has_stuck_number c.args.stuck.now) c.args.found.now.distances.items c.args.n c.args.t c.loop-u.first c.args.level.now c.requires.all least u (omega arith)

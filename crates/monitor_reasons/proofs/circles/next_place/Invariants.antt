@@ -7,4 +7,4 @@ use Rattle.monitor_reasons.proofs.circles.next_place.Given as goal
 
 -- the first of those so far that is next
 abbrev pub invariant-loop-u : goal.invariant-loop-u
-invariant-loop-u l = IsLeastOf (λ k. is_next (listing l.list) (has_stuck_number l.stuck) l.distances l.n l.t k) (length l.list) (take l.u-index l.level) l.first
+invariant-loop-u l = IsLeastOf (λ k. is_next (listing l.list) (has_stuck_number l.stuck) l.found.distances.items l.n l.t k) (length l.list) (take l.u-index l.level) l.first

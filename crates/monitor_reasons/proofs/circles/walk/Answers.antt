@@ -1,18 +1,20 @@
-use Rattle.std.proofs.Common.{◌≡◌, ℕ, suc, ◌<◌, ◌-◌, ◌++◌, false, Option, Some, List, [], ◌∷◌, length, sym, ◌∙◌, ap, subst, append_assoc, arith}
+use Rattle.std.proofs.Common.{◌≡◌, ℕ, suc, ◌<◌, ◌-◌, ◌++◌, false, Some, List, [], ◌∷◌, length, sym, ◌∙◌, ap, subst, append_assoc, arith}
 use Rattle.std.proofs.lemmas.Bool.{true≢false}
 use Rattle.std.specs.Prelude.{All, Contains}
 use Rattle.std.specs.Global.{Vec}
 use Rattle.std.proofs.lemmas.List.{append-nil}
 use Rattle.std.proofs.lemmas.List.Elements.{All-push}
 use Rattle.monitor_laws.specs.States.{Participant}
+use Rattle.monitor_state.specs.NumberedLists.{AreAscending}
 use Rattle.monitor_search.specs.Known.{has_stuck_number}
-use Rattle.monitor_reasons.specs.inside.Distances.{IsCircleWalk, IsFirstNext, distance_at, is_next, level_at}
+use Rattle.monitor_reasons.specs.inside.Distances.{IsCircleWalk, is_next, level_at}
 use Rattle.monitor_reasons.specs.inside.Listings.{listing}
+use Rattle.monitor_reasons.specs.inside.PhaserPlaces.{HaveWildcardPlaces, places_numbered}
 use Rattle.monitor_reasons.proofs.FirstWalks.{has_next, next_is, next_listed, walk_is_first_circle}
 use Rattle.monitor_reasons.proofs.circles.walk.Goals as goal
 
 pub next_place-requires-clause-long : goal.next_place-requires-clause-long
-next_place-requires-clause-long c = ap length c.deref-in-loop-left.ensures.value ∙ c.requires.searched.known.long ∙ ap length (sym c.participants-list.ensures.list)
+next_place-requires-clause-long c = c.requires.searched.known.long ∙ ap length (sym c.participants-list.ensures.list)
 
 pub next_place-requires-clause-all : goal.next_place-requires-clause-all
 next_place-requires-clause-all c = λ u within is.
@@ -26,7 +28,14 @@ next_place-requires-clause-all c = λ u within is.
     in
     let listed : u < length c.args.found.now.distances.items = (let long = c.requires.searched.known.long in let same = ap length c.participants-list.ensures.list in omega arith) in
     subst (λ (l : List ℕ). Contains l u) here
-    (c.requires.levels.have u (left - 1) listed (ap (λ (l : List (Option ℕ)). distance_at l u) (sym c.deref-in-loop-left.ensures.value) ∙ is) (omega arith))
+    (c.requires.levels.have u (left - 1) listed is (omega arith))
+
+pub next_place-requires-clause-ascending : goal.next_place-requires-clause-ascending
+next_place-requires-clause-ascending c = subst AreAscending (sym c.participants-list.ensures.list) c.participants-list.ensures.ascending
+
+pub next_place-requires-clause-wildcards : goal.next_place-requires-clause-wildcards
+next_place-requires-clause-wildcards c =
+    subst (λ (us : List Participant). HaveWildcardPlaces us (places_numbered c.args.found.now.wildcards.now)) (sym c.participants-list.ensures.list) c.requires.wildcards
 
 pub unreachable-requires : goal.unreachable-requires
 unreachable-requires c =
@@ -39,9 +48,8 @@ unreachable-requires c =
     has_next s stuck c.args.task c.requires.searched.bound distances c.requires.searched.known (left - 1) c.loop-left.last c.loop-left.invariant.1
     (c.loop-left.invariant.2 ∙ ap (λ (k : ℕ). Some k) more) in
     let none =
-    subst (λ (l : List (Option ℕ)). (u : ℕ) → u < length s.list → is_next (listing s.list) stuck l (left - 1) c.loop-left.last u ≡ false) c.deref-in-loop-left.ensures.value
-    (subst (λ (us : List Participant). (u : ℕ) → u < length us → is_next (listing us) stuck c.deref-in-loop-left.result.now (left - 1) c.loop-left.last u ≡ false)
-    c.participants-list.ensures.list c.in-None.ensures.none) in
+    subst (λ (us : List Participant). (u : ℕ) → u < length us → is_next (listing us) stuck distances (left - 1) c.loop-left.last u ≡ false)
+    c.participants-list.ensures.list c.in-None.ensures.none in
     true≢false (sym m.2 ∙ none m.0 m.1)
 
 pub loop-left-preserved : goal.loop-left-preserved
@@ -53,8 +61,7 @@ loop-left-preserved c =
     let more : suc (left - 1) ≡ left = omega (arith, c.loop-left-test.true) in
     let list = c.participants-list.result.now in
     let next =
-    next_listed s stuck distances (left - 1) c.loop-left.last c.in-Some.next list c.participants-list.ensures.list
-    (subst (λ (l : List (Option ℕ)). IsFirstNext (listing list) stuck l (left - 1) c.loop-left.last c.in-Some.next) c.deref-in-loop-left.ensures.value c.in-Some.ensures.at) in
+    next_listed s stuck distances (left - 1) c.loop-left.last c.in-Some.next list c.participants-list.ensures.list c.in-Some.ensures.at in
     let pushed = c.in_ok-push-in-Some.ensures.items in (
       (let few = c.loop-left.invariant.0 in omega arith),
       next.within,

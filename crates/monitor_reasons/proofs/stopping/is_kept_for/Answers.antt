@@ -1,16 +1,23 @@
-use Rattle.std.proofs.Common.{◌==◌, ◌&&◌, sym, ◌∙◌, refl, eq-eqb}
-use Rattle.std.specs.List.{list_any}
-use Rattle.std.proofs.lemmas.Bool.{and_from}
-use Rattle.monitor_laws.proofs.Filters.{any_from}
-use Rattle.monitor_words.specs.Stops.{keeps_waiting, lone_task, stands_for}
-use Rattle.monitor_reasons.proofs.Levels.{or_left}
+use Rattle.std.proofs.Common.{◌≡◌, false, [], subst, sym, ◌∙◌, inl, inr}
+use Rattle.std.proofs.lemmas.Bool.{cases_Bool}
+use Rattle.std.proofs.lemmas.List.{get_or_read}
+use Rattle.monitor_laws.specs.States.{Participant, new_participant}
+use Rattle.monitor_words.specs.Stops.{keeps_waiting}
+use Rattle.monitor_reasons.specs.Found.{participant_at}
+use Rattle.monitor_reasons.proofs.Played.{nobody_keeps}
 use Rattle.monitor_reasons.proofs.stopping.is_kept_for.Goals as goal
 
-pub returns-then-keeps_waiting : goal.returns-then-keeps_waiting
-returns-then-keeps_waiting c =
-    let u = c.args.u.now in
-    let t = c.args.t.now in
-    c.if-keeps_waiting.true
-    ∙ sym (any_from (λ w. stands_for w u && keeps_waiting w t) c.args.list.now u c.requires
-    (and_from (stands_for u u) (keeps_waiting u t) (or_left (u.number == u.number) (list_any (λ k. k == u.number) (lone_task u.condition)) (eq-eqb u.number u.number refl))
-    (sym c.keeps_waiting.ensures ∙ c.if-keeps_waiting.true)))
+pub returns-else-keeps_waiting : goal.returns-else-keeps_waiting
+returns-else-keeps_waiting c =
+    let list = c.args.list.now in
+    let u = c.args.u in
+    let t = c.args.t in
+    let u_is = get_or_read list u c.index-list-u.result c.requires.to c.index-list-u.is (new_participant 0 []) in
+    let t_is = get_or_read list t c.index-list-t.result c.requires.from c.index-list-t.is (new_participant 0 []) in
+    let itself =
+    subst (λ (x : Participant). keeps_waiting x (participant_at list t) ≡ false) u_is
+    (subst (λ (x : Participant). keeps_waiting c.index-list-u.result x ≡ false) t_is (sym c.keeps_waiting.ensures ∙ c.if-keeps_waiting.false)) in
+    elim (cases_Bool c.some_keeps_for.result) [
+      | inl some ↦ some ∙ sym (c.some_keeps_for.ensures.on some)
+      | inr nobody ↦ nobody ∙ sym (nobody_keeps list u t c.requires.to c.requires.ascending c.args.played.now c.requires.played itself (c.some_keeps_for.ensures.off nobody))
+    ]
