@@ -19,7 +19,7 @@ use Rattle.explain.specs.Shortened.{displayed}
 
 pub end_avoided : (form : Form) (text : Text) (p : Program) (plan : Plan) (r : AvoidedRun) (run : IsRunWithRefusals form.file text p plan r) → IsText text p
     → plan_of p ≡ Ok plan → (account : Account) (x : AvoidedExplanation) (status : ℕ) (lines : Text) → IsAccountOf text r.world.plan (places_of r.world) account
-    → IsExplainedRun form.file text account r x → lines ≡ displayed form.all x.lines → status ≡ (if x.somebody_stays then 1 else 0) → IsAvoidedOf form text status lines
+    → IsExplainedRun form.file text account r x → lines ≡ displayed 3 form.extent x.lines → status ≡ (if x.somebody_stays then 1 else 0) → IsAvoidedOf form text status lines
 end_avoided form text p plan r run reads unfolds account x status lines is_account is lines_are status_is = record {
   plan = plan;
   plan_is = (p, record { reads = reads; unfolds = unfolds });

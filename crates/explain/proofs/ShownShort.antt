@@ -1,4 +1,4 @@
--- Of an explanation at most 60 lines are shown, where not all of it is wanted.
+-- How many lines of an explanation are shown at most.
 use Rattle.std.proofs.Common.{◌≡◌, ◌∙◌, ◌⊎◌, ℕ, suc, ◌+◌, ◌-◌, ◌<◌, ◌≤◌, ◌^◌, ◌%◌, Bool, true, false, List, [], ◌∷◌, ◌++◌, cond, if◌then◌else◌, length, take, drop, arith, ap, inl, inr, refl, subst, sym, zero}
 use Rattle.std.specs.Prelude.{◌==◌, ◌&&◌, codes, decimal, eqb, nat_lt}
 use Rattle.std.specs.List.{starts_with}
@@ -8,8 +8,8 @@ use Rattle.std.proofs.lemmas.List.{length-drop, length-take, nil_from_length}
 use Rattle.std.proofs.lemmas.List.Sums.{sum_by-append}
 use Rattle.source_map.specs.TextPlaces.{is_line_feed}
 use Rattle.program_io.specs.Texts.{Text}
-use Rattle.explain.specs.Shortened.{are_few_paragraphs, displayed_byte, displayed_bytes, displayed_up_to, ends_paragraph, is_hint, last_line_begin, last_passing, left_out_line, line_total, narrowed_from, paragraph_bytes, room_behind, shortened, shortened_long, shortened_to}
-use Rattle.explain.specs.ShownShort.{IsShownShort}
+use Rattle.explain.specs.Shortened.{are_few_paragraphs, displayed_byte, displayed_bytes, displayed_up_to, ends_paragraph, is_hint, last_line_begin, last_passing, left_out_line, line_total, narrowed_from, paragraph_bytes, room_behind, shortened, shortened_long, shortened_to, summary}
+use Rattle.explain.specs.ShownShort.{IsShownBrief, IsShownShort}
 use Rattle.explain.proofs.Fronts.{ended_by, one_line}
 
 both_lines : (xs ys : Text) → line_total (xs ++ ys) ≡ line_total xs + line_total ys
@@ -135,4 +135,15 @@ shortened_few whole small = by (nat_lt 60 (line_total whole)) refl
         ]
 
 pub shown_short : IsShownShort
-shown_short whole small = (let lines = narrowed_lines 500 (shortened whole) in let few = shortened_few whole small in omega (arith, lines, few))
+shown_short heads whole small = (let lines = narrowed_lines 500 (shortened whole) in let few = shortened_few whole small in omega (arith, lines, few))
+
+pub shown_brief : IsShownBrief
+shown_brief heads whole =
+    let paragraphs = take (paragraph_bytes whole) whole in
+    let hint = drop (paragraph_bytes whole) whole in
+    let k = displayed_bytes (suc heads) paragraphs in
+    let lines = narrowed_lines 500 (summary heads whole) in
+    let both = both_lines (take k paragraphs) hint in
+    let front = front_few (suc heads) paragraphs k (omega arith) (last_passes (are_few_paragraphs (suc heads) paragraphs) (length paragraphs)) in
+    let one = hint_is_short whole in
+    omega (arith, lines, both, front, one)

@@ -24,15 +24,16 @@ use Rattle.explain.specs.Avoided.{IsToldAvoided}
 use Rattle.explain.specs.ClockExplained.{AreToldActivities}
 use Rattle.explain.specs.Explained.{IsToldAt}
 use Rattle.explain.specs.Requests.{Form}
+use Rattle.explain.specs.declared.extent.Extent.{Extent}
 use Rattle.explain.specs.Shortened.{IsDisplayed, displayed}
 
 -- one explanation is shown in one way
-one_display : (all : Bool) (x y : Text) (lines others : Text) → x ≡ y → lines ≡ displayed all x → others ≡ displayed all y → lines ≡ others
-one_display all x y lines others same is are = is ∙ ap (displayed all) same ∙ sym are
+one_display : (heads : ℕ) (extent : Extent) (x y : Text) (lines others : Text) → x ≡ y → lines ≡ displayed heads extent x → others ≡ displayed heads extent y → lines ≡ others
+one_display heads extent x y lines others same is are = is ∙ ap (displayed heads extent) same ∙ sym are
 
 -- all of it, or its first lines, can be shown
-pub is_displayed : (all : Bool) (Tells : Text → Type 0) (whole : Text) → Tells whole → IsDisplayed all Tells (displayed all whole)
-is_displayed all Tells whole tells = record { whole = whole; tells = tells; lines_are = refl }
+pub is_displayed : (heads : ℕ) (extent : Extent) (Tells : Text → Type 0) (whole : Text) → Tells whole → IsDisplayed heads extent Tells (displayed heads extent whole)
+is_displayed heads extent Tells whole tells = record { whole = whole; tells = tells; lines_are = refl }
 
 -- ---- texts of PL
 
@@ -40,15 +41,15 @@ pub one_told : (form : Form) (text : Text) (plan : Plan) (a : ℕ → Place) (li
     → IsToldAt form text plan a others also → (lines ≡ others) × (waits ≡ also)
 one_told form text plan a lines others waits also x y =
     let same = one_explanation form.file text plan a x.whole y.whole waits also x.tells y.tells in
-    (one_display form.all x.whole y.whole lines others same.0 x.lines_are y.lines_are, same.1)
+    (one_display 2 form.extent x.whole y.whole lines others same.0 x.lines_are y.lines_are, same.1)
 
 pub told_exists : (form : Form) (text : Text) (p : Program) (plan : Plan) (steps : List Step) → IsText text p → plan_of p ≡ Ok plan → IsLegalRun plan steps
     → IsMaximal plan steps → (lines : Text) × (waits : Bool) × IsToldAt form text plan (places steps) lines waits
 told_exists form text p plan steps reads unfolds run maximal =
     let (whole, waits, explains) = explanation_exists form.file text p plan steps reads unfolds run maximal in (
-      displayed form.all whole,
+      displayed 2 form.extent whole,
       waits,
-      is_displayed form.all (λ (lines : Text). IsExplanationAt form.file text plan (places steps) lines waits) whole explains,
+      is_displayed 2 form.extent (λ (lines : Text). IsExplanationAt form.file text plan (places steps) lines waits) whole explains,
     )
 
 -- ---- runs that avoid deadlock
@@ -57,15 +58,15 @@ pub one_told_avoided : (form : Form) (text : Text) (plan : Plan) (steps : List S
     → IsToldAvoided form text plan steps others also → (lines ≡ others) × (stays ≡ also)
 one_told_avoided form text plan steps lines others stays also x y =
     let same = one_avoided_explanation form.file text plan steps x.whole y.whole stays also x.tells y.tells in
-    (one_display form.all x.whole y.whole lines others same.0 x.lines_are y.lines_are, same.1)
+    (one_display 3 form.extent x.whole y.whole lines others same.0 x.lines_are y.lines_are, same.1)
 
 pub told_avoided_exists : (form : Form) (text : Text) (p : Program) (plan : Plan) (steps : List Step) → IsText text p → plan_of p ≡ Ok plan
     → IsSerialAvoidedEnd plan steps → (lines : Text) × (stays : Bool) × IsToldAvoided form text plan steps lines stays
 told_avoided_exists form text p plan steps reads unfolds ended =
     let (whole, stays, explains) = avoided_explanation_exists form.file text p plan steps reads unfolds ended in (
-      displayed form.all whole,
+      displayed 3 form.extent whole,
       stays,
-      is_displayed form.all (λ (lines : Text). IsAvoidedExplanation form.file text plan steps lines stays) whole explains,
+      is_displayed 3 form.extent (λ (lines : Text). IsAvoidedExplanation form.file text plan steps lines stays) whole explains,
     )
 
 -- ---- clock texts
@@ -74,13 +75,13 @@ pub one_told_clock : (form : Form) (text : Text) (p : ClockTree) (u : ClockUnfol
     → AreToldActivities form text p u plan a lines waits → AreToldActivities form text p u plan a others also → (lines ≡ others) × (waits ≡ also)
 one_told_clock form text p u plan a lines others waits also x y =
     let same = one_clock_explanation form.file text p u plan a x.whole y.whole waits also x.tells y.tells in
-    (one_display form.all x.whole y.whole lines others same.0 x.lines_are y.lines_are, same.1)
+    (one_display 2 form.extent x.whole y.whole lines others same.0 x.lines_are y.lines_are, same.1)
 
 pub told_clock_exists : (form : Form) (text : Text) (p : ClockTree) (u : ClockUnfolding) (plan : Plan) (a : ℕ → Place) → IsClockText text p → clock_unfolded p ≡ Ok u
     → plan ≡ plan_of_moves u → (lines : Text) × (waits : Bool) × AreToldActivities form text p u plan a lines waits
 told_clock_exists form text p u plan a reads unfolds plan_is =
     let (whole, waits, explains) = clock_explanation_exists form.file text p u plan a reads unfolds plan_is in (
-      displayed form.all whole,
+      displayed 2 form.extent whole,
       waits,
-      is_displayed form.all (λ (lines : Text). ExplainsActivities form.file text p u plan a lines waits) whole explains,
+      is_displayed 2 form.extent (λ (lines : Text). ExplainsActivities form.file text p u plan a lines waits) whole explains,
     )

@@ -14,7 +14,7 @@ use Rattle.explain.specs.Shortened.{IsDisplayed}
 
 -- the lines show, in this form, the explanation of these steps of the text's plan, a run that avoids deadlock, and it tells whether somebody was refused or waits
 abbrev pub IsToldAvoided : Form → Text → Plan → List Step → Text → Bool → Type 0
-IsToldAvoided form text plan steps lines stays = IsDisplayed form.all (λ whole. IsAvoidedExplanation form.file text plan steps whole stays) lines
+IsToldAvoided form text plan steps lines stays = IsDisplayed 3 form.extent (λ whole. IsAvoidedExplanation form.file text plan steps whole stays) lines
 
 -- The lines explain the serial avoided run of a text, told in this form: its refusals, and how its tasks stand where it has ended; and the
 -- status is 1 where by them somebody was refused or waits for ever, else 0.

@@ -28,7 +28,7 @@ pub record IsMaximalClockRun (text : Text) (program : ClockTree) (unfolded : Clo
 
 -- the lines show, in this form, the explanation of how the activities stand at these places of the plan of the program's unfolding, and it tells whether one waits
 abbrev pub AreToldActivities : Form → Text → ClockTree → ClockUnfolding → Plan → (ℕ → Place) → Text → Bool → Type 0
-AreToldActivities form text p u plan a lines waits = IsDisplayed form.all (λ whole. ExplainsActivities form.file text p u plan a whole waits) lines
+AreToldActivities form text p u plan a lines waits = IsDisplayed 2 form.extent (λ whole. ExplainsActivities form.file text p u plan a whole waits) lines
 
 -- the lines explain how the activities stand where a run of the clock text, told in this form, has ended; and the status is 1 where one
 -- of them waits, else 0

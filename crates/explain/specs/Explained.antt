@@ -12,7 +12,7 @@ use Rattle.explain.specs.Shortened.{IsDisplayed}
 
 -- the lines show, in this form, the explanation of how the tasks of the text's plan stand at these places, and it tells whether somebody waits for ever
 abbrev pub IsToldAt : Form → Text → Plan → (ℕ → Place) → Text → Bool → Type 0
-IsToldAt form text plan a lines waits = IsDisplayed form.all (λ whole. IsExplanationAt form.file text plan a whole waits) lines
+IsToldAt form text plan a lines waits = IsDisplayed 2 form.extent (λ whole. IsExplanationAt form.file text plan a whole waits) lines
 
 -- these steps are a run of the text's plan up to its end: a plain one that is maximal
 pub record IsEndedRunOf (text : Text) (plan : Plan) (steps : List Step) : Type 0 where

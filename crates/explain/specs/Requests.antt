@@ -3,11 +3,13 @@ use Rattle.std.specs.Prelude.{Bool, true, false, not, ◌==◌, if◌then◌else
 use Rattle.std.specs.Str.{bytes_eq}
 use Rattle.pl_syntax.specs.Printed.{line}
 use Rattle.program_io.specs.Texts.{Text}
+use Rattle.explain.specs.declared.extent.Extent.{Extent}
+use Rattle.explain.specs.declared.extent.Extent.TheVariants.{Whole, Usual, Short}
 
--- in which form a text is told of: the name of its file, if it comes from one, and whether all of its explanation is wanted
+-- in which form a text is told of: the name of its file, if it comes from one, and how much of its explanation is shown
 pub record Form : Type 0 where
   pub file : Option Text
-  pub all : Bool
+  pub extent : Extent
 
 -- what may be asked for: to explain a text, in this form; to show the steps of its run before; to explain its run that avoids deadlock; to explain a clock text;
 -- the lines of help; the line of the version; or nothing
@@ -26,41 +28,43 @@ names_file [] = false
 names_file (first ∷ more) = not (first == 45)
 
 -- the form of a text of this file, or of standard input
-abbrev pub form_of : Bool → Option Text → Form
-form_of all file = record { file = file; all = all }
+abbrev pub form_of : Extent → Option Text → Form
+form_of extent file = record { file = file; extent = extent }
 
 -- what a word asks for that stands where the file is named of which this is wanted
-abbrev pub file_asked : Bool → (Form → Asked) → Text → Asked
-file_asked all wanted word = if names_file word then wanted (form_of all (Some word)) else nothing
+abbrev pub file_asked : Extent → (Form → Asked) → Text → Asked
+file_asked extent wanted word = if names_file word then wanted (form_of extent (Some word)) else nothing
 
 -- what one word asks for
-abbrev pub word_asked : Bool → Text → Asked
-word_asked all word =
-    if bytes_eq word (codes "run") then explanation (form_of all None)
-    else (if bytes_eq word (codes "steps") then steps (form_of all None)
-    else (if bytes_eq word (codes "avoid") then avoided (form_of all None)
-    else (if bytes_eq word (codes "clock") then clocks (form_of all None)
+abbrev pub word_asked : Extent → Text → Asked
+word_asked extent word =
+    if bytes_eq word (codes "run") then explanation (form_of extent None)
+    else (if bytes_eq word (codes "steps") then steps (form_of extent None)
+    else (if bytes_eq word (codes "avoid") then avoided (form_of extent None)
+    else (if bytes_eq word (codes "clock") then clocks (form_of extent None)
     else (if bytes_eq word (codes "--help") then help
-    else (if bytes_eq word (codes "--version") then version else file_asked all explanation word)))))
+    else (if bytes_eq word (codes "--version") then version else file_asked extent explanation word)))))
 
--- what the words ask for, behind --all or without it
-abbrev pub asked_so : Bool → List Text → Asked
-asked_so all [] = explanation (form_of all None)
-asked_so all (word ∷ []) = word_asked all word
-asked_so all (word ∷ file ∷ []) =
-    if bytes_eq word (codes "run") then file_asked all explanation file else (if bytes_eq word (codes "steps") then file_asked all steps file
-    else (if bytes_eq word (codes "avoid") then file_asked all avoided file
-    else (if bytes_eq word (codes "clock") then file_asked all clocks file else nothing)))
-asked_so all words = nothing
+-- what the words ask for, behind --all or --short, or without them
+abbrev pub asked_so : Extent → List Text → Asked
+asked_so extent [] = explanation (form_of extent None)
+asked_so extent (word ∷ []) = word_asked extent word
+asked_so extent (word ∷ file ∷ []) =
+    if bytes_eq word (codes "run") then file_asked extent explanation file else (if bytes_eq word (codes "steps") then file_asked extent steps file
+    else (if bytes_eq word (codes "avoid") then file_asked extent avoided file
+    else (if bytes_eq word (codes "clock") then file_asked extent clocks file else nothing)))
+asked_so extent words = nothing
 
 -- what the words ask for
 abbrev pub asked : List Text → Asked
-asked [] = asked_so false []
-asked (word ∷ words) = if bytes_eq word (codes "--all") then asked_so true words else asked_so false (word ∷ words)
+asked [] = asked_so Usual []
+asked (word ∷ words) =
+    if bytes_eq word (codes "--all") then asked_so Whole words
+    else (if bytes_eq word (codes "--short") then asked_so Short words else asked_so Usual (word ∷ words))
 
 -- the line of usage
 abbrev pub explain_usage_line : Text
-explain_usage_line = line (codes "usage: armus_explain [--all] [run|steps|avoid|clock] [FILE]")
+explain_usage_line = line (codes "usage: armus_explain [--all|--short] [run|steps|avoid|clock] [FILE]")
 
 -- the lines of help
 abbrev pub help_lines : Text
@@ -76,7 +80,7 @@ help_lines =
     ++ line (codes "worker that avoids deadlock, and which deadlock each of them would have closed.")
     ++ line (codes "With clock it reads any text as one of clocks.")
     ++ line (codes "Of an explanation at most 60 lines are shown, and at most 499 bytes of each line;")
-    ++ line (codes "with --all in front all of it is.")
+    ++ line (codes "with --all in front all of it is, and with --short its first lines and its hint.")
     ++ line (codes "A text that is refused gets the place of its first fault and what is wrong there.")
     ++ line (codes "Status: 0 nobody waits for ever, 1 somebody does or is refused, 2 other words,")
     ++ line (codes "3 the text is refused, 4 it cannot be read, 5 it cannot be written, 6 no memory.")

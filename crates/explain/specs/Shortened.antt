@@ -4,6 +4,8 @@ use Rattle.std.specs.List.{starts_with}
 use Rattle.pl_syntax.specs.Printed.{line}
 use Rattle.source_map.specs.TextPlaces.{is_line_feed}
 use Rattle.program_io.specs.Texts.{Text}
+use Rattle.explain.specs.declared.extent.Extent.{Extent}
+use Rattle.explain.specs.declared.extent.Extent.TheVariants.{Whole, Usual, Short}
 
 -- how many lines these bytes have, of which each ends with a line feed
 abbrev pub line_total : Text → ℕ
@@ -86,13 +88,22 @@ abbrev pub narrowed_from : ℕ → Text → Text
 narrowed_from room [] = []
 narrowed_from room (byte ∷ rest) = displayed_byte room byte ++ narrowed_from (room_behind room byte) rest
 
--- what is shown of an explanation, of which all is wanted or not
-abbrev pub displayed : Bool → Text → Text
-displayed true whole = whole
-displayed false whole = narrowed_from 500 (shortened whole)
+-- what is shown of these paragraphs and this hint, where little is asked for: so many lines in front of the paragraphs, and the hint
+abbrev pub summary_to : ℕ → Text → Text → Text
+summary_to heads paragraphs hint = take (displayed_bytes (suc heads) paragraphs) paragraphs ++ hint
 
--- the lines show what is told so, all of it or not
-pub record IsDisplayed (all : Bool) (Tells : Text → Type 0) (lines : Text) : Type 0 where
+-- the lines in front of the paragraphs of an explanation, which are so many, and its hint
+abbrev pub summary : ℕ → Text → Text
+summary heads whole = summary_to heads (take (paragraph_bytes whole) whole) (drop (paragraph_bytes whole) whole)
+
+-- what is shown of an explanation that has so many lines in front of its paragraphs
+abbrev pub displayed : ℕ → Extent → Text → Text
+displayed heads Whole whole = whole
+displayed heads Usual whole = narrowed_from 500 (shortened whole)
+displayed heads Short whole = narrowed_from 500 (summary heads whole)
+
+-- the lines show what is told so, with so many lines in front of its paragraphs, to this extent
+pub record IsDisplayed (heads : ℕ) (extent : Extent) (Tells : Text → Type 0) (lines : Text) : Type 0 where
   pub whole : Text
   pub tells : Tells whole
-  pub lines_are : lines ≡ displayed all whole
+  pub lines_are : lines ≡ displayed heads extent whole

@@ -10,6 +10,7 @@ ghost use Rattle.explain.specs.calls.Requested.{file_bytes, form_with};
 use crate::answer::{Answer, AnswerEnd, ClockWanted, PlWanted, WantedOutput};
 use crate::checked_text::CheckedText;
 use crate::clocks::answer_clocks;
+use crate::extent::Extent;
 use crate::language::is_of_clocks;
 use crate::refusing::{refuse_check, refuse_length, refuse_syntax};
 use armus_base::{NoMemory, ReadEnd, Source, read_all};
@@ -23,7 +24,7 @@ use std::alloc::Global;
 fn answer_program(
     alloc: Global,
     wanted: PlWanted,
-    all: bool,
+    extent: Extent,
     places: TextPlaces,
     file: Option<&[u8]>,
     program: &Program,
@@ -31,14 +32,14 @@ fn answer_program(
     requires short { length places ≤ MAX_TEXT_BYTES }
     requires few { count program.now.body ≤ length places }
     requires reads { IsText places program.now }
-    ensures answers { IfOk result (IsPlAnswerTo wanted (form_with file.entry all) places.entry) }
+    ensures answers { IfOk result (IsPlAnswerTo wanted (form_with file.entry extent) places.entry) }
 {
     match unfold(alloc, program) {
         Ok(unfolded) => {
             let checked = CheckedText {
                 places: &places,
                 file,
-                all,
+                extent,
                 program,
                 unfolded,
             };
@@ -54,16 +55,16 @@ fn answer_program(
 fn answer_pl(
     alloc: Global,
     wanted: PlWanted,
-    all: bool,
+    extent: Extent,
     file: Option<&[u8]>,
     text: &[u8],
 ) -> Result<Answer, NoMemory>
     requires short { length text.now ≤ MAX_TEXT_BYTES }
-    ensures answers { IfOk result (IsPlAnswerTo wanted (form_with file.entry all) text.now) }
+    ensures answers { IfOk result (IsPlAnswerTo wanted (form_with file.entry extent) text.now) }
 {
     let places = TextPlaces::new(alloc, text)?;
     match parse(alloc, text) {
-        Ok(program) => answer_program(alloc, wanted, all, places, file, &program),
+        Ok(program) => answer_program(alloc, wanted, extent, places, file, &program),
         Err(ParseEnd::Syntax(fault)) => refuse_syntax(alloc, text, &places, file, fault),
         Err(ParseEnd::NoMemory) => Err(NoMemory),
     }
@@ -73,30 +74,30 @@ fn answer_pl(
 fn answer_text(
     alloc: Global,
     wanted: WantedOutput,
-    all: bool,
+    extent: Extent,
     file: Option<&[u8]>,
     text: &[u8],
 ) -> Result<Answer, NoMemory>
     requires short { length text.now ≤ MAX_TEXT_BYTES }
-    ensures answers { IfOk result (IsAnswerTo wanted (form_with file.entry all) text.now) }
+    ensures answers { IfOk result (IsAnswerTo wanted (form_with file.entry extent) text.now) }
 {
     match wanted {
         WantedOutput::Explanation => {
             if is_of_clocks(file, text) {
-                answer_clocks(alloc, ClockWanted::Explanation, all, file, text)
+                answer_clocks(alloc, ClockWanted::Explanation, extent, file, text)
             } else {
-                answer_pl(alloc, PlWanted::Explanation, all, file, text)
+                answer_pl(alloc, PlWanted::Explanation, extent, file, text)
             }
         }
         WantedOutput::Steps => {
             if is_of_clocks(file, text) {
-                answer_clocks(alloc, ClockWanted::Steps, all, file, text)
+                answer_clocks(alloc, ClockWanted::Steps, extent, file, text)
             } else {
-                answer_pl(alloc, PlWanted::Steps, all, file, text)
+                answer_pl(alloc, PlWanted::Steps, extent, file, text)
             }
         }
-        WantedOutput::Avoided => answer_pl(alloc, PlWanted::Avoided, all, file, text),
-        WantedOutput::Clocks => answer_clocks(alloc, ClockWanted::Explanation, all, file, text),
+        WantedOutput::Avoided => answer_pl(alloc, PlWanted::Avoided, extent, file, text),
+        WantedOutput::Clocks => answer_clocks(alloc, ClockWanted::Explanation, extent, file, text),
     }
 }
 
@@ -104,16 +105,16 @@ fn answer_text(
 pub(crate) fn answer_source<S: Source>(
     alloc: Global,
     wanted: WantedOutput,
-    all: bool,
+    extent: Extent,
     file: Option<&[u8]>,
     src: &mut S,
 ) -> Result<Answer, AnswerEnd>
-    ensures answers { IfOk result (AnswersSource wanted (form_with file.entry all) (passage S.left S.faults src.old src.new)) }
+    ensures answers { IfOk result (AnswersSource wanted (form_with file.entry extent) (passage S.left S.faults src.old src.new)) }
     ensures ends { IfErr result (EndsUnanswered (passage S.left S.faults src.old src.new)) }
 {
     match read_all(alloc, src, MAX_TEXT_BYTES) {
         Ok(text) => {
-            let answer = answer_text(alloc, wanted, all, file, text.as_slice())?;
+            let answer = answer_text(alloc, wanted, extent, file, text.as_slice())?;
             Ok(answer)
         }
         Err(ReadEnd::TooLong) => {

@@ -11,7 +11,8 @@ ghost use Rattle.explain.specs.inside.Checked.{IsCheckedClocks};
 ghost use Rattle.explain.specs.inside.Ending.{IsClockAnswerTo};
 
 use crate::answer::{Answer, ClockWanted, with_steps};
-use crate::shortened::displayed;
+use crate::extent::Extent;
+use crate::shortened::{HEADS, displayed};
 use armus_base::{Final, NoMemory, Plan};
 use clock_pl::ClockProgram;
 use explain_clock::{ClockExplanation, clock_explanation_of};
@@ -29,8 +30,8 @@ pub(crate) struct CheckedClocks<'t> {
     pub(crate) places: &'t TextPlaces<'t>,
     /// The name of its file, if it comes from one.
     pub(crate) file: Option<&'t [u8]>,
-    /// Whether all of its explanation is wanted.
-    pub(crate) all: bool,
+    /// How much of its explanation is shown.
+    pub(crate) extent: Extent,
     /// Its program.
     pub(crate) program: &'t ClockProgram,
     /// The plan to which the program unfolds.
@@ -49,7 +50,7 @@ impl<'t> CheckedClocks<'t> {
         requires plan { world.now.plan ≡ self.now.plan }
         requires end { end.now ≡ final_of self.now.plan (state_of world.now) }
         ensures { IfOk result (λ e. (u : ClockUnfolding) → clock_unfolded self.now.program.now.body ≡ Ok u →
-            AreToldActivities (form_with self.now.file self.now.all) self.now.places.now self.now.program.now.body u world.now.plan (places_of world.now) e.lines e.has_waiting) }
+            AreToldActivities (form_with self.now.file self.now.extent) self.now.places.now self.now.program.now.body u world.now.plan (places_of world.now) e.lines e.has_waiting) }
     {
         let explanation = clock_explanation_of(
             alloc,
@@ -60,7 +61,7 @@ impl<'t> CheckedClocks<'t> {
             end,
         )?;
         Ok(ClockExplanation {
-            lines: displayed(alloc, self.all, explanation.lines)?,
+            lines: displayed(alloc, HEADS, self.extent, explanation.lines)?,
             has_waiting: explanation.has_waiting,
         })
     }
@@ -68,7 +69,7 @@ impl<'t> CheckedClocks<'t> {
     // Its explanation.
     fn explain(&self, alloc: Global) -> Result<Answer, NoMemory>
         requires known { IsCheckedClocks self.now }
-        ensures explains { IfOk result (λ a. IsClockExplanationOf (form_with self.now.file self.now.all) self.now.places.now (number_of_status a.status) a.lines) }
+        ensures explains { IfOk result (λ a. IsClockExplanationOf (form_with self.now.file self.now.extent) self.now.places.now (number_of_status a.status) a.lines) }
     {
         let ended = run_to_world(alloc, &self.plan)?;
         let explanation = self.standing(alloc, &ended.world, &ended.end)?;
@@ -81,7 +82,7 @@ impl<'t> CheckedClocks<'t> {
     // The steps of its run, and behind them its explanation.
     fn steps(&self, alloc: Global) -> Result<Answer, NoMemory>
         requires known { IsCheckedClocks self.now }
-        ensures steps { IfOk result (λ a. AreClockStepsOf (form_with self.now.file self.now.all) self.now.places.now (number_of_status a.status) a.lines) }
+        ensures steps { IfOk result (λ a. AreClockStepsOf (form_with self.now.file self.now.extent) self.now.places.now (number_of_status a.status) a.lines) }
     {
         let ran = clock_steps_through(alloc, self.places, self.program, &self.plan)?;
         let explanation = self.standing(alloc, &ran.world, &ran.end)?;
@@ -92,7 +93,7 @@ impl<'t> CheckedClocks<'t> {
     /// The whole output for it, of which this is wanted.
     pub(crate) fn answer(&self, alloc: Global, wanted: ClockWanted) -> Result<Answer, NoMemory>
         requires known { IsCheckedClocks self.now }
-        ensures answers { IfOk result (IsClockAnswerTo wanted (form_with self.now.file self.now.all) self.now.places.now) }
+        ensures answers { IfOk result (IsClockAnswerTo wanted (form_with self.now.file self.now.extent) self.now.places.now) }
     {
         match wanted {
             ClockWanted::Explanation => self.explain(alloc),

@@ -14,7 +14,8 @@ ghost use Rattle.explain.specs.inside.Checked.{IsCheckedText};
 ghost use Rattle.explain.specs.inside.Ending.{IsPlAnswerTo};
 
 use crate::answer::{Answer, PlWanted, with_steps};
-use crate::shortened::displayed;
+use crate::extent::Extent;
+use crate::shortened::{AVOIDED_HEADS, HEADS, displayed};
 use armus_base::{Final, NoMemory};
 use explain_avoid::{avoid_through, avoided_explanation_of};
 use explain_deadlock::{Explanation, explanation_of};
@@ -35,8 +36,8 @@ pub(crate) struct CheckedText<'t> {
     pub(crate) places: &'t TextPlaces<'t>,
     /// The name of its file, if it comes from one.
     pub(crate) file: Option<&'t [u8]>,
-    /// Whether all of its explanation is wanted.
-    pub(crate) all: bool,
+    /// How much of its explanation is shown.
+    pub(crate) extent: Extent,
     /// Its program.
     pub(crate) program: &'t Program,
     /// The plan to which the program unfolds, and where its tasks are forked.
@@ -76,12 +77,12 @@ impl<'t> CheckedText<'t> {
         requires known { IsCheckedText self.now }
         requires ended { IsEndWorld self.now.unfolded.plan world.now }
         requires end { end.now ≡ final_of self.now.unfolded.plan (state_of world.now) }
-        ensures { IfOk result (λ e. IsToldAt (form_with self.now.file self.now.all) self.now.places.now world.now.plan (places_of world.now) e.lines e.has_waiting) }
+        ensures { IfOk result (λ e. IsToldAt (form_with self.now.file self.now.extent) self.now.places.now world.now.plan (places_of world.now) e.lines e.has_waiting) }
     {
         let account = self.account(alloc, world, end)?;
         let explanation = explanation_of(alloc, self.places, self.file, &account, world, end)?;
         Ok(Explanation {
-            lines: displayed(alloc, self.all, explanation.lines)?,
+            lines: displayed(alloc, HEADS, self.extent, explanation.lines)?,
             has_waiting: explanation.has_waiting,
         })
     }
@@ -89,7 +90,7 @@ impl<'t> CheckedText<'t> {
     // Its explanation.
     fn explain(&self, alloc: Global) -> Result<Answer, NoMemory>
         requires known { IsCheckedText self.now }
-        ensures explains { IfOk result (λ a. IsExplanationOf (form_with self.now.file self.now.all) self.now.places.now (number_of_status a.status) a.lines) }
+        ensures explains { IfOk result (λ a. IsExplanationOf (form_with self.now.file self.now.extent) self.now.places.now (number_of_status a.status) a.lines) }
     {
         let ended = run_to_world(alloc, &self.unfolded.plan)?;
         let explanation = self.standing(alloc, &ended.world, &ended.end)?;
@@ -102,7 +103,7 @@ impl<'t> CheckedText<'t> {
     // The steps of its run, and behind them its explanation.
     fn steps(&self, alloc: Global) -> Result<Answer, NoMemory>
         requires known { IsCheckedText self.now }
-        ensures steps { IfOk result (λ a. AreStepsOf (form_with self.now.file self.now.all) self.now.places.now (number_of_status a.status) a.lines) }
+        ensures steps { IfOk result (λ a. AreStepsOf (form_with self.now.file self.now.extent) self.now.places.now (number_of_status a.status) a.lines) }
     {
         let forks = self.forks(alloc)?;
         let plan = &self.unfolded.plan;
@@ -115,14 +116,14 @@ impl<'t> CheckedText<'t> {
     // The explanation of its run that avoids deadlock.
     fn avoid(&self, alloc: Global) -> Result<Answer, NoMemory>
         requires known { IsCheckedText self.now }
-        ensures avoided { IfOk result (λ a. IsAvoidedOf (form_with self.now.file self.now.all) self.now.places.now (number_of_status a.status) a.lines) }
+        ensures avoided { IfOk result (λ a. IsAvoidedOf (form_with self.now.file self.now.extent) self.now.places.now (number_of_status a.status) a.lines) }
     {
         let forks = self.forks(alloc)?;
         let plan = &self.unfolded.plan;
         let ran = avoid_through(alloc, self.places, self.file, self.program, forks, plan)?;
         let account = self.account(alloc, &ran.world, &ran.end)?;
         let explanation = avoided_explanation_of(alloc, self.places, self.file, &account, &ran)?;
-        let lines = displayed(alloc, self.all, explanation.lines)?;
+        let lines = displayed(alloc, AVOIDED_HEADS, self.extent, explanation.lines)?;
         Ok(Answer {
             lines,
             status: status_of(explanation.somebody_stays),
@@ -132,7 +133,7 @@ impl<'t> CheckedText<'t> {
     /// The whole output for it, of which this is wanted.
     pub(crate) fn answer(&self, alloc: Global, wanted: PlWanted) -> Result<Answer, NoMemory>
         requires known { IsCheckedText self.now }
-        ensures answers { IfOk result (IsPlAnswerTo wanted (form_with self.now.file self.now.all) self.now.places.now) }
+        ensures answers { IfOk result (IsPlAnswerTo wanted (form_with self.now.file self.now.extent) self.now.places.now) }
     {
         match wanted {
             PlWanted::Explanation => self.explain(alloc),

@@ -10,6 +10,7 @@ ghost use Rattle.explain.specs.calls.Requested.{file_bytes, form_with};
 
 use crate::answer::{Answer, ClockWanted};
 use crate::checked_clocks::CheckedClocks;
+use crate::extent::Extent;
 use crate::refusing::refused;
 use armus_base::NoMemory;
 use clock_pl::{ClockEnd, ClockFault, ClockProgram, clock_parse, clock_plan};
@@ -38,7 +39,7 @@ fn refuse_unfolding(
 fn answer_clock_program(
     alloc: Global,
     wanted: ClockWanted,
-    all: bool,
+    extent: Extent,
     places: &TextPlaces,
     file: Option<&[u8]>,
     program: &ClockProgram,
@@ -46,14 +47,14 @@ fn answer_clock_program(
     requires short { length places.now ≤ MAX_TEXT_BYTES }
     requires few { clock_count program.now.body ≤ length places.now }
     requires reads { IsClockText places.now program.now.body }
-    ensures answers { IfOk result (IsClockAnswerTo wanted (form_with file.entry all) places.now) }
+    ensures answers { IfOk result (IsClockAnswerTo wanted (form_with file.entry extent) places.now) }
 {
     match clock_plan(alloc, program) {
         Ok(plan) => {
             let checked = CheckedClocks {
                 places,
                 file,
-                all,
+                extent,
                 program,
                 plan,
             };
@@ -69,16 +70,16 @@ fn answer_clock_program(
 pub(crate) fn answer_clocks(
     alloc: Global,
     wanted: ClockWanted,
-    all: bool,
+    extent: Extent,
     file: Option<&[u8]>,
     text: &[u8],
 ) -> Result<Answer, NoMemory>
     requires short { length text.now ≤ MAX_TEXT_BYTES }
-    ensures answers { IfOk result (IsClockAnswerTo wanted (form_with file.entry all) text.now) }
+    ensures answers { IfOk result (IsClockAnswerTo wanted (form_with file.entry extent) text.now) }
 {
     let places = TextPlaces::new(alloc, text)?;
     match clock_parse(alloc, text) {
-        Ok(program) => answer_clock_program(alloc, wanted, all, &places, file, &program),
+        Ok(program) => answer_clock_program(alloc, wanted, extent, &places, file, &program),
         Err(ParseEnd::Syntax(fault)) => {
             let lines = clock_syntax_refusal(alloc, &places, file, fault)?;
             Ok(refused(lines))

@@ -1,7 +1,7 @@
 // Laws of the outputs of a text, as contracts of functions with an empty body.
 ghost use Rattle.explain.specs.ClockExplained.{AnswersClock};
 ghost use Rattle.explain.specs.Outputs.{AnswersAvoided, AnswersEither, AnswersStepsOf, AnswersText};
-ghost use Rattle.explain.specs.ShownShort.{IsShownShort};
+ghost use Rattle.explain.specs.ShownShort.{IsShownBrief, IsShownShort};
 ghost use Rattle.explain.specs.calls.Laws.{EachHasOutput, IsOneOutput};
 
 /// A text of PL has one whole output at most, with one status; and it has one: it is explained, or refused.
@@ -35,7 +35,9 @@ pub fn one_clock_output()
     ensures exists { EachHasOutput AnswersClock }
 {}
 
-/// Of an explanation at most 60 lines are shown, where not all of it is wanted.
+/// Of an explanation at most 60 lines are shown, where neither all of it nor less is asked for; and one more than stand in front of its paragraphs, where only these
+/// and its hint are.
 pub fn shown_short()
-    ensures { IsShownShort }
+    ensures usual { IsShownShort }
+    ensures short { IsShownBrief }
 {}

@@ -8,6 +8,7 @@ mod answering;
 mod checked_clocks;
 mod checked_text;
 mod clocks;
+mod extent;
 mod language;
 mod laws;
 mod refusing;

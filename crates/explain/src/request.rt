@@ -4,8 +4,11 @@ ghost use Rattle.explain.specs.Requests.{asked, asked_so, file_asked, names_file
 ghost use Rattle.explain.specs.calls.Requested.{asked_for, requested, wanted_by_word};
 
 use crate::answer::WantedOutput;
+use crate::extent::Extent;
 
 const ALL: &str = "--all";
+
+const SHORT: &str = "--short";
 
 const RUN: &str = "run";
 
@@ -26,8 +29,8 @@ pub enum Request<'w> {
     Text {
         /// Which output.
         wanted: WantedOutput,
-        /// Whether all of its explanation is wanted, or as much as is shown of a long one.
-        all: bool,
+        /// How much of its explanation is shown.
+        extent: Extent,
         /// The name of the file with the text, which is read from standard input where there is none.
         file: Option<&'w str>,
     },
@@ -41,13 +44,13 @@ pub enum Request<'w> {
 
 impl<'w> Request<'w> {
     // What is asked for where a word can only be the name of the file with the text of which this is wanted.
-    fn of_file(all: bool, wanted: WantedOutput, word: &'w str) -> Request<'w>
-        ensures { requested result ≡ file_asked all (asked_for wanted) word.now }
+    fn of_file(extent: Extent, wanted: WantedOutput, word: &'w str) -> Request<'w>
+        ensures { requested result ≡ file_asked extent (asked_for wanted) word.now }
     {
         if names_file(word) {
             Request::Text {
                 wanted,
-                all,
+                extent,
                 file: Some(word),
             }
         } else {
@@ -86,13 +89,13 @@ fn wanted_by_word(word: &str) -> Option<WantedOutput>
 }
 
 // What one word asks for.
-fn word_request(all: bool, word: &str) -> Request<'_>
-    ensures { requested result ≡ word_asked all word.now }
+fn word_request(extent: Extent, word: &str) -> Request<'_>
+    ensures { requested result ≡ word_asked extent word.now }
 {
     if let Some(wanted) = wanted_by_word(word) {
         return Request::Text {
             wanted,
-            all,
+            extent,
             file: None,
         };
     }
@@ -102,31 +105,31 @@ fn word_request(all: bool, word: &str) -> Request<'_>
     if word == VERSION {
         return Request::Version;
     }
-    Request::of_file(all, WantedOutput::Explanation, word)
+    Request::of_file(extent, WantedOutput::Explanation, word)
 }
 
 // What two words ask for.
-fn words_request<'w>(all: bool, word: &'w str, file: &'w str) -> Request<'w>
-    ensures { requested result ≡ asked_so all (word.now ∷ file.now ∷ []) }
+fn words_request<'w>(extent: Extent, word: &'w str, file: &'w str) -> Request<'w>
+    ensures { requested result ≡ asked_so extent (word.now ∷ file.now ∷ []) }
 {
     match wanted_by_word(word) {
-        Some(wanted) => Request::of_file(all, wanted, file),
+        Some(wanted) => Request::of_file(extent, wanted, file),
         None => Request::Usage,
     }
 }
 
-// What the words ask for, behind `--all` or without it.
-fn request_so(all: bool, words: &[String]) -> Request<'_>
-    ensures { requested result ≡ asked_so all (map string_bytes words.now) }
+// What the words ask for, behind `--all` or `--short`, or without them.
+fn request_so(extent: Extent, words: &[String]) -> Request<'_>
+    ensures { requested result ≡ asked_so extent (map string_bytes words.now) }
 {
     match words {
         [] => Request::Text {
             wanted: WantedOutput::Explanation,
-            all,
+            extent,
             file: None,
         },
-        [word] => word_request(all, word.as_str()),
-        [word, file] => words_request(all, word.as_str(), file.as_str()),
+        [word] => word_request(extent, word.as_str()),
+        [word, file] => words_request(extent, word.as_str(), file.as_str()),
         _ => Request::Usage,
     }
 }
@@ -136,12 +139,14 @@ pub fn request_of(words: &[String]) -> Request<'_>
     ensures asked { requested result ≡ asked (map string_bytes words.now) }
 {
     match words {
-        [] => request_so(false, words),
+        [] => request_so(Extent::Usual, words),
         [first, rest @ ..] => {
             if first.as_str() == ALL {
-                request_so(true, rest)
+                request_so(Extent::Whole, rest)
+            } else if first.as_str() == SHORT {
+                request_so(Extent::Short, rest)
             } else {
-                request_so(false, words)
+                request_so(Extent::Usual, words)
             }
         }
     }

@@ -1,12 +1,19 @@
 // How much of an explanation is shown.
 ghost use Rattle.std.specs.Prelude.{◌≡◌, suc, string_bytes, ◌==◌, ◌≤◌, ◌<◌, ◌&&◌, ◌++◌, IfOk, OnOk, if◌then◌else◌, length, nat_lt};
-ghost use Rattle.explain.specs.Shortened.{begins_line, displayed, displayed_bytes, displayed_byte, displayed_up_to, ends_paragraph, is_hint, last_line_begin, left_out_line, line_total, narrowed_from, paragraph_bytes, room_behind, shortened, shortened_long, shortened_to};
+ghost use Rattle.explain.specs.Shortened.{begins_line, displayed, displayed_bytes, displayed_byte, displayed_up_to, ends_paragraph, is_hint, last_line_begin, left_out_line, line_total, narrowed_from, paragraph_bytes, room_behind, shortened, shortened_long, shortened_to, summary};
 
+use crate::extent::Extent;
 use armus_base::{List, NoMemory};
 use std::alloc::Global;
 
 // How many lines an explanation has at most that is shown as it is.
 const MOST_LINES: usize = 60;
+
+/// So many lines stand in front of the paragraphs of an explanation.
+pub(crate) const HEADS: usize = 2;
+
+/// So many lines stand in front of the paragraphs of one of the run that avoids deadlock.
+pub(crate) const AVOIDED_HEADS: usize = 3;
 
 // Of a line of so many bytes and more the last one that is shown is none: two dots stand for it and for all behind it.
 const MOST_BYTES: usize = 500;
@@ -185,13 +192,38 @@ fn narrowed(alloc: Global, lines: &[u8]) -> Result<List<u8>, NoMemory>
     Ok(List::from_vec(out))
 }
 
-/// What is shown of an explanation, of which all is wanted or not. The time is linear in its bytes; the only error is want of memory.
-pub(crate) fn displayed(alloc: Global, all: bool, whole: List<u8>) -> Result<List<u8>, NoMemory>
-    ensures { IfOk result (λ lines. lines ≡ displayed all whole) }
+// The lines in front of the paragraphs of an explanation, which are so many, and its hint.
+fn summary(alloc: Global, heads: usize, whole: &[u8]) -> Result<Vec<u8>, NoMemory>
+    requires { heads < 60 }
+    ensures { IfOk result (λ lines. lines.items ≡ summary heads whole.now) }
 {
-    if all {
-        return Ok(whole);
+    let (paragraphs, hint) = whole.split_at(paragraph_bytes(whole));
+    let (front, _) = paragraphs.split_at(displayed_bytes(heads + 1, paragraphs));
+    let mut out = Vec::from_slice(alloc, front)?;
+    out.extend_from_slice(hint)?;
+    Ok(out)
+}
+
+/// What is shown of an explanation, to this extent, which has so many lines in front of its paragraphs. The time is linear in its bytes; the only error is want of
+/// memory.
+pub(crate) fn displayed(
+    alloc: Global,
+    heads: usize,
+    extent: Extent,
+    whole: List<u8>,
+) -> Result<List<u8>, NoMemory>
+    requires { heads < 60 }
+    ensures { IfOk result (λ lines. lines ≡ displayed heads extent whole) }
+{
+    match extent {
+        Extent::Whole => Ok(whole),
+        Extent::Usual => {
+            let lines = shortened(alloc, whole)?;
+            narrowed(alloc, &lines)
+        }
+        Extent::Short => {
+            let lines = summary(alloc, heads, whole.as_slice())?;
+            narrowed(alloc, &lines)
+        }
     }
-    let lines = shortened(alloc, whole)?;
-    narrowed(alloc, &lines)
 }

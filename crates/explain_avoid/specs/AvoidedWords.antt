@@ -8,8 +8,9 @@ use Rattle.report.specs.Counts.{counts_of}
 use Rattle.report.specs.Lines.{counts_line}
 use Rattle.report.specs.declared.standing.Standing.{Standing}
 use Rattle.report.specs.declared.standing.Standing.TheVariants.{Dead, Done, Held, Refused, Unforked}
+use Rattle.explain_facts.specs.declared.names.GivenNames.{GivenNames}
 use Rattle.explain_tasks.specs.Facts.{FactsValue}
-use Rattle.explain_tasks.specs.TaskLists.{by_number, list_words}
+use Rattle.explain_tasks.specs.TaskLists.{by_number, tasks_words}
 use Rattle.explain_deadlock.specs.Paragraphs.{paragraphs}
 
 -- a task that stands so was refused
@@ -33,15 +34,15 @@ abbrev pub tasks_with : (Standing → Bool) → List Standing → List TaskId
 tasks_with test standings =
     filter (λ (t : TaskId). test (slice_index_or standings t.0 Done)) (list_below (λ t. record { 0 = t }) (length standings))
 
--- who was refused: refused: t1 and t3
-abbrev pub refused_line : List TaskId → List ℕ
-refused_line [] = line (codes "nobody was refused")
-refused_line (t ∷ rest) = line (codes "refused: " ++ list_words (t ∷ rest))
+-- who was refused: refused: left and worker (t3)
+abbrev pub refused_line : GivenNames → List TaskId → List ℕ
+refused_line names [] = line (codes "nobody was refused")
+refused_line names (t ∷ rest) = line (codes "refused: " ++ tasks_words names (t ∷ rest))
 
--- who waits for ever: t5 waits for ever
-abbrev pub waiting_line : List TaskId → List ℕ
-waiting_line [] = line (codes "nobody waits for ever")
-waiting_line (t ∷ rest) = line (list_words (t ∷ rest) ++ by_number (length (t ∷ rest)) (codes " waits for ever") (codes " wait for ever"))
+-- who waits for ever: worker (t5) waits for ever
+abbrev pub waiting_line : GivenNames → List TaskId → List ℕ
+waiting_line names [] = line (codes "nobody waits for ever")
+waiting_line names (t ∷ rest) = line (tasks_words names (t ∷ rest) ++ by_number (length (t ∷ rest)) (codes " waits for ever") (codes " wait for ever"))
 
 -- the list has a task
 abbrev pub has_some : List TaskId → Bool
@@ -56,5 +57,6 @@ somebody_stays standings = has_some (tasks_with was_refused standings ++ tasks_w
 -- forked
 abbrev pub avoided_words : FactsValue → (ℕ → Phases) → List ℕ → List ℕ
 avoided_words f phases refusals =
-    counts_line (counts_of f.standings) ++ refused_line (tasks_with was_refused f.standings) ++ waiting_line (tasks_with waits_at_the_end f.standings) ++ refusals
+    counts_line (counts_of f.standings) ++ refused_line f.account.names (tasks_with was_refused f.standings)
+    ++ waiting_line f.account.names (tasks_with waits_at_the_end f.standings) ++ refusals
     ++ paragraphs f phases []

@@ -14,9 +14,10 @@ use Rattle.source_map.specs.Turns.{op_turns}
 use Rattle.source_map.specs.declared.turns.LoopTurn.{LoopTurn}
 use Rattle.source_map.specs.PlaceWords.{front_words, place_words}
 use Rattle.explain_facts.specs.Accounts.{Layout, statement_place}
+use Rattle.explain_facts.specs.Names.{program_names}
 use Rattle.explain_tasks.specs.Places.{said_of}
-use Rattle.explain_tasks.specs.TaskLists.{list_words, separator}
-use Rattle.explain_steps.specs.StepWords.{statement_words, drawn_task_words}
+use Rattle.explain_tasks.specs.TaskLists.{separator, tasks_words}
+use Rattle.explain_steps.specs.StepWords.{drawn_task_words, made_phaser_words, statement_words}
 
 -- the place of statement n
 abbrev pub place_of : Layout → ℕ → List ℕ
@@ -29,16 +30,16 @@ abbrev pub refused_phase_words : Event → Option ℕ → List ℕ
 refused_phase_words e None = []
 refused_phase_words e (Some m) = if m == e.n then [] else codes " at phase " ++ decimal m
 
--- for what it would have waited:  would have waited for phase 1 of p1
-abbrev pub event_words : Event → List ℕ
-event_words e = codes " would have waited for phase " ++ decimal e.n ++ codes " of p" ++ decimal e.p.0
+-- for what it would have waited:  would have waited for phase 1 of right
+abbrev pub event_words : Program → Event → List ℕ
+event_words p e = codes " would have waited for phase " ++ decimal e.n ++ codes " of " ++ made_phaser_words p e.p.0
 
 -- where it stands, who was refused, and for what the task would have waited, at op i of its code:
--- 14:3: t1 (other) was refused: await(right) would have waited for phase 1 of p1
+-- 14:3: other was refused: await(right) would have waited for phase 1 of right
 abbrev pub refused_words : Option (List ℕ) → Layout → Program → ℕ → Event → Option ℕ → ℕ → List ℕ
 refused_words file l p t e own i =
     said_of (λ n. front_words l.text file (statement_place l n)) (op_origin p t i) ++ codes ": " ++ drawn_task_words p t ++ codes " was refused: "
-    ++ said_of (λ n. statement_words (statement_in (written_statements p.body) n)) (op_origin p t i) ++ refused_phase_words e own ++ event_words e
+    ++ said_of (λ n. statement_words (statement_in (written_statements p.body) n)) (op_origin p t i) ++ refused_phase_words e own ++ event_words p e
 
 -- where task t was forked: forked at 12:1; and a blank; nothing for task 0
 abbrev pub refused_forked_words : Layout → Program → ℕ → List ℕ
@@ -48,15 +49,15 @@ refused_forked_words l p t = if t == 0 then [] else said_of (λ f. codes "forked
 abbrev pub refused_turn_words : Layout → LoopTurn → List ℕ
 refused_turn_words l u = codes "; turn " ++ decimal u.turn ++ codes " of the loop at " ++ place_of l u.statement
 
--- whence the task and its phaser come, and in which turns of loops it came to the await: forked at 12:1; p1 made at 8:1; turn 1 of the loop at 13:3
+-- whence the task and its phaser come, and in which turns of loops it came to the await: forked at 12:1; right made at 8:1; turn 1 of the loop at 13:3
 abbrev pub refused_whence_words : Layout → Program → ℕ → ℕ → ℕ → List ℕ
 refused_whence_words l p t q i =
-    codes "  " ++ refused_forked_words l p t ++ codes "p" ++ decimal q ++ codes " made at " ++ said_of (place_of l) (phaser_origin p q)
+    codes "  " ++ refused_forked_words l p t ++ made_phaser_words p q ++ codes " made at " ++ said_of (place_of l) (phaser_origin p q)
     ++ flat_map (refused_turn_words l) (op_turns p t i)
 
 -- ---- the deadlock
 
--- a task of it, with the place where it stands: t1 (other) at 14:3
+-- a task of it, with the place where it stands: other at 14:3
 abbrev pub member_words : Layout → Program → (ℕ → ℕ) → ℕ → List ℕ
 member_words l p ops t = drawn_task_words p t ++ codes " at " ++ said_of (place_of l) (op_origin p t (ops t))
 
@@ -78,16 +79,16 @@ avoided_circle_words l p ops (t ∷ u ∷ rest) =
 abbrev pub left_phasers : Phases → ℕ → List ℕ
 left_phasers phases n = given_below (λ q. option_map (λ m. q) (phases q)) n
 
--- a list of phasers: p0, p1 and p3
-abbrev pub phaser_list : List ℕ → List ℕ
-phaser_list qs = flat_map (λ (k, q). separator (length qs) k ++ codes "p" ++ decimal q) (enumerate_from 0 qs)
+-- a list of phasers: left, right and buffer (p3)
+abbrev pub phaser_list : Program → List ℕ → List ℕ
+phaser_list p qs = flat_map (λ (k, q). separator (length qs) k ++ made_phaser_words p q) (enumerate_from 0 qs)
 
 -- ---- who may go on
 
--- the tasks that are released by this: t0 and t2 to t4 may go on
-abbrev pub going_on_words : List TaskId → List ℕ
-going_on_words [] = codes "no further task may go on"
-going_on_words (t ∷ rest) = list_words (t ∷ rest) ++ codes " may go on"
+-- the tasks that are released by this: t0 and worker (t2 to t4) may go on
+abbrev pub going_on_words : Program → List TaskId → List ℕ
+going_on_words p [] = codes "no further task may go on"
+going_on_words p (t ∷ rest) = tasks_words (program_names p) (t ∷ rest) ++ codes " may go on"
 
 -- ---- the paragraph
 
@@ -98,10 +99,10 @@ refusal_by file l p t e own ops cycle left =
     line (refused_words file l p t e own (ops t))
     ++ line (refused_whence_words l p t e.p.0 (ops t))
     ++ line (codes "  deadlock: " ++ avoided_circle_words l p ops cycle)
-    ++ line (codes "  it left " ++ phaser_list left)
+    ++ line (codes "  it left " ++ phaser_list p left)
 
 -- the whole paragraph where its await was refused in this state, and these tasks are released by this
 abbrev pub refusal_words : Option (List ℕ) → Layout → Program → Plan → State → ℕ → Event → (ℕ → ℕ) → List TaskId → List TaskId → List ℕ
 refusal_words file l p plan s t e ops cycle released =
     refusal_by file l p t e (s.phases t e.p.0) ops cycle (left_phasers (s.phases t) (length plan.makers))
-    ++ line (codes "  thereby " ++ going_on_words released)
+    ++ line (codes "  thereby " ++ going_on_words p released)

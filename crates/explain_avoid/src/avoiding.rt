@@ -1,9 +1,10 @@
 // The serial avoided run, with a paragraph for each refusal.
-ghost use Rattle.std.specs.Prelude.{◌≡◌, ◌+◌, ◌<◌, ◌^◌, ℕ, IfOk, OnOk, false, length, option_copied, true};
+ghost use Rattle.std.specs.Prelude.{◌≡◌, ◌+◌, ◌<◌, ◌^◌, ℕ, IfOk, Ok, OnOk, false, length, option_copied, true};
 ghost use Rattle.avoider.specs.calls.Decisions.{IsBeforeStep};
 ghost use Rattle.pl_core.specs.calls.Stands.{IsAtAwaitOf, IsEnabled};
 ghost use Rattle.pl_core.specs.calls.Worlds.{WorldValue};
 ghost use Rattle.pl_plan.specs.Forks.{fork_statements};
+ghost use Rattle.pl_plan.specs.Unfolding.{plan_of};
 ghost use Rattle.pl_syntax.specs.Grammar.{IsText};
 ghost use Rattle.pl_syntax.specs.Tree.{count};
 ghost use Rattle.run_queue.specs.calls.RunQueues.{HasTurnLeft, IsRunQueue};
@@ -68,7 +69,12 @@ impl<'p> Avoiding<'p> {
                     &pending,
                     cycle.tasks.as_slice(),
                 )?;
-                put_freed(alloc, &mut self.refusals, &self.world, &pending.phases)?;
+                put_freed(
+                    &text.facts,
+                    &mut self.refusals,
+                    &self.world,
+                    &pending.phases,
+                )?;
                 Ok(())
             }
         }
@@ -195,9 +201,10 @@ pub fn avoid_through<'p>(
     requires few { count program.now.body + 1 < 2 ^ 32 }
     requires reads { IsText places.now program.now }
     requires forks { forks.items ≡ fork_statements program.now }
+    requires unfolds { plan_of program.now ≡ Ok plan.now }
     ensures run { IfOk result (IsRunWithRefusals (option_copied file.entry) places.now program.now plan.now) }
 {
-    let facts = TextFacts::new(alloc, places, program, forks)?;
+    let facts = TextFacts::new(alloc, places, program, forks, plan)?;
     let text = KnownText { facts, file };
     let Avoiding {
         world,

@@ -13,7 +13,7 @@ use crate::avoiding::AvoidedRun;
 use armus_base::{List, NoMemory, TaskId};
 use explain_deadlock::put_paragraphs;
 use explain_facts::{Account, put_words};
-use explain_tasks::{Facts, passing_below, put_by_number, put_list, task_standing};
+use explain_tasks::{Facts, passing_below, put_by_number, task_standing};
 use report::{Outline, Standing, outline_of};
 use source_map::TextPlaces;
 use std::alloc::Global;
@@ -81,27 +81,27 @@ fn has_task(a: &[TaskId], b: &[TaskId]) -> bool
 }
 
 // Appends the line that tells who was refused.
-fn put_refused_line(alloc: Global, out: &mut Vec<u8>, refused: &[TaskId]) -> Result<(), NoMemory>
-    ensures { OnOk result (out.new.items ≡ out.old.items ++ refused_line refused.now) }
+fn put_refused_line(facts: &Facts, out: &mut Vec<u8>, refused: &[TaskId]) -> Result<(), NoMemory>
+    ensures { OnOk result (out.new.items ≡ out.old.items ++ refused_line facts.now.account.names refused.now) }
 {
     match refused {
         [] => put_words(out, b"nobody was refused\n"),
         [_, ..] => {
             put_words(out, b"refused: ")?;
-            put_list(alloc, out, refused)?;
+            facts.put_named_tasks(out, refused)?;
             put_words(out, b"\n")
         }
     }
 }
 
 // Appends the line that tells who waits for ever.
-fn put_waiting_line(alloc: Global, out: &mut Vec<u8>, waiting: &[TaskId]) -> Result<(), NoMemory>
-    ensures { OnOk result (out.new.items ≡ out.old.items ++ waiting_line waiting.now) }
+fn put_waiting_line(facts: &Facts, out: &mut Vec<u8>, waiting: &[TaskId]) -> Result<(), NoMemory>
+    ensures { OnOk result (out.new.items ≡ out.old.items ++ waiting_line facts.now.account.names waiting.now) }
 {
     match waiting {
         [] => put_words(out, b"nobody waits for ever\n"),
         [_, ..] => {
-            put_list(alloc, out, waiting)?;
+            facts.put_named_tasks(out, waiting)?;
             put_by_number(out, waiting.len(), b" waits for ever", b" wait for ever")?;
             put_words(out, b"\n")
         }
@@ -126,8 +126,8 @@ fn explain_standings(
     let refused = refused(alloc, standings)?;
     let waiting = waiting(alloc, standings)?;
     let mut out = counts.into_vec();
-    put_refused_line(alloc, &mut out, &refused)?;
-    put_waiting_line(alloc, &mut out, &waiting)?;
+    put_refused_line(facts, &mut out, &refused)?;
+    put_waiting_line(facts, &mut out, &waiting)?;
     put_words(&mut out, run.refusals.as_slice())?;
     put_paragraphs(facts, &mut out, &run.world, &[])?;
     Ok(AvoidedExplanation {

@@ -1,5 +1,5 @@
 // The words of a refusal.
-ghost use Rattle.std.specs.Prelude.{◌≡◌, ◌++◌, ◌<◌, ◌↔◌, ℕ, All, IfOk, IfSome, IsTrue, List, OnOk, codes, decimal, flat_map, length, option_copied};
+ghost use Rattle.std.specs.Prelude.{◌≡◌, ◌++◌, ◌<◌, ◌↔◌, ℕ, All, IfOk, IfSome, IsTrue, List, OnOk, codes, flat_map, length, option_copied};
 ghost use Rattle.std.specs.List.{enumerate_from};
 ghost use Rattle.armus_base.specs.Plans.{code_of};
 ghost use Rattle.armus_base.specs.Finals.{given_below, list_below};
@@ -11,8 +11,9 @@ ghost use Rattle.pl_syntax.specs.Printed.{line};
 ghost use Rattle.explain_facts.specs.Accounts.{statement_place};
 ghost use Rattle.source_map.specs.PlaceWords.{front_words};
 ghost use Rattle.explain_tasks.specs.Places.{said_of};
-ghost use Rattle.explain_tasks.specs.TaskLists.{separator};
-ghost use Rattle.explain_steps.specs.StepWords.{statement_words};
+ghost use Rattle.explain_facts.specs.Names.{program_names};
+ghost use Rattle.explain_tasks.specs.TaskLists.{separator, tasks_words};
+ghost use Rattle.explain_steps.specs.StepWords.{made_phaser_words, statement_words};
 ghost use Rattle.explain_facts.specs.calls.Known.{AreKnownFacts, kept_layout};
 ghost use Rattle.explain_avoid.specs.RefusalWords.{avoided_circle_words, event_words, refused_forked_words, avoided_link_words, member_words, left_phasers, refused_phase_words, phaser_list, going_on_words, place_of, refusal_by, refused_words, refused_turn_words, refused_whence_words};
 ghost use Rattle.explain_avoid.specs.inside.Freed.{AreThoseBelow, IsFreed, StoodBelow};
@@ -21,8 +22,8 @@ ghost use Rattle.explain_avoid.specs.inside.SoFar.{StandAt};
 use crate::known_text::KnownText;
 use armus_base::{Event, NoMemory, Phase, PhaserId, TaskId};
 use explain_facts::{TextFacts, put_number, put_words};
-use explain_steps::{put_statement, put_task};
-use explain_tasks::{push_if, put_list, separator};
+use explain_steps::{put_phaser, put_statement, put_task};
+use explain_tasks::{push_if, put_tasks_words, separator};
 use pl_core::{Stand, World};
 use source_map::LoopTurn;
 use std::alloc::Global;
@@ -153,13 +154,14 @@ fn put_phase(
 }
 
 // Appends for what a task would have waited.
-fn put_event(alloc: Global, out: &mut Vec<u8>, event: Event) -> Result<(), NoMemory>
-    ensures { OnOk result (out.new.items ≡ out.old.items ++ event_words event) }
+fn put_event(facts: &TextFacts<'_>, out: &mut Vec<u8>, event: Event) -> Result<(), NoMemory>
+    requires known { AreKnownFacts facts.now }
+    ensures { OnOk result (out.new.items ≡ out.old.items ++ event_words facts.now.program.now event) }
 {
     put_words(out, b" would have waited for phase ")?;
-    put_number(alloc, out, event.n)?;
-    put_words(out, b" of p")?;
-    put_number(alloc, out, event.p.0)?;
+    put_number(facts.alloc, out, event.n)?;
+    put_words(out, b" of ")?;
+    put_phaser(facts, out, event.p)?;
     Ok(())
 }
 
@@ -183,7 +185,7 @@ fn put_refused(
     put_words(out, b" was refused: ")?;
     put_printed(facts, out, n)?;
     put_phase(facts.alloc, out, waits.event, waits.phase)?;
-    put_event(facts.alloc, out, waits.event)?;
+    put_event(facts, out, waits.event)?;
     Ok(())
 }
 
@@ -240,8 +242,7 @@ fn put_whence(
     let made = facts.origins.phaser(p);
     put_words(out, b"  ")?;
     put_forked(facts, out, t)?;
-    put_words(out, b"p")?;
-    put_number(facts.alloc, out, p.0)?;
+    put_phaser(facts, out, p)?;
     put_words(out, b" made at ")?;
     put_place(facts, out, made)?;
     put_turns(facts, out, turns.as_slice())?;
@@ -344,25 +345,26 @@ fn put_circle(
 
 // Appends phaser k of a list of n, and what stands before it.
 fn put_phaser_at(
-    alloc: Global,
+    facts: &TextFacts<'_>,
     out: &mut Vec<u8>,
     n: usize,
     k: usize,
     q: u32,
 ) -> Result<(), NoMemory>
-    ensures { OnOk result (out.new.items ≡ out.old.items ++ (separator n k ++ codes "p" ++ decimal q)) }
+    requires known { AreKnownFacts facts.now }
+    ensures { OnOk result (out.new.items ≡ out.old.items ++ (separator n k ++ made_phaser_words facts.now.program.now q)) }
 {
     put_words(out, separator(n, k))?;
-    put_words(out, b"p")?;
-    put_number(alloc, out, q)
+    put_phaser(facts, out, PhaserId(q))
 }
 
 // Appends a list of phasers.
-fn put_phasers(alloc: Global, out: &mut Vec<u8>, phasers: &[u32]) -> Result<(), NoMemory>
-    ensures { OnOk result (out.new.items ≡ out.old.items ++ phaser_list phasers.now) }
+fn put_phasers(facts: &TextFacts<'_>, out: &mut Vec<u8>, phasers: &[u32]) -> Result<(), NoMemory>
+    requires known { AreKnownFacts facts.now }
+    ensures { OnOk result (out.new.items ≡ out.old.items ++ phaser_list facts.now.program.now phasers.now) }
 {
     for (k, q) in phasers.iter().enumerate() {
-        put_phaser_at(alloc, out, phasers.len(), k, *q)?;
+        put_phaser_at(facts, out, phasers.len(), k, *q)?;
     }
     Ok(())
 }
@@ -386,11 +388,12 @@ fn put_deadlock(
 }
 
 // Appends the line of the phasers that a task left.
-fn put_left(alloc: Global, out: &mut Vec<u8>, phasers: &[u32]) -> Result<(), NoMemory>
-    ensures { OnOk result (out.new.items ≡ out.old.items ++ line (codes "  it left " ++ phaser_list phasers.now)) }
+fn put_left(facts: &TextFacts<'_>, out: &mut Vec<u8>, phasers: &[u32]) -> Result<(), NoMemory>
+    requires known { AreKnownFacts facts.now }
+    ensures { OnOk result (out.new.items ≡ out.old.items ++ line (codes "  it left " ++ phaser_list facts.now.program.now phasers.now)) }
 {
     put_words(out, b"  it left ")?;
-    put_phasers(alloc, out, phasers)?;
+    put_phasers(facts, out, phasers)?;
     put_words(out, b"\n")
 }
 
@@ -443,14 +446,23 @@ fn freed(
     Ok(all)
 }
 
+// Appends a list of tasks.
+fn put_tasks(facts: &TextFacts<'_>, out: &mut Vec<u8>, tasks: &[TaskId]) -> Result<(), NoMemory>
+    requires known { AreKnownFacts facts.now }
+    ensures { OnOk result (out.new.items ≡ out.old.items ++ tasks_words (program_names facts.now.program.now) tasks.now) }
+{
+    put_tasks_words(facts.alloc, &facts.names, out, tasks)
+}
+
 // Appends these tasks, which may go on.
-fn put_going_on(alloc: Global, out: &mut Vec<u8>, tasks: &[TaskId]) -> Result<(), NoMemory>
-    ensures { OnOk result (out.new.items ≡ out.old.items ++ going_on_words tasks.now) }
+fn put_going_on(facts: &TextFacts<'_>, out: &mut Vec<u8>, tasks: &[TaskId]) -> Result<(), NoMemory>
+    requires known { AreKnownFacts facts.now }
+    ensures { OnOk result (out.new.items ≡ out.old.items ++ going_on_words facts.now.program.now tasks.now) }
 {
     match tasks {
         [] => put_words(out, b"no further task may go on"),
         [_, ..] => {
-            put_list(alloc, out, tasks)?;
+            put_tasks(facts, out, tasks)?;
             put_words(out, b" may go on")
         }
     }
@@ -458,17 +470,18 @@ fn put_going_on(alloc: Global, out: &mut Vec<u8>, tasks: &[TaskId]) -> Result<()
 
 /// Appends the line of the tasks that may go on where a task with these phases has left its phasers.
 pub(crate) fn put_freed(
-    alloc: Global,
+    facts: &TextFacts<'_>,
     out: &mut Vec<u8>,
     world: &World<'_>,
     phases: &[Option<Phase>],
 ) -> Result<(), NoMemory>
+    requires known { AreKnownFacts facts.now }
     ensures { OnOk result ((tasks : List TaskId) × AreThoseBelow (IsFreed world.now phases.now) (length world.now.plan.parents) tasks
-        × (out.new.items ≡ out.old.items ++ line (codes "  thereby " ++ going_on_words tasks))) }
+        × (out.new.items ≡ out.old.items ++ line (codes "  thereby " ++ going_on_words facts.now.program.now tasks))) }
 {
-    let tasks = freed(alloc, world, phases)?;
+    let tasks = freed(facts.alloc, world, phases)?;
     put_words(out, b"  thereby ")?;
-    put_going_on(alloc, out, &tasks)?;
+    put_going_on(facts, out, &tasks)?;
     put_words(out, b"\n")?;
     Ok(())
 }
@@ -495,6 +508,6 @@ pub(crate) fn put_refusal(
     put_whence(&text.facts, out, t, waits.event.p, i)?;
     put_words(out, b"\n")?;
     put_deadlock(&text.facts, out, world, cycle)?;
-    put_left(text.facts.alloc, out, &waits.members)?;
+    put_left(&text.facts, out, &waits.members)?;
     Ok(())
 }

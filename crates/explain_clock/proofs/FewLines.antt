@@ -1,13 +1,12 @@
 -- Lines of which the first three are written.
 use Rattle.std.proofs.Common.{◌≡◌, ◌∙◌, ℕ, suc, ◌+◌, ◌-◌, ◌<◌, ◌≤◌, List, [], ◌∷◌, ◌++◌, append_assoc, append-nil, ap, arith, length, length-append, refl, subst, sym, take, zero}
-use Rattle.std.specs.Prelude.{Bool, Option, Some, None, true, false, ◌&&◌, ◌==◌, get_or, if◌then◌else◌, not, slice_get, slice_index_or}
+use Rattle.std.specs.Prelude.{Bool, Option, Some, None, true, false, ◌&&◌, ◌==◌, if◌then◌else◌, not, slice_get, slice_index_or}
 use Rattle.std.specs.List.{flat_map}
-use Rattle.std.proofs.lemmas.List.{take_more}
 use Rattle.armus_base.specs.declared.event.Event.{Event}
-use Rattle.armus_base.specs.declared.status.Status.{Status}
 use Rattle.clock_source_map.specs.ClockOrigins.{MadeThing}
 use Rattle.std.proofs.lemmas.Grind.{flat_map-append}
-use Rattle.explain_clock.specs.ClockExplanations.{few_lines, is_missing, line_if_missing, line_if_pending, lines_below, missing_line, others_line, pending_line, pending_named}
+use Rattle.explain_clock.specs.ClockExplanations.{few_lines, line_if_pending, lines_below, pending_line, pending_named}
+use Rattle.explain_clock.specs.ClockKeepers.{others_line}
 use Rattle.explain_clock.specs.ClockFacts.{ClockFacts}
 use Rattle.explain_clock.specs.inside.FewLines.{AddsLines, AreWritten, written_of}
 
@@ -80,27 +79,6 @@ pub few_written : (ls : List (List ℕ)) (old out new : List ℕ) (count i : ℕ
 few_written ls old out new count i so is =
     is ∙ ap (λ z. z ++ others_line (count - 3)) so.written ∙ append_assoc old (written_of 0 ls) (others_line (count - 3))
     ∙ ap (λ n. old ++ (written_of 0 ls ++ others_line (n - 3))) so.counted
-
--- ---- those that are missing
-
-one_missing : (f : ClockFacts) (e : Event) (name : Option (List ℕ)) (s : Status) → length (line_if_missing f e name s) ≤ 1
-one_missing f e name s = by (is_missing e s)
-  where
-    by : (b : Bool) → length (if b then missing_line f name s.t.0 ∷ [] else []) ≤ 1
-    by true = omega arith
-    by false = omega arith
-
--- the line of one status more
-pub missing_more : (f : ClockFacts) (e : Event) (name : Option (List ℕ)) (ss : List Status) (d : Status) (old out new : List ℕ) (count more i : ℕ) → i < length ss
-    → AreWritten (flat_map (line_if_missing f e name) (take i ss)) old out count i → AddsLines count (line_if_missing f e name (get_or ss i d)) out new more
-    → AreWritten (flat_map (line_if_missing f e name) (take (i + 1) ss)) old new more (i + 1)
-missing_more f e name ss d old out new count more i within so adds =
-    let all : flat_map (line_if_missing f e name) (take (i + 1) ss) ≡ flat_map (line_if_missing f e name) (take i ss) ++ line_if_missing f e name (get_or ss i d) =
-    ap (flat_map (line_if_missing f e name)) (take_more ss i d within)
-    ∙ flat_map-append (line_if_missing f e name) (take i ss) (get_or ss i d ∷ [])
-    ∙ ap (λ z. flat_map (line_if_missing f e name) (take i ss) ++ z) (append-nil (line_if_missing f e name (get_or ss i d))) in
-    subst (λ (ls : List (List ℕ)). AreWritten ls old new more (i + 1)) (sym all)
-    (written_more (flat_map (line_if_missing f e name) (take i ss)) (line_if_missing f e name (get_or ss i d)) old out new count more i so adds (one_missing f e name (get_or ss i d)))
 
 -- ---- those that are pending
 

@@ -3,6 +3,12 @@ pub mod PassedOps
 pub mod Lines
 pub mod FewLines
 pub mod Told
+pub mod ToldTogether
+pub mod Ahead
+pub mod Stands
+pub mod Mends
+pub mod KeptLines
+pub mod Standing
 pub mod PendingRows
 pub mod KnownTexts
 pub mod Circles

@@ -1,11 +1,12 @@
 -- The activities that are named to one who waits are those that keep the event from being reached.
-use Rattle.std.proofs.Common.{◌≡◌, ◌⊎◌, ℕ, ◌<◌, Bool, true, false, Option, Some, List, [], ◌∷◌, ◌++◌, length, arith, sym, ◌∙◌, ap, subst, refl, inl, inr}
+use Rattle.std.proofs.Common.{◌≡◌, ◌⊎◌, ℕ, ◌<◌, Bool, true, false, Some, List, [], ◌∷◌, length, arith, sym, ◌∙◌, ap, subst, refl, inl, inr}
 use Rattle.std.specs.Prelude.{◌&&◌, ◌||◌, ◌==◌, AllPairs, Contains, if◌then◌else◌, map, nat_lt}
-use Rattle.std.specs.List.{filter, flat_map, list_any}
+use Rattle.std.specs.List.{filter, list_any}
 use Rattle.std.proofs.lemmas.Bool.{eq-eqb, eqb-true, false≢true, lt-ltb, ltb-true}
 use Rattle.std.proofs.lemmas.List.{get_or-map, length-map}
 use Rattle.std.proofs.lemmas.List.Kept.{AllPairs-filter}
 use Rattle.armus_base.specs.declared.event.Event.{Event}
+use Rattle.armus_base.specs.declared.ids.TaskId.{TaskId}
 use Rattle.armus_base.specs.declared.status.Member.{Member}
 use Rattle.armus_base.specs.declared.status.Status.{Status}
 use Rattle.armus_base.specs.calls.FinalLaws.{IsOfPlan}
@@ -16,31 +17,19 @@ use Rattle.armus_base.proofs.Below.{given_ascends}
 use Rattle.armus_base.proofs.Elements.{Contains-cons_cases, Contains-head, Contains-tail, nothing_in_nil}
 use Rattle.armus_base.proofs.Fixed.{some_before_from}
 use Rattle.armus_base.proofs.StatusesAre.{member_at, phases_are, phases_from, status_is}
-use Rattle.explain_clock.specs.ClockExplanations.{is_below, is_missing, line_if_missing, missing_line}
-use Rattle.explain_clock.specs.ClockFacts.{ClockFacts}
+use Rattle.explain_clock.specs.ClockKeepers.{is_below, is_missing, keepers_in}
 use Rattle.explain_clock.specs.calls.ParagraphLaws.{IsMemberBelow, IsWaitingIn}
 
--- the activities of these statuses that keep the event from being reached
+-- the numbers of the activities of these statuses that keep the event from being reached
 abbrev pub named_in : Event → List Status → List ℕ
 named_in e ss = map (λ (s : Status). s.t.0) (filter (is_missing e) ss)
 
--- ---- lines
-
-pub lines_named : (f : ClockFacts) (e : Event) (name : Option (List ℕ)) (ss : List Status) →
-    flat_map (line_if_missing f e name) ss ≡ map (missing_line f name) (named_in e ss)
-lines_named f e name [] = refl
-lines_named f e name (s ∷ ss) = by (is_missing e s) refl (lines_named f e name ss)
+pub keepers_named : (e : Event) (ss : List Status) → map (λ (t : TaskId). t.0) (keepers_in e ss) ≡ named_in e ss
+keepers_named e ss = numbers (filter (is_missing e) ss)
   where
-    by : (b : Bool) → is_missing e s ≡ b → flat_map (line_if_missing f e name) ss ≡ map (missing_line f name) (named_in e ss) →
-        flat_map (line_if_missing f e name) (s ∷ ss) ≡ map (missing_line f name) (named_in e (s ∷ ss))
-    by true is rest =
-        ap (λ b. (if b then missing_line f name s.t.0 ∷ [] else []) ++ flat_map (line_if_missing f e name) ss) is
-        ∙ ap (λ z. missing_line f name s.t.0 ∷ z) rest
-        ∙ sym (ap (λ b. map (missing_line f name) (map (λ (x : Status). x.t.0) (if b then s ∷ filter (is_missing e) ss else filter (is_missing e) ss))) is)
-    by false is rest =
-        ap (λ b. (if b then missing_line f name s.t.0 ∷ [] else []) ++ flat_map (line_if_missing f e name) ss) is
-        ∙ rest
-        ∙ sym (ap (λ b. map (missing_line f name) (map (λ (x : Status). x.t.0) (if b then s ∷ filter (is_missing e) ss else filter (is_missing e) ss))) is)
+    numbers : (xs : List Status) → map (λ (t : TaskId). t.0) (map (λ (s : Status). s.t) xs) ≡ map (λ (s : Status). s.t.0) xs
+    numbers [] = refl
+    numbers (x ∷ xs) = ap (λ ns. x.t.0 ∷ ns) (numbers xs)
 
 -- ---- one status
 

@@ -1,6 +1,6 @@
 -- The places of a plan have one explanation.
 use Rattle.std.proofs.Common.{◌≡◌, ℕ, zero, suc, ◌+◌, List, [], ◌∷◌, ◌++◌, Option, None, length, arith, refl, sym, ◌∙◌, ap, subst}
-use Rattle.std.specs.Prelude.{count_by, slice_get, slice_index_or, take}
+use Rattle.std.specs.Prelude.{count_by, drop, slice_get, slice_index_or, take}
 use Rattle.armus_base.specs.declared.ending.TaskEnd.{TaskEnd}
 use Rattle.armus_base.specs.declared.ending.TaskEnd.TheVariants.{Blocked, Done, Refused, Unforked}
 use Rattle.armus_base.specs.declared.op.Op.{Op}
@@ -14,10 +14,10 @@ use Rattle.clock_syntax.specs.Trees.{ClockTree}
 use Rattle.clock_semantics.specs.Unfolding.{ClockUnfolding}
 use Rattle.clock_source_map.specs.ClockOffsets.{clock_offsets}
 use Rattle.clock_source_map.specs.ClockOrigins.{StartedActivity, MadeThing, all_begun, all_things, all_waits}
-use Rattle.clock_source_map.specs.ClockOps.{is_await}
+use Rattle.clock_source_map.specs.ClockOps.{all_op_origins, is_await}
 use Rattle.explain_clock.specs.ClockCircles.{IsClockCircle}
 use Rattle.explain_clock.specs.ClockExplanations.{clock_lines, some_activity_waits}
-use Rattle.explain_clock.specs.ClockFacts.{AreClockFacts, AreTextFacts, ClockFacts, ClockWait, IsWaitBy, ClockTextValue, is_pending}
+use Rattle.explain_clock.specs.ClockFacts.{AreClockFacts, AreTextFacts, ClockFacts, ClockWait, IsWaitBy, ClockTextValue, is_pending, moves_from}
 use Rattle.explain_clock.specs.calls.Laws.{ClockExplanationExists, OneClockExplanation}
 use Rattle.explain_clock.proofs.Circles.{one_circle, some_circle}
 use Rattle.explain_clock.proofs.Told.{AreTold, one_list, told_all, told_more, told_none}
@@ -47,7 +47,7 @@ one_facts :
     AreClockFacts file text p u plan a f → AreClockFacts file text p u plan a g → f ≡ g
 one_facts file text p u plan a f g x y =
     same_facts f.of_text g.of_text f.ends g.ends f.blocked g.blocked f.waits g.waits (one_text_facts file text p u f.of_text g.of_text x.text_facts y.text_facts)
-    (x.ends_are ∙ sym y.ends_are) (x.blocked_are ∙ sym y.blocked_are) (one_list (all_waits u) plan a f.waits g.waits x.waits_are y.waits_are)
+    (x.ends_are ∙ sym y.ends_are) (x.blocked_are ∙ sym y.blocked_are) (one_list (all_waits u) (all_op_origins u) plan a f.waits g.waits x.waits_are y.waits_are)
 
 pub one_clock_explanation : OneClockExplanation
 one_clock_explanation file text p u plan a lines others waits other x y =
@@ -60,23 +60,34 @@ one_clock_explanation file text p u plan a lines others waits other x y =
 
 -- ---- some
 
-wait_exists : (code : List Op) (own : List ℕ) (clocks done : ℕ) (end : TaskEnd) → (w : ClockWait) × IsWaitBy code own clocks done end w
-wait_exists code own clocks done (Blocked e) =
-    let (op, stands) = at_some_op code done in (
-      record { statement = slice_get own (count_by is_await (take op code)); pending = list_below (is_pending (take op code)) clocks },
-      record { op = op; stands = stands; statement_is = refl; pending_is = refl },
-    )
-wait_exists code own clocks done Done = (record { statement = None; pending = [] }, (refl, refl))
-wait_exists code own clocks done (Refused e) = (record { statement = None; pending = [] }, (refl, refl))
-wait_exists code own clocks done Unforked = (record { statement = None; pending = [] }, (refl, refl))
+abbrev no_wait : ClockWait
+no_wait = record { statement = None; pending = []; ahead = [] }
 
-module _ (waits : List (List ℕ)) (plan : Plan) (a : ℕ → Place) where
-  told_exists : (n : ℕ) → (ws : List ClockWait) × AreTold waits plan a n ws
-  told_exists zero = ([], told_none waits plan a)
+wait_exists : (code : List Op) (own : List ℕ) (ops : List (Option ℕ)) (clocks done : ℕ) (end : TaskEnd) → (w : ClockWait) × IsWaitBy code own ops clocks done end w
+wait_exists code own ops clocks done (Blocked e) =
+    let (op, stands) = at_some_op code done in (
+      record {
+        statement = slice_get own (count_by is_await (take op code));
+        pending = list_below (is_pending (take op code)) clocks;
+        ahead = moves_from ops op (drop op code);
+      },
+      record { op = op; stands = stands; statement_is = refl; pending_is = refl; ahead_is = refl },
+    )
+wait_exists code own ops clocks done Done = (no_wait, record { statement_is = refl; pending_is = refl; ahead_is = refl })
+wait_exists code own ops clocks done (Refused e) = (no_wait, record { statement_is = refl; pending_is = refl; ahead_is = refl })
+wait_exists code own ops clocks done Unforked = (no_wait, record { statement_is = refl; pending_is = refl; ahead_is = refl })
+
+module _ (waits : List (List ℕ)) (origins : List (List (Option ℕ))) (plan : Plan) (a : ℕ → Place) where
+  told_exists : (n : ℕ) → (ws : List ClockWait) × AreTold waits origins plan a n ws
+  told_exists zero = ([], told_none waits origins plan a)
   told_exists (suc n) =
       let (ws, told) = told_exists n in
-      let (w, is) = wait_exists (code_of plan n) (slice_index_or waits n []) (length plan.makers) (a n).done (end_of (state_at plan a) n) in
-      (ws ++ w ∷ [], subst (λ k. AreTold waits plan a k (ws ++ w ∷ [])) (let same : n + 1 ≡ suc n = omega arith in same) (told_more waits plan a n ws (ws ++ w ∷ []) w told refl is))
+      let (w, is) =
+      wait_exists (code_of plan n) (slice_index_or waits n []) (slice_index_or origins n []) (length plan.makers) (a n).done (end_of (state_at plan a) n) in (
+        ws ++ w ∷ [],
+        subst (λ k. AreTold waits origins plan a k (ws ++ w ∷ [])) (let same : n + 1 ≡ suc n = omega arith in same)
+            (told_more waits origins plan a n ws (ws ++ w ∷ []) w told refl is),
+      )
 
 -- a text has some
 abbrev pub facts_of_text : Option (List ℕ) → List ℕ → ClockTree → ClockUnfolding → ClockTextValue
@@ -87,7 +98,7 @@ are_facts_of_text file text p u = record { text_is = refl; file_is = refl; offse
 
 pub clock_explanation_exists : ClockExplanationExists
 clock_explanation_exists file text p u plan a reads unfolds plan_is =
-    let (ws, told) = told_exists (all_waits u) plan a (length plan.parents) in
+    let (ws, told) = told_exists (all_waits u) (all_op_origins u) plan a (length plan.parents) in
     let facts : ClockFacts = record {
       of_text = facts_of_text file text p u;
       ends = (final_of plan (state_at plan a)).ends;
@@ -106,7 +117,7 @@ clock_explanation_exists file text p u plan a reads unfolds plan_is =
           text_facts = are_facts_of_text file text p u;
           ends_are = refl;
           blocked_are = refl;
-          waits_are = told_all (all_waits u) plan a (length plan.parents) ws refl told;
+          waits_are = told_all (all_waits u) (all_op_origins u) plan a (length plan.parents) ws refl told;
         };
         circle = circle;
         circle_is = circle_is;

@@ -1,6 +1,6 @@
 -- Lists that grow by where one activity more waits; and that there is one list.
 use Rattle.std.proofs.Common.{◌≡◌, ◌≢◌, ◌⊎◌, ℕ, ◌+◌, ◌<◌, List, [], ◌∷◌, ◌++◌, Option, Bool, length, arith, sym, ◌∙◌, ap, subst, inl, inr, length-append}
-use Rattle.std.specs.Prelude.{count_by, slice_get, slice_index_or, take}
+use Rattle.std.specs.Prelude.{count_by, drop, slice_get, slice_index_or, take}
 use Rattle.std.proofs.lemmas.Bool.{cases_eq}
 use Rattle.std.proofs.lemmas.List.{get_or_append_left, same_lists}
 use Rattle.std.proofs.lemmas.Option.{get_or_from_slice_get}
@@ -13,7 +13,8 @@ use Rattle.armus_base.specs.declared.ending.TaskEnd.{TaskEnd}
 use Rattle.armus_base.specs.declared.ending.TaskEnd.TheVariants.{Blocked, Done, Refused, Unforked}
 use Rattle.armus_base.specs.declared.op.Op.{Op}
 use Rattle.armus_base.proofs.Below.{list_below-at}
-use Rattle.explain_clock.specs.ClockFacts.{AreWaitsAt, ClockWait, IsWaitBy, is_pending}
+use Rattle.explain_clock.specs.ClockFacts.{AreWaitsAt, ClockWait, IsNoWait, IsWaitBy, is_pending, moves_from}
+use Rattle.explain_clock.specs.declared.facts.NextMove.{NextMove}
 use Rattle.explain_facts.proofs.OneAccount.{one_op}
 use Rattle.clock_source_map.specs.ClockOps.{is_await}
 
@@ -21,9 +22,9 @@ use Rattle.clock_source_map.specs.ClockOps.{is_await}
 pub list_at : {A : Type 0} (f : ℕ → A) (n t : ℕ) (xs : List A) (d : A) → xs ≡ list_below f n → t < n → slice_index_or xs t d ≡ f t
 list_at f n t xs d is lt = ap (λ ys. slice_index_or ys t d) is ∙ get_or_from_slice_get (list_below f n) t (f t) d (list_below-at f n t lt)
 
-module _ (waits : List (List ℕ)) (plan : Plan) (a : ℕ → Place) where
+module _ (waits : List (List ℕ)) (origins : List (List (Option ℕ))) (plan : Plan) (a : ℕ → Place) where
   abbrev pub IsWait : ℕ → ClockWait → Type 0
-  IsWait t w = IsWaitBy (code_of plan t) (slice_index_or waits t []) (length plan.makers) (a t).done (end_of (state_at plan a) t) w
+  IsWait t w = IsWaitBy (code_of plan t) (slice_index_or waits t []) (slice_index_or origins t []) (length plan.makers) (a t).done (end_of (state_at plan a) t) w
 
   -- the first n activities wait so
   pub record AreTold (n : ℕ) (ws : List ClockWait) : Type 0 where
@@ -48,7 +49,7 @@ module _ (waits : List (List ℕ)) (plan : Plan) (a : ℕ → Place) where
           let within : t < length ws = omega (arith, told.all) in
           subst (IsWait t) (sym (get_or_append_left ws (own ∷ []) d t within)) (told.each t d before)
 
-  pub told_all : (n : ℕ) (ws : List ClockWait) → n ≡ length plan.parents → AreTold n ws → AreWaitsAt waits plan a ws
+  pub told_all : (n : ℕ) (ws : List ClockWait) → n ≡ length plan.parents → AreTold n ws → AreWaitsAt waits origins plan a ws
   told_all n ws same told = record {
     all = told.all ∙ same;
     each = λ t d lt. told.each t d (omega (arith, same, lt));
@@ -56,23 +57,30 @@ module _ (waits : List (List ℕ)) (plan : Plan) (a : ℕ → Place) where
 
   -- ---- one list
 
-  same_wait : (s s' : Option ℕ) (p p' : List Bool) → s ≡ s' → p ≡ p' →
-      let w : ClockWait = record { statement = s; pending = p } in let v : ClockWait = record { statement = s'; pending = p' } in w ≡ v
-  same_wait s s' p p' x y = cc
+  same_wait : (s s' : Option ℕ) (p p' : List Bool) (n n' : List NextMove) → s ≡ s' → p ≡ p' → n ≡ n' →
+      let w : ClockWait = record { statement = s; pending = p; ahead = n } in let v : ClockWait = record { statement = s'; pending = p'; ahead = n' } in w ≡ v
+  same_wait s s' p p' n n' x y z = cc
 
-  one_wait : (code : List Op) (own : List ℕ) (clocks done : ℕ) (end : TaskEnd) (w v : ClockWait) → IsWaitBy code own clocks done end w → IsWaitBy code own clocks done end v → w ≡ v
-  one_wait code own clocks done (Blocked e) w v x y =
-      let ops = one_op code done x.op y.op x.stands y.stands in
-      same_wait w.statement v.statement w.pending v.pending
-      (x.statement_is ∙ ap (λ k. slice_get own (count_by is_await (take k code))) ops ∙ sym y.statement_is)
-      (x.pending_is ∙ ap (λ k. list_below (is_pending (take k code)) clocks) ops ∙ sym y.pending_is)
-  one_wait code own clocks done Done w v x y = same_wait w.statement v.statement w.pending v.pending (x.0 ∙ sym y.0) (x.1 ∙ sym y.1)
-  one_wait code own clocks done (Refused e) w v x y = same_wait w.statement v.statement w.pending v.pending (x.0 ∙ sym y.0) (x.1 ∙ sym y.1)
-  one_wait code own clocks done Unforked w v x y = same_wait w.statement v.statement w.pending v.pending (x.0 ∙ sym y.0) (x.1 ∙ sym y.1)
+  same_none : (w v : ClockWait) → IsNoWait w → IsNoWait v → w ≡ v
+  same_none w v x y =
+      same_wait w.statement v.statement w.pending v.pending w.ahead v.ahead (x.statement_is ∙ sym y.statement_is) (x.pending_is ∙ sym y.pending_is) (x.ahead_is ∙ sym y.ahead_is)
 
-  pub one_list : (ws vs : List ClockWait) → AreWaitsAt waits plan a ws → AreWaitsAt waits plan a vs → ws ≡ vs
+  one_wait :
+      (code : List Op) (own : List ℕ) (ops : List (Option ℕ)) (clocks done : ℕ) (end : TaskEnd) (w v : ClockWait) → IsWaitBy code own ops clocks done end w →
+      IsWaitBy code own ops clocks done end v → w ≡ v
+  one_wait code own ops clocks done (Blocked e) w v x y =
+      let same = one_op code done x.op y.op x.stands y.stands in
+      same_wait w.statement v.statement w.pending v.pending w.ahead v.ahead
+      (x.statement_is ∙ ap (λ k. slice_get own (count_by is_await (take k code))) same ∙ sym y.statement_is)
+      (x.pending_is ∙ ap (λ k. list_below (is_pending (take k code)) clocks) same ∙ sym y.pending_is)
+      (x.ahead_is ∙ ap (λ k. moves_from ops k (drop k code)) same ∙ sym y.ahead_is)
+  one_wait code own ops clocks done Done w v x y = same_none w v x y
+  one_wait code own ops clocks done (Refused e) w v x y = same_none w v x y
+  one_wait code own ops clocks done Unforked w v x y = same_none w v x y
+
+  pub one_list : (ws vs : List ClockWait) → AreWaitsAt waits origins plan a ws → AreWaitsAt waits origins plan a vs → ws ≡ vs
   one_list ws vs x y =
       same_lists ws vs (x.all ∙ sym y.all) (λ t d lt.
       let within : t < length plan.parents = omega (arith, x.all, lt) in
-      one_wait (code_of plan t) (slice_index_or waits t []) (length plan.makers) (a t).done (end_of (state_at plan a) t) (slice_index_or ws t d) (slice_index_or vs t d)
+      one_wait (code_of plan t) (slice_index_or waits t []) (slice_index_or origins t []) (length plan.makers) (a t).done (end_of (state_at plan a) t) (slice_index_or ws t d) (slice_index_or vs t d)
       (x.each t d within) (y.each t d within))

@@ -1,6 +1,6 @@
 -- What is said of each activity in the explanation of a final state.
-use Rattle.std.proofs.Common.{◌≡◌, ℕ, ◌<◌, Bool, true, false, Option, Some, None, List, [], length, arith, sym, ◌∙◌, ap, subst, refl}
-use Rattle.std.specs.Prelude.{map, slice_get}
+use Rattle.std.proofs.Common.{◌≡◌, ℕ, ◌<◌, Bool, true, false, Option, Some, None, List, [], length, arith, sym, ◌∙◌, ap, subst, refl, inl, inr}
+use Rattle.std.specs.Prelude.{slice_get}
 use Rattle.armus_base.specs.declared.ending.TaskEnd.TheVariants.{Done}
 use Rattle.armus_base.specs.declared.event.Event.{Event}
 use Rattle.armus_base.specs.CheckedPlans.{IsCheckedPlan}
@@ -11,6 +11,7 @@ use Rattle.armus_base.specs.Plans.{Passes, Plan}
 use Rattle.armus_base.specs.Runs.{IsFinal, Place}
 use Rattle.armus_base.specs.States.{State}
 use Rattle.armus_base.proofs.DeadByStatuses.{run_is_of_plan}
+use Rattle.armus_base.proofs.Below.{length-list_below}
 use Rattle.armus_base.proofs.Members.{published_member}
 use Rattle.armus_base.proofs.Lists.{some_at}
 use Rattle.clock_syntax.specs.Trees.{ClockTree}
@@ -20,10 +21,14 @@ use Rattle.clock_laws.proofs.Acting.{unrefused}
 use Rattle.clock_source_map.specs.ClockOrigins.{MadeThing}
 use Rattle.clock_source_map.proofs.AllOrigins.{tasks_and_phasers_have_statements}
 use Rattle.clock_source_map.proofs.Walked.{plan_is}
-use Rattle.explain_clock.specs.ClockExplanations.{ExplainsActivities, activity_paragraph, few_lines, missing_line, paragraph_at, paragraph_of_thing}
+use Rattle.explain_clock.specs.ClockExplanations.{ExplainsActivities, is_unstarted, paragraph_by, paragraph_of_thing, waits_there}
+use Rattle.explain_clock.specs.ActivityLists.{things_said}
+use Rattle.explain_clock.specs.ClockFacts.{end_at}
+use Rattle.explain_clock.specs.ClockKeepers.{keeper_said, keepers}
 use Rattle.explain_clock.specs.calls.ParagraphLaws.{EachHasItsParagraph, IsSaidOf, IsWaitingIn, NamesThoseBehind, ThoseBehindAreNamed}
 use Rattle.explain_clock.proofs.MembersWait.{members_wait}
-use Rattle.explain_clock.proofs.Named.{ascending, behind, from_behind, lines_named, named_in}
+use Rattle.explain_clock.proofs.Named.{ascending, behind, from_behind, keepers_named, named_in}
+use Rattle.explain_clock.proofs.Standing.{stands_in_none, stands_in_one, told_alone, told_once, told_there, told_with_it}
 use Rattle.explain_clock.proofs.Told.{list_at}
 
 module _ (file : Option (List ℕ)) (text : List ℕ) (p : ClockTree) (u : ClockUnfolding) (plan : Plan) (a : ℕ → Place) (lines : List ℕ) (waits : Bool)
@@ -53,31 +58,43 @@ module _ (file : Option (List ℕ)) (text : List ℕ) (p : ClockTree) (u : Clock
   none_refused : (t : ℕ) → end_state.refused t ≡ None
   none_refused t = ap (λ z. z.refused t) (sym final.there) ∙ unrefused plan checked final.steps final.run t (Passes 0) []
 
-  pub said : (t : ℕ) → t < length plan.parents → IsSaidOf x.facts t (end_of end_state t)
+  pub said : (t : ℕ) → t < length plan.parents → IsSaidOf x.facts x.circle t (end_of end_state t)
   said t within =
       by (end_state.forked t) (end_state.published t) (end_state.refused t) refl refl
-      (ap (activity_paragraph x.facts t) (list_at (end_of end_state) (length plan.parents) t x.facts.ends Done x.are_facts.ends_are within))
+      (list_at (end_of end_state) (length plan.parents) t x.facts.ends Done x.are_facts.ends_are within)
     where
+      all : t < length x.facts.ends
+      all = let sized = ap length x.are_facts.ends_are ∙ length-list_below (end_of end_state) (length plan.parents) in omega (arith, within, sized)
+
       by :
-          (b : Bool) (o r : Option Event) → end_state.published t ≡ o → end_state.refused t ≡ r → paragraph_at x.facts t ≡ activity_paragraph x.facts t (end_by b o r) →
-          IsSaidOf x.facts t (end_by b o r)
+          (b : Bool) (o r : Option Event) → end_state.published t ≡ o → end_state.refused t ≡ r → end_at x.facts t ≡ end_by b o r →
+          IsSaidOf x.facts x.circle t (end_by b o r)
       by b (Some e) r published refused is =
-          let (thing, there) = thing_of t e published in
-          (thing, there, is ∙ ap (paragraph_of_thing x.facts t e) there)
+          let (thing, there) = thing_of t e published in (
+            thing,
+            there,
+            ap (paragraph_by x.facts t 1 []) is ∙ ap (paragraph_of_thing x.facts t 1 [] e) there,
+            stands_in_one x.facts x.circle t all (inl (ap waits_there is)),
+          )
       by b None (Some e) published refused is = absurd (let none = none_refused t in cc)
-      by true None None published refused is = is
-      by false None None published refused is = is
+      by true None None published refused is = stands_in_none x.facts x.circle t is
+      by false None None published refused is = (ap (paragraph_by x.facts t 1 []) is, stands_in_one x.facts x.circle t all (inr (ap is_unstarted is)))
 
   pub those_behind : (t : ℕ) (e : Event) → end_state.published t ≡ Some e → NamesThoseBehind x.facts end_state e
   those_behind t e published =
       let blocked = statuses_on plan end_state (is_awaited plan end_state) in
       record {
         named = named_in e blocked;
-        lines_are = λ name.
-            ap few_lines (lines_named x.facts e name x.facts.blocked ∙ ap (λ ss. map (missing_line x.facts name) (named_in e ss)) x.are_facts.blocked_are);
+        named_are = keepers_named e x.facts.blocked ∙ ap (named_in e) x.are_facts.blocked_are;
         ascend = ascending plan end_state of_plan all_wait t e published;
         exact = λ v. (behind plan end_state of_plan all_wait t e published v, from_behind plan end_state of_plan all_wait t e published v);
         wait = λ v inside. let (n, member, less) = behind plan end_state of_plan all_wait t e published v inside in all_wait v e.p.0 n member;
+        told = things_said (keeper_said x.facts e) (keepers x.facts e);
+        lines_are = refl;
+        once = told_once (keeper_said x.facts e) (keepers x.facts e);
+        there = told_there (keeper_said x.facts e) (keepers x.facts e);
+        with_it = told_with_it (keeper_said x.facts e) (keepers x.facts e);
+        alone = told_alone (keeper_said x.facts e) (keepers x.facts e);
       }
 
 pub each_has_its_paragraph : EachHasItsParagraph

@@ -42,9 +42,13 @@ abbrev pub started_words : ClockTextValue → Option StartedActivity → List �
 started_words f None = []
 started_words f (Some b) = async_words f (b.first - 1)
 
+-- where activity t is started:  (async at 3:5), and nothing for activity 0
+abbrev pub started_at_words : ClockTextValue → ℕ → List ℕ
+started_at_words f t = started_words f (slice_get f.begun t)
+
 -- activity 1 (async at 3:5)
 abbrev pub activity_words : ClockTextValue → ℕ → List ℕ
-activity_words f t = codes "activity " ++ decimal t ++ started_words f (slice_get f.begun t)
+activity_words f t = codes "activity " ++ decimal t ++ started_at_words f t
 
 -- ---- clocks and finishes
 
@@ -66,8 +70,3 @@ wait_statement (Some w) = w.statement
 -- the statement at which activity t waits
 abbrev pub waits_at : ClockFacts → ℕ → Option ℕ
 waits_at f t = wait_statement (slice_get f.waits t)
-
--- : it waits at 5:5
-abbrev pub standing_words : ClockTextValue → Option ℕ → List ℕ
-standing_words f None = []
-standing_words f (Some n) = codes ": it waits at " ++ statement_place_words f n

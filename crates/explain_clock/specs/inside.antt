@@ -1,3 +1,5 @@
 pub mod Passing
 pub mod FewLines
 pub mod ToldOf
+pub mod ToldTogether
+pub mod KeptLines

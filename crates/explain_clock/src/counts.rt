@@ -7,6 +7,20 @@ use armus_base::{NoMemory, TaskEnd};
 use explain_facts::put_words;
 use std::alloc::Global;
 
+// It waits.
+pub(crate) fn waits_there(end: TaskEnd) -> bool
+    ensures { result ≡ waits_there end }
+{
+    matches!(end, TaskEnd::Blocked(_))
+}
+
+// It is not started.
+pub(crate) fn is_unstarted(end: TaskEnd) -> bool
+    ensures { result ≡ is_unstarted end }
+{
+    matches!(end, TaskEnd::Unforked)
+}
+
 // How many have ended.
 fn count_ended(ends: &[TaskEnd]) -> usize
     ensures { result ≡ count_by is_ended ends.now }

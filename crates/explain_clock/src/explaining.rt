@@ -16,6 +16,7 @@ use crate::facts::{ClockFacts, Wait};
 use crate::text_facts::{ClockLayout, ClockTextFacts};
 use crate::waits::waits_of;
 use armus_base::{Final, List, NoMemory, TaskId};
+use clock_source_map::clock_op_origins;
 use clock_syntax::ClockProgram;
 use pl_core::World;
 use source_map::TextPlaces;
@@ -42,7 +43,8 @@ fn explain_facts(facts: &ClockFacts<'_>, circle: &[TaskId]) -> Result<ClockExpla
     let mut out = Vec::new(alloc);
     put_counts(alloc, &mut out, ends)?;
     facts.put_verdict(&mut out, circle, somebody)?;
-    facts.put_paragraphs(&mut out)?;
+    facts.put_paragraphs(&mut out, circle)?;
+    facts.put_circle_hint(&mut out, circle)?;
     Ok(ClockExplanation {
         lines: List::from_vec(out),
         has_waiting: somebody,
@@ -97,7 +99,8 @@ fn explain_layout(
 
 /// Explains where a run of the plan of a clock text has ended: `world` is that of its end, and `end` the value of its state. `places` are those of the
 /// text, which is this program and unfolds to the plan of the world, and `file` is the name of its file, if it comes from one. The only error is want of
-/// memory. The time is linear in the visits of the unfolding, and in the pairs of an activity that waits with another one or with a clock or finish.
+/// memory. The time is linear in the visits of the unfolding, in the pairs of an activity that waits with another one, with a clock or finish or with a
+/// paragraph, and for each clock or finish for which one waits in the ops that those have left who keep it waiting.
 pub fn clock_explanation_of(
     alloc: Global,
     places: &TextPlaces<'_>,
@@ -113,9 +116,16 @@ pub fn clock_explanation_of(
     ensures { IfOk result (λ e. (u : ClockUnfolding) → clock_unfolded program.now.body ≡ Ok u →
         ExplainsActivities (option_copied file.entry) places.now program.now.body u world.now.plan (places_of world.now) e.lines e.has_waiting) }
 {
-    let _plan = world.plan();
+    let plan = world.plan();
     let layout = ClockLayout::new(alloc, places.text(), program)?;
-    let waits = waits_of(alloc, &layout.origins, world, end.ends.as_slice())?;
+    let ops = clock_op_origins(alloc, program, plan)?;
+    let waits = waits_of(
+        alloc,
+        &layout.origins,
+        ops.as_slice(),
+        world,
+        end.ends.as_slice(),
+    )?;
     let explanation = explain_layout(alloc, places, file, &layout, end, waits)?;
     Ok(explanation)
 }

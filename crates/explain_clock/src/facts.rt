@@ -1,17 +1,29 @@
 // What an explanation of a clock text is made of.
 ghost use Rattle.std.specs.Prelude.{◌≡◌, ◌<◌, ◌^◌, length, slice_get};
+ghost use Rattle.std.specs.List.{find};
+ghost use Rattle.explain_clock.specs.ClockKeepers.{is_move_on};
 
 use crate::text_facts::ClockTextFacts;
-use armus_base::{Final, PhaserId};
+use armus_base::{Final, PhaserId, TaskEnd};
+use explain_facts::Doing;
 use pl_plan::Membership;
 use std::marker::Model;
 
-// Where an activity waits: the statement; and which of so many clocks and finishes are pending there.
+// What an activity does to a clock or finish, and at which statement; what it does at its end it does at none.
+#[derive(Clone, Copy, Debug, PartialEq, Eq)]
+pub(crate) struct NextMove {
+    pub(crate) p: PhaserId,
+    pub(crate) does: Doing,
+    pub(crate) statement: Option<u32>,
+}
+
+// Where an activity waits: the statement; which of so many clocks and finishes are pending there; and what it does behind its wait, in order.
 #[derive(Drop)]
 pub(crate) struct Wait {
     pub(crate) statement: Option<u32>,
     pub(crate) pending: Membership,
     pub(crate) clocks: u32,
+    pub(crate) ahead: Vec<NextMove>,
 }
 
 impl Model for Wait {
@@ -21,7 +33,26 @@ impl Model for Wait {
 
     ghost Value = { ClockWait };
 
-    ghost view = { λ w. record { statement = w.statement; pending = list_below (λ p. slice_index_or w.pending p false) w.clocks } };
+    ghost view = { λ w. record { statement = w.statement; pending = list_below (λ p. slice_index_or w.pending p false) w.clocks; ahead = w.ahead.items } };
+}
+
+// Whether this is done to `p`.
+fn is_on(next: NextMove, p: PhaserId) -> bool
+    ensures { result ≡ is_move_on p.0 next }
+{
+    next.p == p
+}
+
+// The first of these that is done to `p`.
+fn next_on(ahead: &[NextMove], p: PhaserId) -> Option<NextMove>
+    ensures { result ≡ find (is_move_on p.0) ahead.now }
+{
+    for next in ahead {
+        if is_on(*next, p) {
+            return Some(*next);
+        }
+    }
+    None
 }
 
 impl Wait {
@@ -36,6 +67,13 @@ impl Wait {
         } else {
             false
         }
+    }
+
+    // What the activity does next to `p`.
+    fn next(&self, p: PhaserId) -> Option<NextMove>
+        ensures { result ≡ find (is_move_on p.0) self.now.ahead }
+    {
+        next_on(&self.ahead, p)
     }
 }
 
@@ -65,7 +103,8 @@ impl<'a> Model for ClockFacts<'a> {
 
 impl<'a> ClockFacts<'a> {
     ghost use Rattle.explain_clock.specs.ClockWords.{waits_at};
-    ghost use Rattle.explain_clock.specs.ClockExplanations.{pending_in};
+    ghost use Rattle.explain_clock.specs.ClockFacts.{end_at, pending_in};
+    ghost use Rattle.explain_clock.specs.ClockKeepers.{next_at};
     ghost use Rattle.std.specs.Prelude.{slice_index_or, false};
 
     // What is known of this text where a run has ended so and its activities wait so.
@@ -108,6 +147,26 @@ impl<'a> ClockFacts<'a> {
         match self.waits.get(t as usize) {
             Some(wait) => wait.is_pending(p),
             None => false,
+        }
+    }
+
+    // What an activity does next to `p`, behind its wait.
+    pub(crate) fn next(&self, t: u32, p: PhaserId) -> Option<NextMove>
+        ensures { result ≡ next_at self.now t p.0 }
+    {
+        match self.waits.get(t as usize) {
+            Some(wait) => wait.next(p),
+            None => None,
+        }
+    }
+
+    // How an activity has ended.
+    pub(crate) fn end(&self, t: u32) -> TaskEnd
+        ensures { result ≡ end_at self.now t }
+    {
+        match self.end.ends.as_slice().get(t as usize) {
+            Some(end) => *end,
+            None => TaskEnd::Done,
         }
     }
 }

@@ -1,6 +1,6 @@
 // Lines of which the first three are written.
 ghost use Rattle.std.specs.Prelude.{◌≡◌, ◌++◌, OnOk};
-ghost use Rattle.explain_clock.specs.ClockExplanations.{others_line};
+ghost use Rattle.explain_clock.specs.ClockKeepers.{others_line};
 
 use armus_base::NoMemory;
 use explain_facts::put_words;

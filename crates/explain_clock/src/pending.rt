@@ -1,7 +1,8 @@
 // What is pending where an activity waits.
 ghost use Rattle.std.specs.Prelude.{◌≡◌, ◌<◌, ◌-◌, ◌^◌, ◌++◌, IfOk, OnOk, Some, codes, length, option_copied, option_map, slice_get};
 ghost use Rattle.pl_syntax.specs.Printed.{line};
-ghost use Rattle.explain_clock.specs.ClockExplanations.{line_if_pending, lines_below, pending_in, pending_line, pending_lines, pending_named};
+ghost use Rattle.explain_clock.specs.ClockExplanations.{line_if_pending, lines_below, pending_line, pending_lines, pending_named};
+ghost use Rattle.explain_clock.specs.ClockFacts.{pending_in};
 ghost use Rattle.explain_clock.specs.ClockWords.{made_clock_words};
 ghost use Rattle.explain_clock.specs.inside.FewLines.{AddsLines};
 

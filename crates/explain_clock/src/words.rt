@@ -1,6 +1,6 @@
 // Words for places and activities, and for clocks.
 ghost use Rattle.std.specs.Prelude.{◌≡◌, ◌++◌, ℕ, List, OnOk, decimal, length, option_copied};
-ghost use Rattle.explain_clock.specs.ClockWords.{activity_words, async_words, front_of, made_clock_words, made_finish_words, offset_of, statement_place_words, standing_words, started_words, clock_statement_place};
+ghost use Rattle.explain_clock.specs.ClockWords.{activity_words, async_words, front_of, made_clock_words, made_finish_words, offset_of, statement_place_words, started_at_words, started_words, clock_statement_place};
 
 use crate::text_facts::ClockTextFacts;
 use armus_base::NoMemory;
@@ -82,24 +82,20 @@ impl<'a> ClockTextFacts<'a> {
         }
     }
 
+    // Appends where activity `t` is started.
+    pub(crate) fn put_started_at(&self, out: &mut Vec<u8>, t: u32) -> Result<(), NoMemory>
+        ensures { OnOk result (out.new.items ≡ out.old.items ++ started_at_words self.now t) }
+    {
+        self.put_started(out, self.begun(t))
+    }
+
     /// Appends an activity: `activity 1 (async at 3:5)`.
     pub fn put_activity(&self, out: &mut Vec<u8>, t: u32) -> Result<(), NoMemory>
         ensures { OnOk result (out.new.items ≡ out.old.items ++ activity_words self.now t) }
     {
         put_words(out, b"activity ")?;
         put_number(self.alloc, out, t as usize)?;
-        self.put_started(out, self.begun(t))
-    }
-
-    // Appends where an activity waits.
-    pub(crate) fn put_standing(&self, out: &mut Vec<u8>, n: Option<u32>) -> Result<(), NoMemory>
-        ensures { OnOk result (out.new.items ≡ out.old.items ++ standing_words self.now n) }
-    {
-        let Some(n) = n else {
-            return Ok(());
-        };
-        put_words(out, b": it waits at ")?;
-        self.put_place(out, n)
+        self.put_started_at(out, t)
     }
 
     /// Appends a clock of this name, made at statement `n`: `clock c made at 1:1`.

@@ -15,7 +15,7 @@ use Rattle.explain_tasks.specs.declared.impeders.Impeder.{Impeder}
 use Rattle.explain_tasks.specs.Facts.{FactsValue, situation_of, wait_of}
 use Rattle.explain_tasks.specs.Groups.{each_once}
 use Rattle.explain_tasks.specs.Impeders.{impeders_by, impeders_in, impeders_by_facts}
-use Rattle.explain_tasks.specs.Places.{name_words}
+use Rattle.explain_tasks.specs.Places.{drawn_name}
 use Rattle.explain_tasks.specs.Sayings.{Said, impeder_forking, impeder_next, impeder_said, impeder_words, same_forking, same_said}
 use Rattle.explain_tasks.specs.calls.Grouped.{IsGrouped, NotesSaid}
 use Rattle.explain_tasks.proofs.EachOnce as each
@@ -124,7 +124,7 @@ pub same_by_number :
 same_by_number f numbers a b are lt lt' =
     ap (λ x. (a.phase == b.phase) && (x && bytes_eq (impeder_next f a) (impeder_next f b)))
     (are.same a.t.0 b.t.0 (subst (λ n. a.t.0 < n) are.sized lt) (subst (λ n. b.t.0 < n) are.sized lt'))
-    ∙ regroup (bytes_eq (name_words f a.t.0) (name_words f b.t.0)) (a.phase == b.phase)
+    ∙ regroup (bytes_eq (drawn_name f a.t.0) (drawn_name f b.t.0)) (a.phase == b.phase)
     (bytes_eq (impeder_words f a.t.0 (situation_of f a.t.0)) (impeder_words f b.t.0 (situation_of f b.t.0)))
     (same_forking (impeder_forking f a.t.0 (situation_of f a.t.0)) (impeder_forking f b.t.0 (situation_of f b.t.0)))
     (bytes_eq (impeder_next f a) (impeder_next f b))
@@ -258,7 +258,7 @@ impeders_within f phases t = by_wait (wait_of f t)
 -- the lines by the first three things that are said
 pub lines_are :
     (f : FactsValue) (n : ℕ) (next : Option TaskId) (impeders firsts : List Impeder) → map (impeder_said f) firsts ≡ take 3 (told_of f next impeders) →
-    flat_map (λ said. group_line f n said (group_of f impeders said)) (map (impeder_said f) firsts) ++ rest_line (rest_of f impeders (map (impeder_said f) firsts))
+    flat_map (λ said. group_line f n said (group_of f impeders said)) (map (impeder_said f) firsts) ++ rest_line f (rest_of f impeders (map (impeder_said f) firsts))
     ≡ lines_by f n next impeders
 lines_are f n next impeders firsts told =
-    ap (λ ks. flat_map (λ said. group_line f n said (group_of f impeders said)) ks ++ rest_line (rest_of f impeders ks)) told
+    ap (λ ks. flat_map (λ said. group_line f n said (group_of f impeders said)) ks ++ rest_line f (rest_of f impeders ks)) told

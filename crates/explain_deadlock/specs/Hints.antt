@@ -14,13 +14,13 @@ use Rattle.explain_tasks.specs.declared.situation.Situation.{Situation}
 use Rattle.explain_tasks.specs.declared.situation.Situation.TheVariants.{HasEnded, NeverForked, NotForkedYet}
 use Rattle.explain_tasks.specs.Facts.{FactsValue, drawing_of, forking_of, is_waiting, situation_of, wait_of}
 use Rattle.explain_tasks.specs.Impeders.{impeders_by_facts}
-use Rattle.explain_tasks.specs.Places.{end_words, fork_place, named_task, said_of, wait_place}
+use Rattle.explain_tasks.specs.Places.{end_words, fork_place, named_phaser, named_task, said_of, wait_place}
 use Rattle.explain_deadlock.specs.declared.outcome.WaitVerdict.{WaitVerdict}
 use Rattle.explain_deadlock.specs.declared.outcome.WaitVerdict.TheVariants.{Nobody, Circle, Chain}
 
--- the phaser for which task t waits: p1
+-- the phaser for which task t waits: left
 abbrev pub awaited_phaser_words : FactsValue → ℕ → List ℕ
-awaited_phaser_words f t = said_of (λ (w : Waiting). codes "p" ++ decimal w.event.p.0) (wait_of f t)
+awaited_phaser_words f t = said_of (λ (w : Waiting). named_phaser f w.event.p.0) (wait_of f t)
 
 -- ---- the walk comes to an end
 
@@ -34,7 +34,7 @@ abbrev pub is_outside : Option Drawn → Option Waiting → Bool
 is_outside (Some d) (Some w) = is_of_text d.at && not (is_of_text w.at)
 is_outside _ _ = false
 
--- hint: t1 (fourth) is never forked: fork it, or let it be no member of p0
+-- hint: fourth is never forked: fork it, or let it be no member of left
 abbrev pub never_forked_hint : FactsValue → ℕ → ℕ → List ℕ
 never_forked_hint f held last =
     line (codes "hint: " ++ named_task f last ++ codes " is never forked: fork it, or let it be no member of " ++ awaited_phaser_words f held)
@@ -48,16 +48,16 @@ abbrev pub missing_arrivals : Option Waiting → Option ℕ → List ℕ
 missing_arrivals (Some w) (Some phase) = arrivals_words (w.event.n - phase)
 missing_arrivals _ _ = []
 
--- what a task that has ended, and has this phase, would have to do before:  leave p0 before 15:1, or arrive there 2 more times
+-- what a task that has ended, and has this phase, would have to do before:  leave left before 15:1, or arrive there 2 more times
 abbrev pub leaving_words : FactsValue → ℕ → ℕ → Option ℕ → List ℕ
 leaving_words f held last phase =
     codes " leave " ++ awaited_phaser_words f held ++ codes " before " ++ end_words f last ++ codes ", or arrive there " ++ missing_arrivals (wait_of f held) phase
 
--- hint: t0 made p0, and so is a member of it: let it
+-- hint: t0 made left, and so is a member of it: let it
 abbrev pub let_maker_words : FactsValue → ℕ → List ℕ
 let_maker_words f held = codes "hint: t0 made " ++ awaited_phaser_words f held ++ codes ", and so is a member of it: let it"
 
--- hint: let t1 (t)
+-- hint: let other
 abbrev pub let_task_words : FactsValue → ℕ → List ℕ
 let_task_words f last = codes "hint: let " ++ named_task f last
 
@@ -65,7 +65,7 @@ let_task_words f last = codes "hint: let " ++ named_task f last
 abbrev pub let_words : FactsValue → ℕ → ℕ → List ℕ
 let_words f held last = if last == 0 then let_maker_words f held else let_task_words f last
 
--- hint: let t1 (t) leave p0 before 15:1, or arrive there 2 more times
+-- hint: let other leave left before 15:1, or arrive there 2 more times
 abbrev pub ended_hint : FactsValue → ℕ → ℕ → Option ℕ → List ℕ
 ended_hint f held last phase = line (let_words f held last ++ leaving_words f held last phase)
 
@@ -98,11 +98,11 @@ waits_before_fork f t = is_behind_a_wait f (situation_of f t.0) (forking_of f t.
 abbrev pub waits_at_words : FactsValue → ℕ → List ℕ
 waits_at_words f t = codes "hint: " ++ named_task f t ++ codes " waits at " ++ wait_place f t
 
--- what it does behind its wait:  before it forks t1 (other) at 13:1: let it fork first
+-- what it does behind its wait:  before it forks other at 13:1: let it fork first
 abbrev pub before_fork_words : FactsValue → ℕ → List ℕ
 before_fork_words f t = codes " before it forks " ++ named_task f t ++ codes " at " ++ fork_place f t ++ codes ": let it fork first"
 
--- hint: t0 waits at 12:1 before it forks t1 (other) at 13:1: let it fork first
+-- hint: t0 waits at 12:1 before it forks other at 13:1: let it fork first
 abbrev pub fork_hint : FactsValue → ℕ → Forked → List ℕ
 fork_hint f t x = line (waits_at_words f x.by.0 ++ before_fork_words f t)
 
@@ -115,19 +115,19 @@ is_ahead_of_itself (Some w) = nat_lt w.phase w.event.n
 abbrev pub waits_for_itself : FactsValue → TaskId → Bool
 waits_for_itself f t = is_ahead_of_itself (wait_of f t.0)
 
--- for which event:  for phase 2 of p0
-abbrev pub for_event_words : Waiting → List ℕ
-for_event_words w = codes " for phase " ++ decimal w.event.n ++ codes " of p" ++ decimal w.event.p.0
+-- for which event:  for phase 2 of left
+abbrev pub for_event_words : FactsValue → Waiting → List ℕ
+for_event_words f w = codes " for phase " ++ decimal w.event.n ++ codes " of " ++ named_phaser f w.event.p.0
 
 -- which phase it has: , and has phase 1 itself: let it arrive first, or look less far ahead
 abbrev pub own_phase_words : Waiting → List ℕ
 own_phase_words w = codes ", and has phase " ++ decimal w.phase ++ codes " itself: let it arrive first, or look less far ahead"
 
--- hint: t3 (consumer) waits at 11:22 for phase 2 of p0, and has phase 1 itself: let it arrive first, or look less far ahead
+-- hint: consumer waits at 11:22 for phase 2 of full, and has phase 1 itself: let it arrive first, or look less far ahead
 abbrev pub itself_hint : FactsValue → ℕ → Waiting → List ℕ
-itself_hint f t w = line (waits_at_words f t ++ for_event_words w ++ own_phase_words w)
+itself_hint f t w = line (waits_at_words f t ++ for_event_words f w ++ own_phase_words w)
 
--- what one task of a circle would have to do before it waits, where this one waits for it: t0 at p1 before 19:1
+-- what one task of a circle would have to do before it waits, where this one waits for it: t0 at right before 19:1
 abbrev pub before_words : FactsValue → TaskId → TaskId → List ℕ
 before_words f waiter t = named_task f t.0 ++ codes " at " ++ awaited_phaser_words f waiter.0 ++ codes " before " ++ wait_place f t.0
 
@@ -140,7 +140,7 @@ pair_words f _ _ = []
 abbrev pub others_words : ℕ → List ℕ
 others_words n = if nat_lt 2 n then codes ", or another one likewise" else []
 
--- hint: one of them has to arrive, or leave, before it waits: t0 at p1 before 19:1, or t1 (other) at p0 before 14:3
+-- hint: one of them has to arrive, or leave, before it waits: t0 at right before 19:1, or other at left before 14:3
 abbrev pub circle_hint_words : FactsValue → List TaskId → List ℕ
 circle_hint_words f shown =
     line

@@ -11,9 +11,9 @@ use Rattle.explain_tasks.specs.Facts.{FactsValue, forking_of}
 use Rattle.explain_tasks.specs.Groups.{each_once}
 use Rattle.explain_tasks.specs.Impeders.{impeders_by_facts}
 use Rattle.explain_tasks.specs.Nexts.{next_of}
-use Rattle.explain_tasks.specs.Places.{said_of}
+use Rattle.explain_tasks.specs.Places.{named_tasks, said_of}
 use Rattle.explain_tasks.specs.Sayings.{Forking, Said, impeder_said, same_said}
-use Rattle.explain_tasks.specs.TaskLists.{by_number, list_words}
+use Rattle.explain_tasks.specs.TaskLists.{by_number}
 
 -- u is the forker of a task with this fork
 abbrev pub is_forked_by : ℕ → Option Forked → Bool
@@ -29,25 +29,25 @@ abbrev pub forkers_of : FactsValue → List TaskId → List TaskId
 forkers_of f tasks = filter (λ (u : TaskId). is_forker_of f tasks u.0) (list_below (λ u. record { 0 = u }) (length f.standings))
 
 -- who would fork these so many tasks: t0 would fork it at 6:1 and is held at 5:1
-abbrev pub forking_words : Option Forking → ℕ → List TaskId → List ℕ
-forking_words None n forkers = []
-forking_words (Some g) n forkers =
-    list_words forkers ++ g.name ++ codes " would fork " ++ by_number n (codes "it") (codes "them") ++ g.at ++ codes " and "
+abbrev pub forking_words : FactsValue → Option Forking → ℕ → List TaskId → List ℕ
+forking_words f None n forkers = []
+forking_words f (Some g) n forkers =
+    named_tasks f forkers ++ codes " would fork " ++ by_number n (codes "it") (codes "them") ++ g.at ++ codes " and "
     ++ by_number (length forkers) (codes "is ") (codes "are ")
     ++ g.stands
 
--- whom these impeders, of whom this is said, keep waiting in a paragraph of so many tasks:   t1 to t3 (t) keep it waiting with phase 0, and a blank
-abbrev pub keeping_words : ℕ → Said → List TaskId → List ℕ
-keeping_words n said tasks =
-    codes "  " ++ list_words tasks ++ said.name ++ by_number (length tasks) (codes " keeps ") (codes " keep ") ++ by_number n (codes "it") (codes "them")
+-- whom these impeders, of whom this is said, keep waiting in a paragraph of so many tasks:   t (t1 to t3) keep it waiting with phase 0, and a blank
+abbrev pub keeping_words : FactsValue → ℕ → Said → List TaskId → List ℕ
+keeping_words f n said tasks =
+    codes "  " ++ named_tasks f tasks ++ by_number (length tasks) (codes " keeps ") (codes " keep ") ++ by_number n (codes "it") (codes "them")
     ++ codes " waiting with phase "
     ++ said_of decimal said.phase
     ++ codes ", "
 
--- the line of these impeders:   t1 to t3 (t) keep it waiting with phase 0, deadlocked at 11:7: await(pc); no adv of p1 follows
+-- the line of these impeders:   t (t1 to t3) keep it waiting with phase 0, deadlocked at 11:7: await(pc); no adv of pb follows
 abbrev pub group_line : FactsValue → ℕ → Said → List TaskId → List ℕ
 group_line f n said tasks =
-    line (keeping_words n said tasks ++ said.words ++ forking_words said.forking (length tasks) (forkers_of f tasks) ++ said.next)
+    line (keeping_words f n said tasks ++ said.words ++ forking_words f said.forking (length tasks) (forkers_of f tasks) ++ said.next)
 
 -- the impeders of whom this is said
 abbrev pub group_of : FactsValue → List Impeder → Said → List TaskId
@@ -57,10 +57,10 @@ group_of f impeders said = map (λ (i : Impeder). i.t) (filter (λ (i : Impeder)
 abbrev pub rest_of : FactsValue → List Impeder → List Said → List TaskId
 rest_of f impeders told = map (λ (i : Impeder). i.t) (filter (λ (i : Impeder). not (list_any (λ said. same_said said (impeder_said f i)) told)) impeders)
 
--- the line of the rest:   and t5 and t6
-abbrev pub rest_line : List TaskId → List ℕ
-rest_line [] = []
-rest_line (t ∷ rest) = line (codes "  and " ++ list_words (t ∷ rest))
+-- the line of the rest:   and t (t5 and t6)
+abbrev pub rest_line : FactsValue → List TaskId → List ℕ
+rest_line f [] = []
+rest_line f (t ∷ rest) = line (codes "  and " ++ named_tasks f (t ∷ rest))
 
 -- the impeder with this number
 abbrev pub is_this_impeder : Option TaskId → Impeder → Bool
@@ -75,7 +75,7 @@ told_of f next impeders = each_once same_said (map (impeder_said f) (filter (is_
 abbrev pub lines_by : FactsValue → ℕ → Option TaskId → List Impeder → List ℕ
 lines_by f n next impeders =
     let told = take 3 (told_of f next impeders) in
-    flat_map (λ said. group_line f n said (group_of f impeders said)) told ++ rest_line (rest_of f impeders told)
+    flat_map (λ said. group_line f n said (group_of f impeders said)) told ++ rest_line f (rest_of f impeders told)
 
 -- the lines of the impeders of task t in its paragraph of so many tasks
 abbrev pub impeder_lines : FactsValue → (ℕ → Phases) → ℕ → ℕ → List ℕ

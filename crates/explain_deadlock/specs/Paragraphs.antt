@@ -6,8 +6,9 @@ use Rattle.pl_syntax.specs.Printed.{line}
 use Rattle.explain_tasks.specs.Facts.{FactsValue, stands_unforked, is_waiting, situation_of, tasks_that}
 use Rattle.explain_tasks.specs.Groups.{each_once}
 use Rattle.explain_deadlock.specs.ImpederLines.{forkers_of, forking_words, impeder_lines}
+use Rattle.explain_tasks.specs.Places.{named_tasks}
 use Rattle.explain_tasks.specs.Sayings.{Said, own_said, same_said}
-use Rattle.explain_tasks.specs.TaskLists.{by_number, list_words}
+use Rattle.explain_tasks.specs.TaskLists.{by_number}
 
 -- the tasks that are not done: first those that wait, then those that were not forked
 abbrev pub explained_tasks : FactsValue → List TaskId
@@ -25,12 +26,12 @@ sayings_of f shown = each_once same_said (map (λ (t : TaskId). own_said f t.0) 
 abbrev pub tasks_of : FactsValue → Said → List TaskId
 tasks_of f said = filter (λ (t : TaskId). same_said said (own_said f t.0)) (explained_tasks f)
 
--- the lines that say this of these tasks: 6:1: t1 (t) is not forked yet: t0 would fork it and is held at 5:1
+-- the lines that say this of these tasks: 6:1: t is not forked yet: t0 would fork it and is held at 5:1
 abbrev pub own_lines : FactsValue → Said → List TaskId → List ℕ
 own_lines f said tasks =
     line
-    (said.front ++ codes ": " ++ list_words tasks ++ said.name ++ by_number (length tasks) (codes " is ") (codes " are ") ++ said.words
-    ++ forking_words said.forking (length tasks) (forkers_of f tasks))
+    (said.front ++ codes ": " ++ named_tasks f tasks ++ by_number (length tasks) (codes " is ") (codes " are ") ++ said.words
+    ++ forking_words f said.forking (length tasks) (forkers_of f tasks))
 
 -- the lines of the impeders of the first of these tasks: all of them await the same event
 abbrev pub lines_of_impeders : FactsValue → (ℕ → Phases) → List TaskId → List ℕ

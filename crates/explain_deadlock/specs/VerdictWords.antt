@@ -11,7 +11,7 @@ use Rattle.explain_deadlock.specs.declared.outcome.WaitVerdict.TheVariants.{Nobo
 use Rattle.explain_tasks.specs.Facts.{FactsValue, is_deadlocked, is_waiting, situation_of, tasks_that}
 use Rattle.explain_tasks.specs.Places.{end_words, fork_place, named_task, wait_place}
 
--- a shown task that stands so: t3 (worker) at 20:7 where it waits, else its name
+-- a shown task that stands so: worker at 20:7 where it waits, else the task alone
 abbrev pub shown_as : FactsValue → ℕ → Situation → List ℕ
 shown_as f t s = named_task f t ++ (if is_waiting s then codes " at " ++ wait_place f t else [])
 

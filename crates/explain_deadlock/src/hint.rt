@@ -19,10 +19,7 @@ fn put_awaited_phaser(facts: &Facts, out: &mut Vec<u8>, t: TaskId) -> Result<(),
     ensures { OnOk result (out.new.items ≡ out.old.items ++ awaited_phaser_words facts.now t.0) }
 {
     match facts.wait(t) {
-        Some(wait) => {
-            put_words(out, b"p")?;
-            put_number(facts.alloc(), out, wait.event.p.0)
-        }
+        Some(wait) => facts.put_named_phaser(out, wait.event.p),
         None => Ok(()),
     }
 }
@@ -292,13 +289,13 @@ fn waits_for_itself(facts: &Facts, t: TaskId) -> bool
 }
 
 // Appends for which event a task waits.
-fn put_for_event(alloc: Global, out: &mut Vec<u8>, wait: &Waiting) -> Result<(), NoMemory>
-    ensures { OnOk result (out.new.items ≡ out.old.items ++ for_event_words wait.now) }
+fn put_for_event(facts: &Facts, out: &mut Vec<u8>, wait: &Waiting) -> Result<(), NoMemory>
+    ensures { OnOk result (out.new.items ≡ out.old.items ++ for_event_words facts.now wait.now) }
 {
     put_words(out, b" for phase ")?;
-    put_number(alloc, out, wait.event.n)?;
-    put_words(out, b" of p")?;
-    put_number(alloc, out, wait.event.p.0)
+    put_number(facts.alloc(), out, wait.event.n)?;
+    put_words(out, b" of ")?;
+    facts.put_named_phaser(out, wait.event.p)
 }
 
 // Appends which phase it has.
@@ -320,7 +317,7 @@ fn put_itself_hint(
     ensures { OnOk result (out.new.items ≡ out.old.items ++ itself_hint facts.now t.0 wait.now) }
 {
     put_waits_at(facts, out, t)?;
-    put_for_event(facts.alloc(), out, wait)?;
+    put_for_event(facts, out, wait)?;
     put_own_phase(facts.alloc(), out, wait)?;
     put_words(out, b"\n")
 }

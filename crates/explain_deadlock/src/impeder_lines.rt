@@ -11,7 +11,7 @@ ghost use Rattle.explain_tasks.specs.calls.SayingValues.{forking_said, said_by};
 
 use armus_base::{NoMemory, TaskId};
 use explain_facts::{Forked, put_number, put_words};
-use explain_tasks::{Facts, ForkingWords, Impeder, Saying, put_by_number, put_kept, put_list};
+use explain_tasks::{Facts, ForkingWords, Impeder, Saying, put_by_number, put_kept};
 use pl_core::World;
 use std::alloc::Global;
 
@@ -42,36 +42,34 @@ fn put_phase_of(alloc: Global, out: &mut Vec<u8>, phase: Option<u32>) -> Result<
 
 // Appends whom these impeders keep waiting, in a paragraph of so many tasks.
 fn put_keeping(
-    alloc: Global,
+    facts: &Facts,
     out: &mut Vec<u8>,
     count: usize,
     saying: &Saying,
     tasks: &[TaskId],
 ) -> Result<(), NoMemory>
-    ensures { OnOk result (out.new.items ≡ out.old.items ++ keeping_words count (said_by saying.now) tasks.now) }
+    ensures { OnOk result (out.new.items ≡ out.old.items ++ keeping_words facts.now count (said_by saying.now) tasks.now) }
 {
     put_words(out, b"  ")?;
-    put_list(alloc, out, tasks)?;
-    put_kept(out, &saying.name)?;
+    facts.put_named_tasks(out, tasks)?;
     put_by_number(out, tasks.len(), b" keeps ", b" keep ")?;
     put_by_number(out, count, b"it", b"them")?;
     put_words(out, b" waiting with phase ")?;
-    put_phase_of(alloc, out, saying.phase)?;
+    put_phase_of(facts.alloc(), out, saying.phase)?;
     put_words(out, b", ")
 }
 
 // Appends by these words who would fork so many tasks.
 fn put_forkers(
-    alloc: Global,
+    facts: &Facts,
     out: &mut Vec<u8>,
     words: &ForkingWords,
     n: usize,
     forkers: &[TaskId],
 ) -> Result<(), NoMemory>
-    ensures { OnOk result (out.new.items ≡ out.old.items ++ forking_words (Some (forking_said words.now)) n forkers.now) }
+    ensures { OnOk result (out.new.items ≡ out.old.items ++ forking_words facts.now (Some (forking_said words.now)) n forkers.now) }
 {
-    put_list(alloc, out, forkers)?;
-    put_kept(out, &words.name)?;
+    facts.put_named_tasks(out, forkers)?;
     put_words(out, b" would fork ")?;
     put_by_number(out, n, b"it", b"them")?;
     put_kept(out, &words.at)?;
@@ -170,7 +168,7 @@ pub(crate) fn put_forking(
     forking: &Option<ForkingWords>,
     tasks: &[TaskId],
 ) -> Result<(), NoMemory>
-    ensures { OnOk result (out.new.items ≡ out.old.items ++ forking_words (option_map forking_said forking.now) (length tasks.now) (forkers_of facts.now tasks.now)) }
+    ensures { OnOk result (out.new.items ≡ out.old.items ++ forking_words facts.now (option_map forking_said forking.now) (length tasks.now) (forkers_of facts.now tasks.now)) }
 {
     match forking {
         Some(words) => put_forking_words(facts, out, words, tasks),
@@ -185,10 +183,10 @@ fn put_forking_words(
     words: &ForkingWords,
     tasks: &[TaskId],
 ) -> Result<(), NoMemory>
-    ensures { OnOk result (out.new.items ≡ out.old.items ++ forking_words (Some (forking_said words.now)) (length tasks.now) (forkers_of facts.now tasks.now)) }
+    ensures { OnOk result (out.new.items ≡ out.old.items ++ forking_words facts.now (Some (forking_said words.now)) (length tasks.now) (forkers_of facts.now tasks.now)) }
 {
     let forkers = forkers(facts, tasks)?;
-    put_forkers(facts.alloc(), out, words, tasks.len(), &forkers)
+    put_forkers(facts, out, words, tasks.len(), &forkers)
 }
 
 // Appends the line of these impeders, in a paragraph of so many tasks.
@@ -201,7 +199,7 @@ fn put_group(
 ) -> Result<(), NoMemory>
     ensures { OnOk result (out.new.items ≡ out.old.items ++ group_line facts.now count (said_by saying.now) tasks.now) }
 {
-    put_keeping(facts.alloc(), out, count, saying, tasks)?;
+    put_keeping(facts, out, count, saying, tasks)?;
     put_kept(out, &saying.words)?;
     put_forking(facts, out, &saying.forking, tasks)?;
     put_kept(out, &saying.next)?;
@@ -328,13 +326,13 @@ fn rest(
 
 // Appends the line of the rest.
 fn put_rest(facts: &Facts, out: &mut Vec<u8>, rest: &[TaskId]) -> Result<(), NoMemory>
-    ensures { OnOk result (out.new.items ≡ out.old.items ++ rest_line rest.now) }
+    ensures { OnOk result (out.new.items ≡ out.old.items ++ rest_line facts.now rest.now) }
 {
     if rest.is_empty() {
         return Ok(());
     }
     put_words(out, b"  and ")?;
-    put_list(facts.alloc(), out, rest)?;
+    facts.put_named_tasks(out, rest)?;
     put_words(out, b"\n")
 }
 

@@ -16,7 +16,6 @@ use armus_base::{NoMemory, TaskId};
 use explain_facts::put_words;
 use explain_tasks::{
     Facts, Grouping, Saying, is_waiting, never_forked, passing_below, put_by_number, put_kept,
-    put_list,
 };
 use pl_core::World;
 
@@ -31,8 +30,7 @@ fn put_own_lines(
 {
     put_kept(out, &saying.front)?;
     put_words(out, b": ")?;
-    put_list(facts.alloc(), out, tasks)?;
-    put_kept(out, &saying.name)?;
+    facts.put_named_tasks(out, tasks)?;
     put_by_number(out, tasks.len(), b" is ", b" are ")?;
     put_kept(out, &saying.words)?;
     put_forking(facts, out, &saying.forking, tasks)?;

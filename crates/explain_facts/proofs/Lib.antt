@@ -1,3 +1,5 @@
+pub mod DrawnTasks
+pub mod NamesSeen
 pub mod Awaiting
 pub mod Told
 pub mod Firsts

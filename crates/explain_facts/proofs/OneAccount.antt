@@ -28,6 +28,7 @@ use Rattle.explain_facts.specs.declared.account.Forked.{Forked}
 use Rattle.explain_facts.specs.declared.account.NextOp.{NextOp}
 use Rattle.explain_facts.specs.declared.account.TaskAccount.{TaskAccount}
 use Rattle.explain_facts.specs.declared.account.Turn.{Turn}
+use Rattle.explain_facts.specs.declared.names.GivenNames.{GivenNames}
 use Rattle.explain_facts.specs.declared.account.Waiting.{Waiting}
 
 -- more ops have no fewer actions
@@ -122,17 +123,19 @@ module _ (l : Layout) (p : Program) (plan : Plan) (a : ℕ → Place) (t : ℕ) 
 -- ---- accounts
 
 same_account :
-    (tasks tasks' : List TaskAccount) (phasers phasers' : List TextPlace) → tasks ≡ tasks' → phasers ≡ phasers' →
-    let v : Account = record { tasks = tasks; phasers = phasers } in let w : Account = record { tasks = tasks'; phasers = phasers' } in v ≡ w
-same_account tasks tasks' phasers phasers' a b = cc
+    (tasks tasks' : List TaskAccount) (phasers phasers' : List TextPlace) (names names' : GivenNames) → tasks ≡ tasks' → phasers ≡ phasers' → names ≡ names' →
+    let v : Account = record { tasks = tasks; phasers = phasers; names = names } in
+    let w : Account = record { tasks = tasks'; phasers = phasers'; names = names' } in v ≡ w
+same_account tasks tasks' phasers phasers' names names' a b c = cc
 
 pub one_account : OneAccount
 one_account text p plan a account other x y =
     let layout : x.layout ≡ y.layout = one_layout p x.layout y.layout x.is_layout y.is_layout (x.of_text ∙ sym y.of_text) in
     let long : length account.tasks ≡ length other.tasks = x.all_told ∙ sym y.all_told in
-    same_account account.tasks other.tasks account.phasers other.phasers
+    same_account account.tasks other.tasks account.phasers other.phasers account.names other.names
     (same_lists account.tasks other.tasks long
     (λ k d lt. one_task y.layout p plan a k (slice_index_or account.tasks k d) (slice_index_or other.tasks k d)
     (subst (λ (l : Layout). IsTaskAccount l p plan a k (slice_index_or account.tasks k d)) layout (x.each k d (omega (arith, lt, x.all_told))))
     (y.each k d (omega (arith, lt, x.all_told)))))
     (x.phasers ∙ (ap (λ (l : Layout). map (statement_place l) (phaser_origins p)) layout ∙ sym y.phasers))
+    (x.names ∙ sym y.names)

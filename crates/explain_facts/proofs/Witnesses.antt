@@ -24,7 +24,8 @@ use Rattle.source_map.specs.calls.OriginLaws.{statement_of}
 use Rattle.source_map.specs.Origins.{statement_in, written_statements}
 use Rattle.source_map.proofs.MadeByVisits.{tasks_have_origins}
 use Rattle.source_map.proofs.WrittenStatements.{visits_are_of_text}
-use Rattle.explain_facts.specs.Accounts.{HasWait, Layout, drawn_of, drawn_name, statement_place, words_of}
+use Rattle.explain_facts.specs.Accounts.{HasWait, Layout, drawn_of, statement_place, words_of}
+use Rattle.explain_facts.specs.Names.{given_name}
 use Rattle.explain_facts.specs.AwaitWords.{await_text}
 use Rattle.explain_facts.specs.calls.Laws.{DrawnHaveNames, StatementsHavePlaces, WaitersHaveAwaits}
 use Rattle.explain_facts.specs.declared.account.Drawn.{Drawn}
@@ -114,8 +115,8 @@ drawn_have_names text p plan a account unfolds known t d lt =
     let n = origin.by.statement - 1 in
     let number : origin.by.statement ≡ suc n = omega (arith, some) in
     let statement : slice_get (written_statements p.body) n ≡ Some (a_plain (new_task x)) = stands ∙ ap (λ c. Some (statement_of c)) is in
-    let drawn : Drawn = record { at = statement_place known.layout (suc n); name = drawn_name (slice_get (written_statements p.body) n) } in
+    let drawn : Drawn = record { at = statement_place known.layout (suc n); name = given_name (slice_get (written_statements p.body) n) } in
     let task = known.each (suc t) d lt in
     let here : drawn_of known.layout p (suc t) ≡ Some drawn =
-    ap (option_map (λ m. record { at = statement_place known.layout m; name = drawn_name (statement_in (written_statements p.body) m) })) (origin.is ∙ ap Some number) in
-    (drawn, n, x, task.drawn ∙ here, statement, ap drawn_name statement, refl)
+    ap (option_map (λ m. record { at = statement_place known.layout m; name = given_name (statement_in (written_statements p.body) m) })) (origin.is ∙ ap Some number) in
+    (drawn, n, x, task.drawn ∙ here, statement, ap given_name statement, refl)

@@ -16,7 +16,7 @@ use Rattle.pl_plan.specs.Unfolding.{Coming, a_plain}
 use Rattle.pl_syntax.specs.BodyEnds.{AreEnds}
 use Rattle.pl_syntax.specs.Grammar.{IsText}
 use Rattle.pl_syntax.specs.StatementOffsets.{AreOffsets}
-use Rattle.pl_syntax.specs.Tree.{await, new_task}
+use Rattle.pl_syntax.specs.Tree.{await}
 use Rattle.pl_syntax.specs.declared.tree.Program.{Program}
 use Rattle.source_map.specs.Origins.{fork_origin, last_origin, op_origin, phaser_origins, statement_in, task_origin, written_statements}
 use Rattle.source_map.specs.Turns.{op_turns}
@@ -24,6 +24,7 @@ use Rattle.source_map.specs.declared.turns.LoopTurn.{LoopTurn}
 use Rattle.source_map.specs.TextPlaces.{text_place}
 use Rattle.source_map.specs.declared.place.TextPlace.{TextPlace}
 use Rattle.explain_facts.specs.AwaitWords.{await_text}
+use Rattle.explain_facts.specs.Names.{given_name, program_names}
 use Rattle.explain_facts.specs.declared.account.Account.{Account}
 use Rattle.explain_facts.specs.declared.account.Doing.{Doing}
 use Rattle.explain_facts.specs.declared.account.Doing.TheVariants.{Advances, Leaves}
@@ -73,15 +74,10 @@ end_place l f = place_or_end l.text (brace_of (numbered l.ends f))
 
 -- ---- tasks
 
--- the name that stands before a `newTid`
-abbrev pub drawn_name : Option Coming → List ℕ
-drawn_name (Some (a_plain (new_task x))) = x
-drawn_name _ = []
-
 -- where task t is drawn, and the name there
 abbrev pub drawn_of : Layout → Program → ℕ → Option Drawn
 drawn_of l p t =
-    option_map (λ n. record { at = statement_place l n; name = drawn_name (statement_in (written_statements p.body) n) }) (task_origin p t)
+    option_map (λ n. record { at = statement_place l n; name = given_name (statement_in (written_statements p.body) n) }) (task_origin p t)
 
 -- where a task is forked, by its fork and by the task that drew it, which forks it
 abbrev pub forked_by : Layout → Option ℕ → Option TaskId → Option Forked
@@ -183,3 +179,4 @@ pub record IsAccount (text : List ℕ) (p : Program) (plan : Plan) (a : ℕ → 
   pub all_told : length account.tasks ≡ length plan.parents
   pub each : (t : ℕ) (d : TaskAccount) → t < length plan.parents → IsTaskAccount layout p plan a t (slice_index_or account.tasks t d)
   pub phasers : account.phasers ≡ map (statement_place layout) (phaser_origins p)
+  pub names : account.names ≡ program_names p

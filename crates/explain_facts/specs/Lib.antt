@@ -1,4 +1,5 @@
 pub mod AwaitWords
+pub mod Names
 pub mod Accounts
 -- How the program does it: private contracts alone cite these.
 pub mod inside

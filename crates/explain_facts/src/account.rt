@@ -1,5 +1,6 @@
 // What is known of the tasks of a text.
 
+use crate::names::GivenNames;
 use armus_base::{Event, List, PhaserId, TaskId};
 use source_map::TextPlace;
 
@@ -10,6 +11,8 @@ pub struct Account {
     pub tasks: List<TaskAccount>,
     /// Where each phaser is made, in order of number: the place of its `newPhaser`.
     pub phasers: List<TextPlace>,
+    /// Their names.
+    pub names: GivenNames,
 }
 
 /// What is known of a task.

@@ -105,18 +105,22 @@ fn phaser_places(facts: &TextFacts<'_>) -> Result<List<TextPlace>, NoMemory>
 
 // The account, by what is known from the text.
 fn account_with(
-    facts: &TextFacts<'_>,
+    facts: TextFacts<'_>,
     world: &World<'_>,
     ends: &[TaskEnd],
 ) -> Result<Account, NoMemory>
-    requires known { AreKnownFacts facts.now }
-    requires unfolds { plan_of facts.now.program.now ≡ Ok world.now.plan }
+    requires known { AreKnownFacts facts }
+    requires unfolds { plan_of facts.program.now ≡ Ok world.now.plan }
     requires ends { ends.now ≡ list_below (end_of (state_of world.now)) (length world.now.plan.parents) }
-    ensures { IfOk result (IsAccount facts.now.places.now facts.now.program.now world.now.plan (places_of world.now)) }
+    ensures { IfOk result (IsAccount facts.entry.places.now facts.entry.program.now world.now.plan (places_of world.now)) }
 {
-    let tasks = task_accounts(facts, world, ends)?;
-    let phasers = phaser_places(facts)?;
-    Ok(Account { tasks, phasers })
+    let tasks = task_accounts(&facts, world, ends)?;
+    let phasers = phaser_places(&facts)?;
+    Ok(Account {
+        tasks,
+        phasers,
+        names: facts.names,
+    })
 }
 
 /// The account of the text of this program, whose tasks have ended so in this world, which is one of the program's plan. `places` are those of the text, and
@@ -137,6 +141,6 @@ pub fn account_of(
     requires ends { ends.now ≡ list_below (end_of (state_of world.now)) (length world.now.plan.parents) }
     ensures account { IfOk result (IsAccount places.now program.now world.now.plan (places_of world.now)) }
 {
-    let facts = TextFacts::new(alloc, places, program, forks)?;
-    account_with(&facts, world, ends)
+    let facts = TextFacts::new(alloc, places, program, forks, world.plan())?;
+    account_with(facts, world, ends)
 }

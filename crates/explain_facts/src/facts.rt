@@ -1,14 +1,17 @@
 // What is known from a text alone.
-ghost use Rattle.std.specs.Prelude.{◌≡◌, ◌+◌, ◌-◌, ◌<◌, ◌^◌, IfOk, length, option_map};
+ghost use Rattle.std.specs.Prelude.{◌≡◌, ◌+◌, ◌-◌, ◌<◌, ◌^◌, IfOk, Ok, length, option_map};
 ghost use Rattle.pl_plan.specs.Forks.{fork_statements};
+ghost use Rattle.pl_plan.specs.Unfolding.{plan_of};
 ghost use Rattle.pl_syntax.specs.Grammar.{IsText};
 ghost use Rattle.pl_syntax.specs.Tree.{count};
 ghost use Rattle.source_map.specs.Origins.{last_origin};
 ghost use Rattle.source_map.specs.inside.Tables.{coming_of};
-ghost use Rattle.explain_facts.specs.Accounts.{brace_of, drawn_of, end_place, ended_of, forked_of, drawn_name, numbered, place_or_end, statement_place};
+ghost use Rattle.explain_facts.specs.Accounts.{brace_of, drawn_of, end_place, ended_of, forked_of, numbered, place_or_end, statement_place};
+ghost use Rattle.explain_facts.specs.Names.{given_name};
 ghost use Rattle.explain_facts.specs.calls.Known.{AreKnownFacts, kept_layout};
 
 use crate::account::{CodeEnd, Drawn, Forked};
+use crate::names::{GivenNames, given_name, program_names};
 use armus_base::{List, NoMemory, Plan, TaskId};
 use pl_syntax::{Program, Stmt, body_ends, statement_offsets};
 use source_map::{Origins, TextPlace, TextPlaces};
@@ -29,6 +32,8 @@ pub struct TextFacts<'a> {
     pub offsets: List<u32>,
     /// The offset of the brace that closes the body of each statement, in order of number.
     pub ends: List<Option<u32>>,
+    /// The names of its tasks and phasers.
+    pub names: GivenNames,
 }
 
 // The place of this byte of the text, and the end of the text where there is none.
@@ -64,27 +69,26 @@ fn end_at(ends: &[Option<u32>], n: u32) -> Option<u32>
     }
 }
 
-// The name before a `newTid`.
+// The name that a statement gives.
 fn name_of(alloc: Global, stmt: Option<&Stmt>) -> Result<List<u8>, NoMemory>
-    ensures { IfOk result (λ name. name ≡ drawn_name (option_map (λ s. coming_of s.now) stmt.entry)) }
+    ensures { IfOk result (λ name. name ≡ given_name (option_map (λ s. coming_of s.now) stmt.entry)) }
 {
-    match stmt {
-        Some(Stmt::NewTask { x }) => Ok(List::from_vec(Vec::from_slice(alloc, x.as_bytes())?)),
-        _ => Ok(List::new(alloc)),
-    }
+    Ok(List::from_vec(Vec::from_slice(alloc, given_name(stmt))?))
 }
 
 impl<'a> TextFacts<'a> {
-    /// What is known of this text and its program, by the forks that `unfold` answers.
+    /// What is known of this text and its program, by the forks that `unfold` answers, and by the plan to which the program unfolds.
     pub fn new(
         alloc: Global,
         places: &'a TextPlaces<'a>,
         program: &'a Program,
         forks: Vec<Option<u32>>,
+        plan: &Plan,
     ) -> Result<TextFacts<'a>, NoMemory>
         requires few { count program.now.body + 1 < 2 ^ 32 }
         requires reads { IsText places.now program.now }
         requires forks { forks.items ≡ fork_statements program.now }
+        requires unfolds { plan_of program.now ≡ Ok plan.now }
         ensures known { IfOk result (λ facts. AreKnownFacts facts) }
         ensures text { IfOk result (λ facts. facts.places.now ≡ places.now) }
         ensures program { IfOk result (λ facts. facts.program.now ≡ program.now) }
@@ -92,6 +96,7 @@ impl<'a> TextFacts<'a> {
         let offsets = statement_offsets(alloc, places.text(), program)?;
         let ends = body_ends(alloc, places.text(), program)?;
         let origins = Origins::new(alloc, program, forks)?;
+        let names = program_names(alloc, program, &origins, plan.tasks())?;
         Ok(TextFacts {
             alloc,
             places,
@@ -99,6 +104,7 @@ impl<'a> TextFacts<'a> {
             origins,
             offsets,
             ends,
+            names,
         })
     }
 

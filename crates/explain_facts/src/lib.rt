@@ -7,6 +7,7 @@ mod account;
 mod accounts;
 mod facts;
 mod laws;
+mod names;
 mod nexts;
 mod waiting;
 mod words;
@@ -17,4 +18,5 @@ pub use facts::TextFacts;
 pub use laws::{
     account_exists, forkers_fork, one_account, statements_have_places, tasks_are_of_text,
 };
+pub use names::{GivenName, GivenNames};
 pub use words::{put_await, put_number, put_words};

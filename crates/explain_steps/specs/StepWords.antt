@@ -4,34 +4,25 @@ use Rattle.armus_base.specs.declared.event.Event.{Event}
 use Rattle.armus_base.specs.Plans.{Action, Advances, Blocks, Drops, Forks, Makes, Passes, Refuses, Registers}
 use Rattle.armus_base.specs.States.{State, awaited}
 use Rattle.pl_plan.specs.Unfolding.{Coming, a_fork, a_plain}
-use Rattle.pl_syntax.specs.Tree.{adv, await, dereg, new_phaser, new_task, reg}
+use Rattle.pl_syntax.specs.Tree.{adv, await, dereg, new_phaser, reg}
 use Rattle.pl_syntax.specs.declared.tree.Program.{Program}
-use Rattle.source_map.specs.Origins.{fork_origin, op_origin, phaser_origin, statement_in, task_origin, written_statements}
+use Rattle.source_map.specs.Origins.{fork_origin, op_origin, statement_in, written_statements}
 use Rattle.source_map.specs.PlaceWords.{place_words}
 use Rattle.explain_facts.specs.Accounts.{Layout, end_place, statement_place}
 use Rattle.explain_facts.specs.AwaitWords.{await_text}
-use Rattle.report.specs.Words.{task_word}
+use Rattle.explain_facts.specs.Names.{program_names}
+use Rattle.explain_tasks.specs.Names.{named_phaser_words, named_task_words}
 use Rattle.explain_tasks.specs.Places.{said_of}
 
 -- ---- names
 
--- the name to which a statement gives a task or a phaser
-abbrev pub given_name : Option Coming → List ℕ
-given_name (Some (a_plain (new_task x))) = x
-given_name (Some (a_plain (new_phaser x))) = x
-given_name _ = []
-
--- the name that statement n gives, behind a number:  (worker)
-abbrev pub given_name_words : Program → ℕ → List ℕ
-given_name_words p n = codes " (" ++ given_name (statement_in (written_statements p.body) n) ++ codes ")"
-
--- a task: t3 (worker); task 0 has no name
+-- a task: worker, or worker (t3)
 abbrev pub drawn_task_words : Program → ℕ → List ℕ
-drawn_task_words p t = task_word t ++ said_of (given_name_words p) (task_origin p t)
+drawn_task_words p t = named_task_words (program_names p) t
 
--- a phaser: p0 (left)
+-- a phaser: left, or left (p0)
 abbrev pub made_phaser_words : Program → ℕ → List ℕ
-made_phaser_words p q = codes "p" ++ decimal q ++ said_of (given_name_words p) (phaser_origin p q)
+made_phaser_words p q = named_phaser_words (program_names p) q
 
 -- ---- where a step is made
 
@@ -63,7 +54,7 @@ abbrev pub phase_change : Option ℕ → List ℕ
 phase_change None = []
 phase_change (Some n) = codes "phase " ++ decimal n ++ codes " to " ++ decimal (n + 1)
 
--- the event that is waited for: waits for phase 1 of p0 (left)
+-- the event that is waited for: waits for phase 1 of left
 abbrev pub waits_words : Program → Option Event → List ℕ
 waits_words p None = []
 waits_words p (Some e) = codes "waits for phase " ++ decimal e.n ++ codes " of " ++ made_phaser_words p e.p.0
@@ -81,7 +72,7 @@ change_words p s t (Refuses aim) = []
 
 -- ---- the line
 
--- the line of a step with this number, which task t makes in a state by this action, at op i of its code: 7: t1 (other) at 7:3: adv(right): p1 (right): phase 0 to 1
+-- the line of a step with this number, which task t makes in a state by this action, at op i of its code: 7: other at 7:3: adv(right): right: phase 0 to 1
 abbrev pub shown_step_line : Layout → Program → ℕ → State → ℕ → Action → ℕ → List ℕ
 shown_step_line l p number s t x i =
     decimal number ++ codes ": " ++ drawn_task_words p t ++ codes " at " ++ whence_words l p t (op_origin p t i) ++ codes ": " ++ change_words p s t x ++ codes "\n"

@@ -18,4 +18,4 @@ mod words;
 pub use clock_stepping::clock_steps_through;
 pub use laws::{one_clock_showing, one_serial_run, one_showing, serial_run_replays};
 pub use stepping::{SteppedRun, step_through};
-pub use words::{put_statement, put_task};
+pub use words::{put_phaser, put_statement, put_task};

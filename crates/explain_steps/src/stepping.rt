@@ -4,6 +4,7 @@ ghost use Rattle.armus_base.specs.States.{Step};
 ghost use Rattle.pl_core.specs.calls.Moves.{IsWorldStep};
 ghost use Rattle.pl_core.specs.calls.Stands.{IsEnabled};
 ghost use Rattle.pl_plan.specs.Forks.{fork_statements};
+ghost use Rattle.pl_plan.specs.Unfolding.{plan_of};
 ghost use Rattle.pl_syntax.specs.Grammar.{IsText};
 ghost use Rattle.pl_syntax.specs.Tree.{count};
 ghost use Rattle.run_queue.specs.calls.RunQueues.{HasTurnLeft, IsRunQueue};
@@ -206,9 +207,10 @@ pub fn step_through<'p>(
     requires few { count program.now.body + 1 < 2 ^ 32 }
     requires reads { IsText places.now program.now }
     requires forks { forks.items ≡ fork_statements program.now }
+    requires unfolds { plan_of program.now ≡ Ok plan.now }
     ensures run { IfOk result (IsSteppedRun places.now program.now plan.now) }
 {
-    let facts = TextFacts::new(alloc, places, program, forks)?;
+    let facts = TextFacts::new(alloc, places, program, forks, plan)?;
     let run = step_to_end(alloc, &facts, plan)?;
     Ok(run)
 }

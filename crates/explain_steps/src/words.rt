@@ -5,24 +5,14 @@ ghost use Rattle.source_map.specs.inside.Tables.{coming_of};
 ghost use Rattle.source_map.specs.PlaceWords.{place_words};
 ghost use Rattle.explain_facts.specs.Accounts.{end_place};
 ghost use Rattle.explain_tasks.specs.Places.{said_of};
-ghost use Rattle.explain_steps.specs.StepWords.{given_name, given_name_words, made_phaser_words, statement_words, drawn_task_words, whence_words};
+ghost use Rattle.explain_steps.specs.StepWords.{made_phaser_words, statement_words, drawn_task_words, whence_words};
 ghost use Rattle.explain_facts.specs.calls.Known.{AreKnownFacts, kept_layout};
 
 use armus_base::{NoMemory, PhaserId, TaskId};
-use explain_facts::{TextFacts, put_await, put_number, put_words};
+use explain_facts::{TextFacts, put_await, put_words};
+use explain_tasks::{put_phaser_words, put_task_words};
 use pl_syntax::{Name, Stmt};
 use std::alloc::Global;
-
-// Appends the name to which a statement gives a task or a phaser.
-fn put_given(out: &mut Vec<u8>, stmt: Option<&Stmt>) -> Result<(), NoMemory>
-    ensures { OnOk result (out.new.items ≡ out.old.items ++ given_name (option_map (λ s. coming_of s.now) stmt.entry)) }
-{
-    match stmt {
-        Some(Stmt::NewTask { x }) => put_words(out, x.as_bytes()),
-        Some(Stmt::NewPhaser { x }) => put_words(out, x.as_bytes()),
-        _ => Ok(()),
-    }
-}
 
 // Appends a call with one name.
 fn put_call(out: &mut Vec<u8>, front: &[u8], x: &Name) -> Result<(), NoMemory>
@@ -67,43 +57,20 @@ pub fn put_statement(alloc: Global, out: &mut Vec<u8>, stmt: Option<&Stmt>) -> R
     }
 }
 
-// Appends the name that this statement gives, behind a number.
-fn put_name(facts: &TextFacts<'_>, out: &mut Vec<u8>, origin: Option<u32>) -> Result<(), NoMemory>
-    requires known { AreKnownFacts facts.now }
-    ensures { OnOk result (out.new.items ≡ out.old.items ++ said_of (given_name_words facts.now.program.now) origin) }
-{
-    match origin {
-        Some(n) => {
-            put_words(out, b" (")?;
-            put_given(out, facts.origins.statement(n))?;
-            put_words(out, b")")
-        }
-        None => Ok(()),
-    }
-}
-
-/// Appends a task with its name: `t3 (worker)`.
+/// Appends a task.
 pub fn put_task(facts: &TextFacts<'_>, out: &mut Vec<u8>, t: TaskId) -> Result<(), NoMemory>
     requires known { AreKnownFacts facts.now }
     ensures { OnOk result (out.new.items ≡ out.old.items ++ drawn_task_words facts.now.program.now t.0) }
 {
-    put_words(out, b"t")?;
-    put_number(facts.alloc, out, t.0)?;
-    put_name(facts, out, facts.origins.task(t))
+    put_task_words(facts.alloc, &facts.names, out, t)
 }
 
-// Appends a phaser.
-pub(crate) fn put_phaser(
-    facts: &TextFacts<'_>,
-    out: &mut Vec<u8>,
-    p: PhaserId,
-) -> Result<(), NoMemory>
+/// Appends a phaser.
+pub fn put_phaser(facts: &TextFacts<'_>, out: &mut Vec<u8>, p: PhaserId) -> Result<(), NoMemory>
     requires known { AreKnownFacts facts.now }
     ensures { OnOk result (out.new.items ≡ out.old.items ++ made_phaser_words facts.now.program.now p.0) }
 {
-    put_words(out, b"p")?;
-    put_number(facts.alloc, out, p.0)?;
-    put_name(facts, out, facts.origins.phaser(p))
+    put_phaser_words(facts.alloc, &facts.names, out, p)
 }
 
 // Appends the place of a statement and what it says.

@@ -7,3 +7,4 @@ pub mod GroupedTasks
 pub mod Noted
 pub mod Bridges
 pub mod TaskListsSay
+pub mod NamedParts

@@ -3,6 +3,7 @@ pub mod Facts
 pub mod Impeders
 pub mod Nexts
 -- The words.
+pub mod Names
 pub mod TaskLists
 pub mod Places
 pub mod Sayings

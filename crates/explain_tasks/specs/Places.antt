@@ -1,12 +1,14 @@
 -- The words for tasks and for where they stand.
-use Rattle.std.specs.Prelude.{ℕ, List, [], ◌++◌, Option, Some, None, codes}
-use Rattle.report.specs.Words.{task_word}
+use Rattle.std.specs.Prelude.{ℕ, List, [], Option, Some, None}
+use Rattle.armus_base.specs.declared.ids.TaskId.{TaskId}
 use Rattle.explain_facts.specs.declared.account.Drawn.{Drawn}
 use Rattle.explain_facts.specs.declared.account.CodeEnd.{CodeEnd}
 use Rattle.explain_facts.specs.declared.account.Forked.{Forked}
 use Rattle.explain_facts.specs.declared.account.Waiting.{Waiting}
 use Rattle.source_map.specs.PlaceWords.{front_words, place_words}
 use Rattle.source_map.specs.declared.place.TextPlace.{TextPlace}
+use Rattle.explain_tasks.specs.Names.{named_phaser_words, named_task_words}
+use Rattle.explain_tasks.specs.TaskLists.{tasks_words}
 use Rattle.explain_tasks.specs.Facts.{FactsValue, drawing_of, ending_of, forking_of, wait_of}
 
 -- a place within a line: 20:7
@@ -22,13 +24,21 @@ abbrev pub said_of : {A : Type 0} → (A → List ℕ) → Option A → List ℕ
 said_of words None = []
 said_of words (Some x) = words x
 
--- the name behind the number of a task:  (worker); task 0 has none
-abbrev pub name_words : FactsValue → ℕ → List ℕ
-name_words f t = said_of (λ (d : Drawn). codes " (" ++ d.name ++ codes ")") (drawing_of f t)
+-- the name that the `newTid` of a task gives; task 0 has none
+abbrev pub drawn_name : FactsValue → ℕ → List ℕ
+drawn_name f t = said_of (λ (d : Drawn). d.name) (drawing_of f t)
 
--- a task: t3 (worker)
+-- a task: worker, or worker (t3)
 abbrev pub named_task : FactsValue → ℕ → List ℕ
-named_task f t = task_word t ++ name_words f t
+named_task f t = named_task_words f.account.names t
+
+-- a phaser: left, or left (p0)
+abbrev pub named_phaser : FactsValue → ℕ → List ℕ
+named_phaser f q = named_phaser_words f.account.names q
+
+-- a list of tasks: t0, left and worker (t3 to t7)
+abbrev pub named_tasks : FactsValue → List TaskId → List ℕ
+named_tasks f tasks = tasks_words f.account.names tasks
 
 -- the place where task t waits
 abbrev pub wait_place : FactsValue → ℕ → List ℕ

@@ -15,16 +15,16 @@ use Rattle.explain_tasks.specs.declared.impeders.Impeder.{Impeder}
 use Rattle.explain_tasks.specs.declared.situation.Situation.{Situation}
 use Rattle.explain_tasks.specs.declared.situation.Situation.TheVariants.{Deadlocked, Held, HasEnded, NotForkedYet, NeverForked}
 use Rattle.explain_tasks.specs.Facts.{FactsValue, drawing_of, ending_of, forking_of, next_op_of, situation_of, wait_of}
-use Rattle.explain_tasks.specs.Places.{drawn_place, end_words, fork_place, front_in, name_words, place_in_line, said_of, wait_place}
+use Rattle.explain_tasks.specs.Places.{drawn_place, end_words, fork_place, front_in, drawn_name, named_phaser, place_in_line, said_of, wait_place}
 
--- who would fork a task: the forker's name, the place of the fork where it is told, and how the forker stands
+-- who would fork a task: the name that its `newTid` gives the forker, the place of the fork where it is told, and how the forker stands
 pub record Forking : Type 0 where
   pub name : List ℕ
   pub at : List ℕ
   pub stands : List ℕ
 
--- What is said of a task: in its own paragraph the place with which this begins, and in the line of an impeder its phase; then its name, what is said behind
--- that, the event that it awaits, who would fork it, and what it does next to the phaser of the event that it impedes.
+-- What is said of a task: in its own paragraph the place with which this begins, and in the line of an impeder its phase; then the name that its `newTid` gives
+-- it, what is said behind it, the event that it awaits, who would fork it, and what it does next to the phaser of the event that it impedes.
 pub record Said : Type 0 where
   pub front : List ℕ
   pub name : List ℕ
@@ -40,9 +40,9 @@ pub record Said : Type 0 where
 abbrev pub phase_words : Waiting → List ℕ
 phase_words w = if w.phase == w.event.n then [] else codes " at phase " ++ decimal w.phase
 
--- what it waits for: await(pb) waits for phase 1 of p1
-abbrev pub awaited_words : Waiting → List ℕ
-awaited_words w = w.words ++ phase_words w ++ codes " waits for phase " ++ decimal w.event.n ++ codes " of p" ++ decimal w.event.p.0
+-- what it waits for: await(pb) waits for phase 1 of pb
+abbrev pub awaited_words : FactsValue → Waiting → List ℕ
+awaited_words f w = w.words ++ phase_words w ++ codes " waits for phase " ++ decimal w.event.n ++ codes " of " ++ named_phaser f w.event.p.0
 
 -- a turn of a loop: ; turn 3 of the loop at 17:5
 abbrev pub turn_words : FactsValue → Turn → List ℕ
@@ -52,12 +52,12 @@ turn_words f u = codes "; turn " ++ decimal u.turn ++ codes " of the loop at " +
 abbrev pub forked_words : FactsValue → Option Forked → List ℕ
 forked_words f fork = said_of (λ (x : Forked). codes "forked at " ++ place_in_line f x.at ++ codes "; ") fork
 
--- the phaser for which it waits: p1 made at 11:1
+-- the phaser for which it waits: pb made at 11:1
 abbrev pub made_words : FactsValue → Waiting → List ℕ
 made_words f w =
-    codes "p" ++ decimal w.event.p.0 ++ codes " made at " ++ said_of (λ (at : TextPlace). place_in_line f at) (slice_get f.account.phasers w.event.p.0)
+    named_phaser f w.event.p.0 ++ codes " made at " ++ said_of (λ (at : TextPlace). place_in_line f at) (slice_get f.account.phasers w.event.p.0)
 
--- the second line: forked at 16:3; p1 made at 11:1; turn 3 of the loop at 17:5
+-- the second line: forked at 16:3; pb made at 11:1; turn 3 of the loop at 17:5
 abbrev pub second_line : FactsValue → Option Forked → Waiting → List ℕ
 second_line f fork w = codes "\n  " ++ forked_words f fork ++ made_words f w ++ flat_map (turn_words f) w.turns
 
@@ -66,9 +66,9 @@ abbrev pub waiting_said : FactsValue → ℕ → List ℕ → Said
 waiting_said f t stands =
     record {
       front = said_of (λ (w : Waiting). front_in f w.at) (wait_of f t);
-      name = name_words f t;
+      name = drawn_name f t;
       phase = None;
-      words = stands ++ said_of (λ (w : Waiting). awaited_words w ++ second_line f (forking_of f t) w) (wait_of f t);
+      words = stands ++ said_of (λ (w : Waiting). awaited_words f w ++ second_line f (forking_of f t) w) (wait_of f t);
       event = option_map (λ (w : Waiting). w.event) (wait_of f t);
       forking = None;
       next = [];
@@ -87,7 +87,7 @@ forker_words f t NeverForked = codes "not forked yet"
 -- who would fork a task, with these words for the place
 abbrev pub forking_by : FactsValue → List ℕ → Option Forked → Option Forking
 forking_by f at fork =
-    option_map (λ (x : Forked). record { name = name_words f x.by.0; at = at; stands = forker_words f x.by.0 (situation_of f x.by.0) }) fork
+    option_map (λ (x : Forked). record { name = drawn_name f x.by.0; at = at; stands = forker_words f x.by.0 (situation_of f x.by.0) }) fork
 
 -- ---- what is said
 
@@ -95,11 +95,11 @@ forking_by f at fork =
 abbrev pub said_as : FactsValue → ℕ → Situation → Said
 said_as f t Deadlocked = waiting_said f t (codes "deadlocked: ")
 said_as f t Held = waiting_said f t (codes "held: ")
-said_as f t HasEnded = record { front = []; name = name_words f t; phase = None; words = []; event = None; forking = None; next = [] }
+said_as f t HasEnded = record { front = []; name = drawn_name f t; phase = None; words = []; event = None; forking = None; next = [] }
 said_as f t NotForkedYet =
     record {
       front = said_of (λ (x : Forked). front_in f x.at) (forking_of f t);
-      name = name_words f t;
+      name = drawn_name f t;
       phase = None;
       words = codes "not forked yet: ";
       event = None;
@@ -109,7 +109,7 @@ said_as f t NotForkedYet =
 said_as f t NeverForked =
     record {
       front = said_of (λ (d : Drawn). front_in f d.at) (drawing_of f t);
-      name = name_words f t;
+      name = drawn_name f t;
       phase = None;
       words = codes "never forked";
       event = None;
@@ -139,14 +139,14 @@ impeder_forking f t NotForkedYet = forking_by f (codes " at " ++ fork_place f t)
 impeder_forking f t _ = None
 
 -- that a task does this next to phaser q, up to the place where
-abbrev pub doing_words : ℕ → Doing → List ℕ
-doing_words q Advances = codes "; next adv of p" ++ decimal q ++ codes " at "
-doing_words q Leaves = codes "; p" ++ decimal q ++ codes " is left at "
+abbrev pub doing_words : FactsValue → ℕ → Doing → List ℕ
+doing_words f q Advances = codes "; next adv of " ++ named_phaser f q ++ codes " at "
+doing_words f q Leaves = codes "; " ++ named_phaser f q ++ codes " is left at "
 
--- what a task does next to phaser q, with these words behind it: ; next adv of p1 at 12:3, behind this wait
+-- what a task does next to phaser q, with these words behind it: ; next adv of pb at 12:3, behind this wait
 abbrev pub next_op_words : FactsValue → ℕ → List ℕ → Option NextOp → List ℕ
-next_op_words f q behind None = codes "; no adv of p" ++ decimal q ++ codes " follows"
-next_op_words f q behind (Some x) = doing_words q x.does ++ place_in_line f x.at ++ behind
+next_op_words f q behind None = codes "; no adv of " ++ named_phaser f q ++ codes " follows"
+next_op_words f q behind (Some x) = doing_words f q x.does ++ place_in_line f x.at ++ behind
 
 -- what an impeder that stands so does next to the event's phaser, by what its code has
 abbrev pub next_by_situation : FactsValue → ℕ → Option NextOp → Situation → List ℕ
@@ -165,7 +165,7 @@ abbrev pub impeding_said : FactsValue → ℕ → ℕ → List ℕ → Said
 impeding_said f t phase next =
     record {
       front = [];
-      name = name_words f t;
+      name = drawn_name f t;
       phase = Some phase;
       words = impeder_words f t (situation_of f t);
       event = None;

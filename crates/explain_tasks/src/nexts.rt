@@ -1,44 +1,43 @@
 // What an impeder does next to the event's phaser.
-ghost use Rattle.std.specs.Prelude.{◌≡◌, ◌++◌, IfOk, OnOk, codes, decimal};
-ghost use Rattle.explain_tasks.specs.Sayings.{doing_words};
+ghost use Rattle.std.specs.Prelude.{◌≡◌, ◌++◌, IfOk, OnOk, codes};
 
 use crate::facts::Facts;
 use crate::impeders::Impeder;
 use crate::situation::Situation;
 use armus_base::{NoMemory, PhaserId};
-use explain_facts::{Doing, NextOp, put_number, put_words};
-use std::alloc::Global;
-
-// Appends that a task does this next to a phaser, up to the place where.
-fn put_doing(alloc: Global, out: &mut Vec<u8>, q: u32, does: Doing) -> Result<(), NoMemory>
-    ensures { OnOk result (out.new.items ≡ out.old.items ++ doing_words q does) }
-{
-    match does {
-        Doing::Advances => {
-            put_words(out, b"; next adv of p")?;
-            put_number(alloc, out, q)?;
-            put_words(out, b" at ")
-        }
-        Doing::Leaves => {
-            put_words(out, b"; p")?;
-            put_number(alloc, out, q)?;
-            put_words(out, b" is left at ")
-        }
-    }
-}
-
-// Appends that a task does nothing to a phaser any more.
-fn put_none(alloc: Global, out: &mut Vec<u8>, q: u32) -> Result<(), NoMemory>
-    ensures { OnOk result (out.new.items ≡ out.old.items ++ (codes "; no adv of p" ++ decimal q ++ codes " follows")) }
-{
-    put_words(out, b"; no adv of p")?;
-    put_number(alloc, out, q)?;
-    put_words(out, b" follows")
-}
+use explain_facts::{Doing, NextOp, put_words};
 
 impl<'a> Facts<'a> {
     ghost use Rattle.std.specs.Str.{bytes_eq};
-    ghost use Rattle.explain_tasks.specs.Sayings.{impeder_next, next_by_situation, next_op_words};
+    ghost use Rattle.explain_tasks.specs.Places.{named_phaser};
+    ghost use Rattle.explain_tasks.specs.Sayings.{doing_words, impeder_next, next_by_situation, next_op_words};
+
+    // Appends that a task does this next to a phaser, up to the place where.
+    fn put_doing(&self, out: &mut Vec<u8>, p: PhaserId, does: Doing) -> Result<(), NoMemory>
+        ensures { OnOk result (out.new.items ≡ out.old.items ++ doing_words self.now p.0 does) }
+    {
+        match does {
+            Doing::Advances => {
+                put_words(out, b"; next adv of ")?;
+                self.put_named_phaser(out, p)?;
+                put_words(out, b" at ")
+            }
+            Doing::Leaves => {
+                put_words(out, b"; ")?;
+                self.put_named_phaser(out, p)?;
+                put_words(out, b" is left at ")
+            }
+        }
+    }
+
+    // Appends that a task does nothing to a phaser any more.
+    fn put_none(&self, out: &mut Vec<u8>, p: PhaserId) -> Result<(), NoMemory>
+        ensures { OnOk result (out.new.items ≡ out.old.items ++ (codes "; no adv of " ++ named_phaser self.now p.0 ++ codes " follows")) }
+    {
+        put_words(out, b"; no adv of ")?;
+        self.put_named_phaser(out, p)?;
+        put_words(out, b" follows")
+    }
 
     // Appends what a task does next to a phaser, with these words behind it.
     fn put_next(
@@ -51,9 +50,9 @@ impl<'a> Facts<'a> {
         ensures { OnOk result (out.new.items ≡ out.old.items ++ next_op_words self.now p.0 behind.now next) }
     {
         match next {
-            None => put_none(self.alloc, out, p.0),
+            None => self.put_none(out, p),
             Some(next) => {
-                put_doing(self.alloc, out, p.0, next.does)?;
+                self.put_doing(out, p, next.does)?;
                 self.put_place(out, next.at)?;
                 put_words(out, behind)
             }

@@ -3,7 +3,7 @@
 /// Who would fork a task, but for the forker's number.
 #[derive(PartialEq, Eq, Hash, Drop)]
 pub struct ForkingWords {
-    /// The forker's name.
+    /// The name that its `newTid` gives the forker.
     pub name: Vec<u8>,
     /// The place of the fork, where it is told.
     pub at: Vec<u8>,
@@ -16,11 +16,11 @@ pub struct ForkingWords {
 pub struct Saying {
     /// The place with which its paragraph begins.
     pub front: Vec<u8>,
-    /// Its name.
+    /// The name that its `newTid` gives it.
     pub name: Vec<u8>,
     /// Its phase, where it impedes an event.
     pub phase: Option<u32>,
-    /// What is said behind its name.
+    /// What is said of it.
     pub words: Vec<u8>,
     /// Phaser and phase of the event that it awaits.
     pub event: Option<(u32, u32)>,

@@ -1,7 +1,7 @@
 // What is said of tasks.
 ghost use Rattle.std.specs.Prelude.{◌≡◌, ◌++◌, [], IfOk, OnOk, codes, option_copied, option_map};
 ghost use Rattle.explain_tasks.specs.calls.SayingValues.{forking_said, said_by};
-ghost use Rattle.explain_tasks.specs.Sayings.{awaited_words, phase_words};
+ghost use Rattle.explain_tasks.specs.Sayings.{phase_words};
 
 use crate::facts::Facts;
 use crate::impeders::Impeder;
@@ -22,26 +22,26 @@ fn put_phase(alloc: Global, out: &mut Vec<u8>, wait: &Waiting) -> Result<(), NoM
     put_number(alloc, out, wait.phase)
 }
 
-// Appends what a task waits for.
-fn put_awaited(alloc: Global, out: &mut Vec<u8>, wait: &Waiting) -> Result<(), NoMemory>
-    ensures { OnOk result (out.new.items ≡ out.old.items ++ awaited_words wait.now) }
-{
-    put_words(out, wait.words.as_slice())?;
-    put_phase(alloc, out, wait)?;
-    put_words(out, b" waits for phase ")?;
-    put_number(alloc, out, wait.event.n)?;
-    put_words(out, b" of p")?;
-    put_number(alloc, out, wait.event.p.0)
-}
-
 impl<'a> Facts<'a> {
     ghost use Rattle.std.specs.Prelude.{flat_map, slice_get};
     ghost use Rattle.explain_facts.specs.declared.account.Waiting.{Waiting};
     ghost use Rattle.explain_tasks.specs.Facts.{situation_of, wait_of};
     ghost use Rattle.explain_tasks.specs.declared.situation.Situation.TheVariants.{HasEnded, NeverForked, NotForkedYet};
-    ghost use Rattle.explain_tasks.specs.Places.{name_words, place_in_line, said_of, wait_place};
+    ghost use Rattle.explain_tasks.specs.Places.{drawn_name, place_in_line, said_of, wait_place};
     ghost use Rattle.source_map.specs.declared.place.TextPlace.{TextPlace};
-    ghost use Rattle.explain_tasks.specs.Sayings.{forked_words, forker_words, forking_by, impeder_forking, impeder_said, impeder_words, impeding_said, last_words, made_words, own_said, said_as, second_line, turn_words, waiting_said};
+    ghost use Rattle.explain_tasks.specs.Sayings.{awaited_words, forked_words, forker_words, forking_by, impeder_forking, impeder_said, impeder_words, impeding_said, last_words, made_words, own_said, said_as, second_line, turn_words, waiting_said};
+
+    // Appends what a task waits for.
+    fn put_awaited(&self, out: &mut Vec<u8>, wait: &Waiting) -> Result<(), NoMemory>
+        ensures { OnOk result (out.new.items ≡ out.old.items ++ awaited_words self.now wait.now) }
+    {
+        put_words(out, wait.words.as_slice())?;
+        put_phase(self.alloc, out, wait)?;
+        put_words(out, b" waits for phase ")?;
+        put_number(self.alloc, out, wait.event.n)?;
+        put_words(out, b" of ")?;
+        self.put_named_phaser(out, wait.event.p)
+    }
 
     // Appends a turn of a loop.
     fn put_turn(&self, out: &mut Vec<u8>, turn: Turn) -> Result<(), NoMemory>
@@ -91,8 +91,7 @@ impl<'a> Facts<'a> {
     fn put_made(&self, out: &mut Vec<u8>, wait: &Waiting) -> Result<(), NoMemory>
         ensures { OnOk result (out.new.items ≡ out.old.items ++ made_words self.now wait.now) }
     {
-        put_words(out, b"p")?;
-        put_number(self.alloc, out, wait.event.p.0)?;
+        self.put_named_phaser(out, wait.event.p)?;
         put_words(out, b" made at ")?;
         self.put_phaser_place(out, wait.event.p)
     }
@@ -112,12 +111,12 @@ impl<'a> Facts<'a> {
         self.put_turns(out, wait.turns.as_slice())
     }
 
-    // The name of a task.
+    // The name that the `newTid` of a task gives.
     fn name_of(&self, t: TaskId) -> Result<Vec<u8>, NoMemory>
-        ensures { IfOk result (λ v. v.items ≡ name_words self.now t.0) }
+        ensures { IfOk result (λ v. v.items ≡ drawn_name self.now t.0) }
     {
         let mut out = Vec::new(self.alloc);
-        self.put_name(&mut out, t)?;
+        self.put_drawn_name(&mut out, t)?;
         Ok(out)
     }
 
@@ -130,7 +129,7 @@ impl<'a> Facts<'a> {
         let mut event = None;
         if let Some(wait) = self.wait(t) {
             self.put_front(&mut front, wait.at)?;
-            put_awaited(self.alloc, &mut words, wait)?;
+            self.put_awaited(&mut words, wait)?;
             self.put_second_line(&mut words, self.fork(t), wait)?;
             event = Some((wait.event.p.0, wait.event.n));
         }

@@ -2,7 +2,7 @@
 ghost use Rattle.std.specs.Prelude.{◌≡◌, ◌==◌, ◌+◌, ◌++◌, IfOk, OnOk, flat_map};
 ghost use Rattle.explain_tasks.specs.TaskLists.{item_words, items_of, joined_items, list_words, runs_of, separator};
 
-use crate::words::put_task;
+use crate::naming::put_task_number;
 use armus_base::{NoMemory, TaskId};
 use explain_facts::put_words;
 use std::alloc::Global;
@@ -79,12 +79,12 @@ fn items_of_runs(alloc: Global, runs: &[Run]) -> Result<Vec<Run>, NoMemory>
 fn put_item(alloc: Global, out: &mut Vec<u8>, run: Run) -> Result<(), NoMemory>
     ensures { OnOk result (out.new.items ≡ out.old.items ++ item_words run) }
 {
-    put_task(alloc, out, run.from)?;
+    put_task_number(alloc, out, run.from)?;
     if run.from == run.to {
         return Ok(());
     }
     put_words(out, b" to ")?;
-    put_task(alloc, out, run.to)
+    put_task_number(alloc, out, run.to)
 }
 
 /// What stands before item k of n: nothing before the first, ` and ` before the last, and else a comma and a blank.
@@ -124,8 +124,8 @@ fn put_items(alloc: Global, out: &mut Vec<u8>, items: &[Run]) -> Result<(), NoMe
     Ok(())
 }
 
-/// Appends a list of tasks in order of number: `t1, t3 and t5 to t9`.
-pub fn put_list(alloc: Global, out: &mut Vec<u8>, tasks: &[TaskId]) -> Result<(), NoMemory>
+/// Appends the numbers of a list of tasks, in order: `t1, t3 and t5 to t9`.
+pub(crate) fn put_list(alloc: Global, out: &mut Vec<u8>, tasks: &[TaskId]) -> Result<(), NoMemory>
     ensures { OnOk result (out.new.items ≡ out.old.items ++ list_words tasks.now) }
 {
     let runs = runs_of(alloc, tasks)?;

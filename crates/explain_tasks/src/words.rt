@@ -1,12 +1,13 @@
 // The words for tasks and for where they stand.
-ghost use Rattle.std.specs.Prelude.{◌≡◌, ◌++◌, OnOk, codes, decimal};
+ghost use Rattle.std.specs.Prelude.{◌≡◌, ◌++◌, OnOk};
 ghost use Rattle.explain_tasks.specs.TaskLists.{by_number};
 
 use crate::facts::Facts;
-use armus_base::{NoMemory, TaskId};
+use crate::naming::{put_phaser_words, put_task_words};
+use crate::parts::put_tasks_words;
+use armus_base::{NoMemory, PhaserId, TaskId};
 use explain_facts::put_words;
 use source_map::TextPlace;
-use std::alloc::Global;
 
 /// Appends words that are kept.
 pub fn put_kept(out: &mut Vec<u8>, words: &Vec<u8>) -> Result<(), NoMemory>
@@ -22,17 +23,8 @@ pub fn put_by_number(out: &mut Vec<u8>, n: usize, one: &[u8], more: &[u8]) -> Re
     put_words(out, if n == 1 { one } else { more })
 }
 
-// Appends the number of a task.
-pub(crate) fn put_task(alloc: Global, out: &mut Vec<u8>, t: u32) -> Result<(), NoMemory>
-    ensures { OnOk result (out.new.items ≡ out.old.items ++ (codes "t" ++ decimal t)) }
-{
-    let text = format!(in alloc; "t{t}")?;
-    out.extend_from_slice(text.as_bytes())?;
-    Ok(())
-}
-
 impl<'a> Facts<'a> {
-    ghost use Rattle.explain_tasks.specs.Places.{drawn_place, end_words, fork_place, front_in, name_words, named_task, place_in_line, wait_place};
+    ghost use Rattle.explain_tasks.specs.Places.{drawn_place, end_words, fork_place, front_in, drawn_name, named_phaser, named_task, named_tasks, place_in_line, wait_place};
 
     // Appends a place within a line.
     pub(crate) fn put_place(&self, out: &mut Vec<u8>, at: TextPlace) -> Result<(), NoMemory>
@@ -48,16 +40,12 @@ impl<'a> Facts<'a> {
         self.places.put_front(self.alloc, out, self.file, at)
     }
 
-    // Appends the name behind the number of a task.
-    pub(crate) fn put_name(&self, out: &mut Vec<u8>, t: TaskId) -> Result<(), NoMemory>
-        ensures { OnOk result (out.new.items ≡ out.old.items ++ name_words self.now t.0) }
+    // Appends the name that the `newTid` of a task gives.
+    pub(crate) fn put_drawn_name(&self, out: &mut Vec<u8>, t: TaskId) -> Result<(), NoMemory>
+        ensures { OnOk result (out.new.items ≡ out.old.items ++ drawn_name self.now t.0) }
     {
         match self.drawn(t) {
-            Some(drawn) => {
-                put_words(out, b" (")?;
-                put_words(out, drawn.name.as_slice())?;
-                put_words(out, b")")
-            }
+            Some(drawn) => put_words(out, drawn.name.as_slice()),
             None => Ok(()),
         }
     }
@@ -66,8 +54,21 @@ impl<'a> Facts<'a> {
     pub fn put_named(&self, out: &mut Vec<u8>, t: TaskId) -> Result<(), NoMemory>
         ensures { OnOk result (out.new.items ≡ out.old.items ++ named_task self.now t.0) }
     {
-        put_task(self.alloc, out, t.0)?;
-        self.put_name(out, t)
+        put_task_words(self.alloc, &self.account.names, out, t)
+    }
+
+    /// Appends a phaser.
+    pub fn put_named_phaser(&self, out: &mut Vec<u8>, p: PhaserId) -> Result<(), NoMemory>
+        ensures { OnOk result (out.new.items ≡ out.old.items ++ named_phaser self.now p.0) }
+    {
+        put_phaser_words(self.alloc, &self.account.names, out, p)
+    }
+
+    /// Appends a list of tasks.
+    pub fn put_named_tasks(&self, out: &mut Vec<u8>, tasks: &[TaskId]) -> Result<(), NoMemory>
+        ensures { OnOk result (out.new.items ≡ out.old.items ++ named_tasks self.now tasks.now) }
+    {
+        put_tasks_words(self.alloc, &self.account.names, out, tasks)
     }
 
     /// Appends the place where a task waits.

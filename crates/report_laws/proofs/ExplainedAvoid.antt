@@ -30,6 +30,7 @@ use Rattle.report.proofs.OneReport.{one_standings}
 use Rattle.explain_avoid.specs.AvoidedWords.{refused_line, somebody_stays, tasks_with, waiting_line, waits_at_the_end, was_refused}
 use Rattle.explain_avoid.proofs.StaysTold.{stays_by_standing, task_has, task_with}
 use Rattle.explain_deadlock.specs.Paragraphs.{paragraphs}
+use Rattle.explain_facts.specs.declared.names.GivenNames.{GivenNames}
 use Rattle.explain_tasks.specs.Facts.{facts_of}
 use Rattle.program_io.specs.Texts.{Text}
 use Rattle.program_io.proofs.OnePlan.{checked_plan, one_plan}
@@ -127,10 +128,14 @@ module _ (form : Form) (text : Text) (status number : ℕ) (lines report : Text)
       (subst (λ (s : State). AreStandings (IsDeadBy (final_of plan s).blocked) (final_of plan s).ends x.explains.tells.standings) same_state own)
       run.report_is.stand
 
+  -- the names that are told
+  abbrev names : GivenNames
+  names = x.explains.tells.account.names
+
   -- the lines, by their parts
   abbrev behind : List Standing → Text
   behind standings =
-      waiting_line (tasks_with waits_at_the_end standings) ++ x.explains.tells.refusals
+      waiting_line names (tasks_with waits_at_the_end standings) ++ x.explains.tells.refusals
       ++ paragraphs (facts_of text form.file x.explains.tells.account x.explains.tells.standings) (state_at x.plan (places x.steps)).phases []
 
   begin_alike : BeginAlike run.report_is.standings x.explains.whole report
@@ -138,18 +143,18 @@ module _ (form : Form) (text : Text) (status number : ℕ) (lines report : Text)
       let own = x.explains.tells.standings in
       let r = run.report_is in
       record {
-        rest = refused_line (tasks_with was_refused own) ++ waiting_line (tasks_with waits_at_the_end own) ++ x.explains.tells.refusals
+        rest = refused_line names (tasks_with was_refused own) ++ waiting_line names (tasks_with waits_at_the_end own) ++ x.explains.tells.refusals
             ++ paragraphs (facts_of text form.file x.explains.tells.account own) (state_at x.plan (places x.steps)).phases [];
         others = task_lines r.standings ++ r.cycle_text ++ r.graph_text;
         lines_are = x.explains.tells.lines_are
-            ∙ first_of_five (counts_line (counts_of own)) (refused_line (tasks_with was_refused own)) (waiting_line (tasks_with waits_at_the_end own))
+            ∙ first_of_five (counts_line (counts_of own)) (refused_line names (tasks_with was_refused own)) (waiting_line names (tasks_with waits_at_the_end own))
             x.explains.tells.refusals (paragraphs (facts_of text form.file x.explains.tells.account own) (state_at x.plan (places x.steps)).phases [])
-            ∙ ap (λ s. counts_line (counts_of s) ++ (refused_line (tasks_with was_refused own) ++ waiting_line (tasks_with waits_at_the_end own) ++ x.explains.tells.refusals
+            ∙ ap (λ s. counts_line (counts_of s) ++ (refused_line names (tasks_with was_refused own) ++ waiting_line names (tasks_with waits_at_the_end own) ++ x.explains.tells.refusals
             ++ paragraphs (facts_of text form.file x.explains.tells.account own) (state_at x.plan (places x.steps)).phases [])) stands;
         report_is = r.lines ∙ first_of_four (counts_line (counts_of r.standings)) (task_lines r.standings) r.cycle_text r.graph_text;
       }
 
-  names_the_refused : NamesTheRefused run.report_is.standings x.explains.whole
+  names_the_refused : NamesTheRefused names run.report_is.standings x.explains.whole
   names_the_refused =
       let own = x.explains.tells.standings in
       let s = run.report_is.standings in
@@ -157,9 +162,9 @@ module _ (form : Form) (text : Text) (status number : ℕ) (lines report : Text)
         refused = tasks_with was_refused s;
         rest = behind own;
         lines_are = x.explains.tells.lines_are
-            ∙ two_of_five (counts_line (counts_of own)) (refused_line (tasks_with was_refused own)) (waiting_line (tasks_with waits_at_the_end own))
+            ∙ two_of_five (counts_line (counts_of own)) (refused_line names (tasks_with was_refused own)) (waiting_line names (tasks_with waits_at_the_end own))
             x.explains.tells.refusals (paragraphs (facts_of text form.file x.explains.tells.account own) (state_at x.plan (places x.steps)).phases [])
-            ∙ ap (λ z. counts_line (counts_of z) ++ refused_line (tasks_with was_refused z) ++ behind own) stands;
+            ∙ ap (λ z. counts_line (counts_of z) ++ refused_line names (tasks_with was_refused z) ++ behind own) stands;
         ascend = refused_ascend s;
         exact = λ t. (named_refused s t, λ named. refused_named s t named.0 named.1);
       }

@@ -1,6 +1,6 @@
 -- The explanation of a clock text, and the report of `clock`.
 use Rattle.std.proofs.Common.{◌≡◌, ◌∙◌, ◌++◌, ◌+◌, ℕ, suc, Bool, true, false, Some, None, List, [], ◌∷◌, ap, append_assoc, arith, cond, inl, inr, length, refl, subst, sym}
-use Rattle.std.specs.Prelude.{◌↔◌, IsSome, Ok, codes, count_by, decimal, if◌then◌else◌, slice_get}
+use Rattle.std.specs.Prelude.{◌↔◌, IsSome, Ok, codes, count_by, decimal, flat_map, if◌then◌else◌, slice_get}
 use Rattle.std.proofs.lemmas.List.Sums.{sum_by-cons}
 use Rattle.armus_base.specs.declared.ending.TaskEnd.{TaskEnd}
 use Rattle.armus_base.specs.declared.ending.TaskEnd.TheVariants as ends
@@ -30,7 +30,8 @@ use Rattle.report.specs.Standings.{AreStandings, Stands}
 use Rattle.report.specs.declared.standing.Standing.{Standing}
 use Rattle.report.specs.declared.standing.Standing.TheVariants as way
 use Rattle.explain_clock.specs.ClockCircles.{IsClockCircle, clock_verdict_line}
-use Rattle.explain_clock.specs.ClockExplanations.{is_ended, is_unstarted, lines_below, paragraph_at, some_activity_waits, waits_there}
+use Rattle.explain_clock.specs.ClockMends.{clock_circle_hint}
+use Rattle.explain_clock.specs.ClockExplanations.{ended_counts, is_ended, is_unstarted, paragraph_saying, paragraph_sayings, some_activity_waits, waiting_counts, waits_there}
 use Rattle.command_line.specs.declared.command.RunKind.TheVariants.{Plain}
 use Rattle.program_io.specs.Texts.{Text}
 use Rattle.armus_top.specs.ClockRuns.{IsClockRunOf}
@@ -176,12 +177,15 @@ module _ (form : Form) (text : Text) (status number : ℕ) (lines report : Text)
   count_alike =
       let f = x.explains.tells.facts in
       let nobody = clock_verdict_line f x.explains.tells.circle (some_activity_waits all) in
-      let paragraphs = lines_below (paragraph_at f) (length all) in
+      let said = flat_map (paragraph_saying f) (paragraph_sayings f x.explains.tells.circle) in
+      let hint = clock_circle_hint f x.explains.tells.circle in
+      let paragraphs = said ++ hint in
       let c = counts_of standings in
       record {
         rest = nobody ++ paragraphs;
         others = task_lines standings ++ run.report_is.cycle_text ++ run.report_is.graph_text;
         lines_are = x.explains.tells.lines_are
+            ∙ append_assoc (ended_counts all ++ waiting_counts all ++ nobody) said hint
             ∙ cut_so (codes "activities ") (decimal (length all)) (codes " ended ") (decimal (count_by is_ended all)) (codes " waiting ")
             (decimal (count_by waits_there all)) (codes " unstarted ") (decimal (count_by is_unstarted all)) (10 ∷ []) nobody paragraphs
             ∙ ap (λ n. first_line n (count_by is_ended all) (count_by waits_there all) (count_by is_unstarted all) ++ (nobody ++ paragraphs)) (sym stand.sized)

@@ -232,7 +232,7 @@ module _ (plan : Plan) (a : ℕ → Place) (f : FactsValue) (at : AreFactsAt pla
     told = told_in_lines f s.phases t.0
 
     lines_by_first : (xs : List TaskId) → tasks ≡ xs → lines_of_impeders f s.phases xs
-        ≡ flat_map (λ said. group_line f (length xs) said (group_of f behind said)) told ++ rest_line (rest_of f behind told)
+        ≡ flat_map (λ said. group_line f (length xs) said (group_of f behind said)) told ++ rest_line f (rest_of f behind told)
     lines_by_first [] is = absurd (nothing_in_nil t (subst (λ ys. Contains ys t) is inside))
     lines_by_first (v ∷ rest) is =
         let alike = wait_alike f s.phases (own_said f t.0) t v inside (subst (λ ys. Contains ys v) (sym is) (Contains-head v rest)) waits in

@@ -26,7 +26,7 @@ pub record NamesImpeders (f : FactsValue) (s : State) (tasks : List TaskId) (t :
   pub told : List Said
   pub group : Said → List TaskId
   pub rest : List TaskId
-  pub lines_are : lines_of_impeders f s.phases tasks ≡ flat_map (λ said. group_line f (length tasks) said (group said)) told ++ rest_line rest
+  pub lines_are : lines_of_impeders f s.phases tasks ≡ flat_map (λ said. group_line f (length tasks) said (group said)) told ++ rest_line f rest
   pub once : IsDistinct (flat_map group told ++ rest)
   pub exact : (u : TaskId) → Contains (flat_map group told ++ rest) u ↔ WaitsForTask s t.0 u.0
 

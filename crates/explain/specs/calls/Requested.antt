@@ -1,11 +1,12 @@
 -- What a request of the program asks for.
-use Rattle.std.specs.Prelude.{Bool, None, Option, Some, codes, if◌then◌else◌, option_map}
+use Rattle.std.specs.Prelude.{None, Option, Some, codes, if◌then◌else◌, option_map}
 use Rattle.std.specs.Borrow.{Bor}
 use Rattle.std.specs.Str.{bytes_eq}
 use Rattle.program_io.specs.Texts.{Text}
 use Rattle.explain.specs.Requests.{Asked, Form, avoided, clocks, explanation, form_of, help, nothing, steps, version}
 use Rattle.explain.specs.declared.answer.WantedOutput.{WantedOutput}
 use Rattle.explain.specs.declared.answer.WantedOutput.TheVariants.{Avoided, Clocks, Explanation, Steps}
+use Rattle.explain.specs.declared.extent.Extent.{Extent}
 use Rattle.explain.specs.declared.request.Request as request
 use Rattle.explain.specs.declared.request.Request.TheVariants as r
 
@@ -14,8 +15,8 @@ abbrev pub file_bytes : Option (Bor Text) → Option Text
 file_bytes file = option_map (λ f. f.now) file
 
 -- the form in which a text is told of, by the name of its file, where there is one
-abbrev pub form_with : Option (Bor Text) → Bool → Form
-form_with file all = form_of all (file_bytes file)
+abbrev pub form_with : Option (Bor Text) → Extent → Form
+form_with file extent = form_of extent (file_bytes file)
 
 -- what a word asks for of a text, if it does
 abbrev pub wanted_by_word : Text → Option WantedOutput
@@ -34,7 +35,7 @@ asked_for Clocks form = clocks form
 
 -- what the request asks for
 abbrev pub requested : request.Request → Asked
-requested (r.Text wanted all file) = asked_for wanted (form_with file all)
+requested (r.Text wanted extent file) = asked_for wanted (form_with file extent)
 requested r.Help = help
 requested r.Version = version
 requested r.Usage = nothing

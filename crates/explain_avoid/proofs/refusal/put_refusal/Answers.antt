@@ -22,7 +22,7 @@ returns c = λ ops stand.
     let i = c.op-i.result in
     let same : i ≡ ops t = one_op (code_of w.plan t) (places_of w t).done i (ops t) c.op-i.ensures.op (stand t) in
     let last = line (codes "  deadlock: " ++ avoided_circle_words l p ops c.args.cycle.now) in
-    let left = line (codes "  it left " ++ phaser_list c.args.waits.now.members.items) in
+    let left = line (codes "  it left " ++ phaser_list p c.args.waits.now.members.items) in
     four_pieces out c.put_words.new.out.items c.put_words-2.new.out.items c.put_deadlock.new.out.items c.put_left.new.out.items
     (line (refused_words file l p t e own i)) (line (refused_whence_words l p t e.p.0 i)) last left
     (two_pieces out c.put_refused.new.out.items c.put_words.new.out.items (refused_words file l p t e own i) (codes "\n") c.in_ok-put_refused.ensures
@@ -30,5 +30,5 @@ returns c = λ ops stand.
     (two_pieces c.put_words.new.out.items c.put_whence.new.out.items c.put_words-2.new.out.items (refused_whence_words l p t e.p.0 i) (codes "\n")
     c.in_ok-put_whence.ensures c.in_ok-put_words-2.ensures)
     (c.in_ok-put_deadlock.ensures ops stand)
-    (c.in_ok-put_left.ensures ∙ ap (λ qs. c.put_deadlock.new.out.items ++ line (codes "  it left " ++ phaser_list qs)) c.deref.ensures.value)
+    (c.in_ok-put_left.ensures ∙ ap (λ qs. c.put_deadlock.new.out.items ++ line (codes "  it left " ++ phaser_list p qs)) c.deref.ensures.value)
     ∙ ap (λ k. out ++ (line (refused_words file l p t e own k) ++ line (refused_whence_words l p t e.p.0 k) ++ last ++ left)) same

@@ -1,4 +1,4 @@
-use Rattle.std.proofs.Common.{◌∙◌, ap, arith, length, refl, subst, sym}
+use Rattle.std.proofs.Common.{◌∙◌, ℕ, List, Option, ap, arith, length, refl, subst, sym}
 use Rattle.std.specs.Prelude.{option_copied}
 use Rattle.armus_base.specs.declared.ending.Final.{Final}
 use Rattle.armus_base.specs.Finals.{end_of, is_awaited}
@@ -9,6 +9,7 @@ use Rattle.pl_core.specs.calls.Worlds.{places_of, state_of}
 use Rattle.clock_semantics.specs.Unfolding.{plan_of_moves}
 use Rattle.clock_source_map.proofs.AllOrigins.{unfolding_of_plan}
 use Rattle.clock_source_map.proofs.Walked.{same_unfolding}
+use Rattle.clock_source_map.specs.ClockOrigins.{all_waits}
 use Rattle.explain_clock.specs.ClockFacts.{AreWaitsAt, ClockFacts}
 use Rattle.explain_clock.proofs.KnownTexts.{known_text}
 use Rattle.explain_clock.proofs.explaining.clock_explanation_of.Goals as goal
@@ -55,7 +56,9 @@ returns c = λ u is.
             c.in_ok-layout.layout.origins f.of_text refl c.in_ok-layout.ensures.offsets c.text.ensures.text origins;
         ends_are = ap (λ (e : Final). e.ends) c.requires.end;
         blocked_are = ap (λ (e : Final). e.blocked) c.requires.end;
-        waits_are = subst (λ w. AreWaitsAt w c.args.world.now.plan (places_of c.args.world.now) c.in_ok-waits.waits.items) origins.waits c.in_ok-waits.ensures;
+        waits_are = subst (λ (os : List (List (Option ℕ))). AreWaitsAt (all_waits u) os c.args.world.now.plan (places_of c.args.world.now) c.in_ok-waits.waits.items)
+            (c.as_slice.ensures.items ∙ c.in_ok-ops.ensures u is)
+            (subst (λ w. AreWaitsAt w c.as_slice.result.now c.args.world.now.plan (places_of c.args.world.now) c.in_ok-waits.waits.items) origins.waits c.in_ok-waits.ensures);
       };
       circle = told.0.0;
       circle_is = told.0.1;

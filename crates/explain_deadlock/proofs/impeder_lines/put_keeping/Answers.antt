@@ -1,10 +1,10 @@
 use Rattle.std.proofs.lemmas.Result.{on_ok_weaker}
-use Rattle.explain_deadlock.proofs.Pieces.{eight_pieces}
+use Rattle.explain_deadlock.proofs.Pieces.{seven_pieces}
 use Rattle.explain_deadlock.proofs.impeder_lines.put_keeping.Goals as goal
 
 pub returns : goal.returns
 returns c =
     on_ok_weaker c.put_words-3.result
-    (λ e. eight_pieces _ _ _ _ _ _ _ _ _ _ _ _ _ _ _ _ _ c.in_ok-put_words.ensures c.in_ok-put_list.ensures c.in_ok-put_kept.ensures c.in_ok-put_by_number.ensures
+    (λ e. seven_pieces _ _ _ _ _ _ _ _ _ _ _ _ _ _ _ c.in_ok-put_words.ensures c.in_ok-put_named_tasks.ensures c.in_ok-put_by_number.ensures
     c.in_ok-put_by_number-2.ensures c.in_ok-put_words-2.ensures c.in_ok-put_phase_of.ensures e)
     c.put_words-3.ensures

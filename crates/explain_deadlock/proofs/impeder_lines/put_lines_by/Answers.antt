@@ -19,7 +19,7 @@ returns c =
     let before : c.put_groups.new.out.items ≡ c.args.out.now.items ++ groups firsts =
     c.in_ok-put_groups.ensures ∙ ap (λ (xs : List Impeder). c.args.out.now.items ++ groups xs) c.deref.ensures.value in
     on_ok_weaker c.put_rest.result
-    (λ e. e ∙ ap (λ (xs : List TaskId). c.put_groups.new.out.items ++ rest_line xs) rest ∙ ap (λ zs. zs ++ rest_line (rest_of f all (map say firsts))) before
-    ∙ append_assoc c.args.out.now.items (groups firsts) (rest_line (rest_of f all (map say firsts)))
+    (λ e. e ∙ ap (λ (xs : List TaskId). c.put_groups.new.out.items ++ rest_line f xs) rest ∙ ap (λ zs. zs ++ rest_line f (rest_of f all (map say firsts))) before
+    ∙ append_assoc c.args.out.now.items (groups firsts) (rest_line f (rest_of f all (map say firsts)))
     ∙ ap (λ zs. c.args.out.now.items ++ zs) (lines_are f c.args.count c.args.next all firsts c.in_ok-firsts.ensures.told))
     c.put_rest.ensures

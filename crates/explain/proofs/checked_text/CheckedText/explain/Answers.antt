@@ -7,7 +7,7 @@ pub returns : goal.returns
 returns c =
     let text = c.args.self.now in
     record {
-      explains = end_explained (form_with text.file text.all) text.places.now text.program.now text.unfolded.plan c.requires.known.reads c.requires.known.plan
+      explains = end_explained (form_with text.file text.extent) text.places.now text.program.now text.unfolded.plan c.requires.known.reads c.requires.known.plan
           c.in_ok-ended.ended.world c.in_ok-ended.ensures.end.world c.in_ok-explanation.explanation (number_of_status c.status_of.result)
           c.in_ok-explanation.ensures c.status_of.ensures;
     }

@@ -12,7 +12,7 @@ pub returns : goal.returns
 returns c =
     let text = c.args.self.now in
     record {
-      steps = stepped_explained (form_with text.file text.all) text.places.now text.program.now text.unfolded.plan c.requires.known.reads c.requires.known.plan
+      steps = stepped_explained (form_with text.file text.extent) text.places.now text.program.now text.unfolded.plan c.requires.known.reads c.requires.known.plan
           c.in_ok-ran.ran c.in_ok-ran.ensures.run c.in_ok-explanation.explanation (number_of_status c.in_ok-answer.answer.status) c.in_ok-answer.answer.lines
           c.in_ok-explanation.ensures c.in_ok-answer.ensures.status c.in_ok-answer.ensures.lines;
     }

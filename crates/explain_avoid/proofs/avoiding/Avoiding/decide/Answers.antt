@@ -56,7 +56,7 @@ returns-clause-decided c =
       freed.0,
       released_are old new t is.refusal (of_plan old c.stand.ensures.checked c.stand.ensures.reachable) pending.phases.items known.phases freed.0 those,
       λ ops stand.
-          two_pieces out mid c.put_freed.new.out.items (refusal_by file l p t e own ops cycle.tasks left) (line (codes "  thereby " ++ going_on_words freed.0))
+          two_pieces out mid c.put_freed.new.out.items (refusal_by file l p t e own ops cycle.tasks left) (line (codes "  thereby " ++ going_on_words p freed.0))
           (c.in_ok-put_refusal-in-Refused.ensures ops stand
           ∙ ap (λ (d : Event). out ++ refusal_by file l p t d pending.phase ops c.as_slice.result.now pending.members.items) known.event
           ∙ ap (λ (o : Option ℕ). out ++ refusal_by file l p t e o ops c.as_slice.result.now pending.members.items) known.phase

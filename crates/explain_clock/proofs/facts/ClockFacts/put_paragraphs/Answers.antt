@@ -1,8 +1,7 @@
-use Rattle.explain_clock.specs.ClockExplanations.{paragraph_at}
-use Rattle.explain_clock.proofs.Lines.{lines_next}
+use Rattle.std.proofs.Common.{List, subst, sym}
+use Rattle.explain_clock.specs.declared.kept_lines.Kept.{Kept}
+use Rattle.explain_clock.specs.inside.KeptLines.{AreKept}
 use Rattle.explain_clock.proofs.facts.ClockFacts.put_paragraphs.Goals as goal
 
-pub loop-t-preserved : goal.loop-t-preserved
-loop-t-preserved c =
-    lines_next (paragraph_at c.args.self.now) c.args.out.now.items c.loop-t.out.items c.put_paragraph_at.new.out.items c.loop-t.t c.loop-t.invariant
-    c.in_ok-put_paragraph_at.ensures
+pub put_each-requires-clause-kept : goal.put_each-requires-clause-kept
+put_each-requires-clause-kept c = subst (λ (ks : List Kept). AreKept c.args.self.now ks) (sym c.deref-5.ensures.value) c.in_ok-kept.ensures

@@ -2,7 +2,9 @@ use Rattle.std.proofs.Common.{◌≡◌, ◌∙◌, ◌-◌, ◌++◌, ap, arith
 use Rattle.std.specs.Prelude.{slice_get}
 use Rattle.std.proofs.lemmas.Result.{on_ok_weaker}
 use Rattle.explain_clock.specs.ClockFacts.{ClockFacts}
-use Rattle.explain_clock.specs.ClockExplanations.{few_lines, line_if_pending, lines_below, others_line, pending_in}
+use Rattle.explain_clock.specs.ClockExplanations.{few_lines, line_if_pending, lines_below}
+use Rattle.explain_clock.specs.ClockFacts.{pending_in}
+use Rattle.explain_clock.specs.ClockKeepers.{others_line}
 use Rattle.explain_clock.proofs.FewLines.{few_written, pending_more}
 use Rattle.explain_clock.proofs.facts.ClockFacts.put_pending_lines.Goals as goal
 

@@ -1,5 +1,6 @@
 use Rattle.std.specs.Prelude.{slice_get}
-use Rattle.explain_clock.specs.ClockExplanations.{line_if_pending, lines_below, pending_in}
+use Rattle.explain_clock.specs.ClockExplanations.{line_if_pending, lines_below}
+use Rattle.explain_clock.specs.ClockFacts.{pending_in}
 use Rattle.explain_clock.specs.inside.FewLines.{AreWritten}
 use Rattle.explain_clock.proofs.facts.ClockFacts.put_pending_lines.Given as goal
 

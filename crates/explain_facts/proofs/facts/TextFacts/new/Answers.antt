@@ -1,7 +1,12 @@
-use Rattle.std.proofs.Common.{subst}
+use Rattle.std.proofs.Common.{◌∙◌, ap, length, subst, suc, sym}
 use Rattle.pl_syntax.specs.BodyEnds.{AreEnds}
 use Rattle.pl_syntax.specs.StatementOffsets.{AreOffsets}
+use Rattle.explain_facts.proofs.DrawnTasks.{drawn_many}
 use Rattle.explain_facts.proofs.facts.TextFacts.new.Goals as goal
+
+pub program_names-requires-clause-tasks : goal.program_names-requires-clause-tasks
+program_names-requires-clause-tasks c =
+    c.tasks.ensures.counted ∙ drawn_many c.args.program.now c.args.plan.now c.requires.unfolds ∙ ap (λ xs. suc (length xs)) (sym c.in_ok-origins.ensures.tasks)
 
 pub returns-clause-known : goal.returns-clause-known
 returns-clause-known c = record {
@@ -12,4 +17,5 @@ returns-clause-known c = record {
   };
   origins = c.in_ok-origins.ensures;
   few = c.requires.few;
+  names = c.in_ok-names.ensures;
 }

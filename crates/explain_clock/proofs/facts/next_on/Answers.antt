@@ -1,0 +1,22 @@
+use Rattle.std.proofs.Common.{◌≡◌, suc, ◌+◌, ap, arith, sym, take, ◌∙◌}
+use Rattle.std.specs.List.{find}
+use Rattle.std.proofs.lemmas.List.{take_all}
+use Rattle.explain_tasks.proofs.NextOn.{found, not_found}
+use Rattle.explain_clock.specs.ClockKeepers.{is_move_on}
+use Rattle.explain_clock.proofs.facts.next_on.Goals as goal
+
+pub returns-then-is_on : goal.returns-then-is_on
+returns-then-is_on c =
+    sym
+    (found (is_move_on c.args.p.0) c.args.ahead.now c.loop-next.next-index _ c.loop-next-test.true c.loop-next.invariant
+    (sym c.is_on.ensures ∙ c.if-is_on.true))
+
+pub loop-next-preserved : goal.loop-next-preserved
+loop-next-preserved c =
+    let k = c.loop-next.next-index in
+    ap (λ m. find (is_move_on c.args.p.0) (take m c.args.ahead.now)) (let e : k + 1 ≡ suc k = omega arith in e)
+    ∙ not_found (is_move_on c.args.p.0) c.args.ahead.now k _ c.loop-next-test.true c.loop-next.invariant (sym c.is_on.ensures ∙ c.if-is_on.false)
+
+pub returns : goal.returns
+returns c =
+    sym (ap (find (is_move_on c.args.p.0)) (sym (take_all c.loop-next.next-index c.args.ahead.now c.loop-next-test.false)) ∙ c.loop-next.invariant)
