@@ -74,6 +74,11 @@ struct slot {
     char name[NAME], place[300];
 };
 
+/* The last threads that ended: one of them may have kept a mutex. */
+enum { ENDED = 256 };
+static struct { pid_t tid; char name[NAME]; } ended[ENDED];
+static unsigned ended_count;
+
 static struct slot *_Atomic chunks[CHUNKS];
 static _Atomic(unsigned) thread_numbers, team_numbers;
 static __thread struct slot *mine __attribute__((tls_model("initial-exec")));
@@ -226,6 +231,16 @@ static struct slot *owner_of_lock(const void *lock) {
     return now != 0 && (now & ((UINT64_C(1) << ADDRESS_BITS) - 1)) == ADDRESS_OF(lock) ? slot_at((unsigned)(now >> ADDRESS_BITS) - 1) : NULL;
 }
 
+/* A thread has ended, and its slot is another one's soon: of what it did not give back the owner is not known any more. */
+static void owns_no_more(const struct slot *s) {
+    for (unsigned i = 0; i < OWNED; i++) {
+        uint64_t now = atomic_load_explicit(&owned[i], memory_order_relaxed);
+        if (now >> ADDRESS_BITS == s->index + 1) {
+            atomic_compare_exchange_strong(&owned[i], &now, 0);
+        }
+    }
+}
+
 /* ---- lines */
 static char text[1 << 16];
 static size_t length;
@@ -281,35 +296,64 @@ static bool is_library_of_threads(const char *path) {
 
 /* The addresses of the program's own calls: the one from which it waits, or, where that is a library of threads, the words of the stack that stand behind a call in
  * another file. The next ones serve where the first is of code that a header brought into the program. */
-enum { CALLS = 5, WORDS = 160 };
+enum { CALLS = 5, WORDS = 160, FRAME = 65536 };
 
-static unsigned own_calls(const void *from, const void *frame, const void **calls, Dl_info *info) {
-    static uintptr_t words[WORDS];
+/* Whether this is an address behind a call in the program, and in the same file as the ones that are known. */
+static bool is_own_call(uintptr_t word, unsigned known, Dl_info *info) {
     unsigned char before[6];
+    Dl_info found;
+    const char *at = (const char *)word;
+    if (word <= 4096 || dladdr(at, &found) == 0 || found.dli_fname == NULL || is_library_of_threads(found.dli_fname) || (known > 0 && found.dli_fbase != info->dli_fbase)
+        || !read_memory(at - 6, before, 6) || !(before[1] == 0xe8 || (before[4] == 0xff && (before[5] & 0xf8) == 0xd0) || (before[0] == 0xff && before[1] == 0x15))) {
+        return false;
+    }
+    *info = found;
+    return true;
+}
+
+/* The callers of a call, as far as each keeps the frame of the one before it: code that was not made for speed does, and it is that in which a header's functions stand by
+ * themselves. */
+static unsigned callers(const void *frame, const void **calls, unsigned n, Dl_info *info) {
+    uintptr_t own = (uintptr_t)frame, words[2];
+    while (n < CALLS && read_memory((const void *)own, words, sizeof words)) {
+        if (words[0] <= own || words[0] - own > FRAME) {
+            break;
+        }
+        own = words[0];
+        if (!read_memory((const void *)own, words, sizeof words) || !is_own_call(words[1], n, info)) {
+            break;
+        }
+        calls[n++] = (const void *)words[1];
+    }
+    return n;
+}
+
+static unsigned own_calls(const void *from, const void *frame, bool searches, const void **calls, Dl_info *info) {
+    static uintptr_t words[WORDS];
     unsigned n = 0, size = sizeof words;
     if (from != NULL && dladdr(from, info) != 0 && info->dli_fname != NULL && !is_library_of_threads(info->dli_fname)) {
         calls[n++] = from;
+        n = frame != NULL ? callers(frame, calls, n, info) : n;
     }
-    while (frame != NULL && size >= 512 && !read_memory((const char *)frame + 16, words, size)) {
+    if (!searches || n > 1) {
+        return n;
+    }
+    while (size >= 512 && !read_memory((const char *)frame + 16, words, size)) {
         size /= 2;                                             /* the stack ends before */
     }
-    for (unsigned i = 0; frame != NULL && i < size / sizeof words[0] && n < CALLS; i++) {
-        Dl_info found;
-        const char *at = (const char *)words[i];
-        if (words[i] > 4096 && dladdr(at, &found) != 0 && found.dli_fname != NULL && !is_library_of_threads(found.dli_fname) && (n == 0 || found.dli_fbase == info->dli_fbase)
-            && read_memory(at - 6, before, 6) && (before[1] == 0xe8 || (before[4] == 0xff && (before[5] & 0xf8) == 0xd0) || (before[0] == 0xff && before[1] == 0x15))) {
-            *info = found;
-            calls[n++] = at;
+    for (unsigned i = 0; i < size / sizeof words[0] && n < CALLS; i++) {
+        if (is_own_call(words[i], n, info)) {
+            calls[n++] = (const void *)words[i];
         }
     }
     return n;
 }
 
-static void place_of(char *to, size_t size, const void *from, const void *frame, bool is_return) {
+static void place_of(char *to, size_t size, const void *from, const void *frame, bool searches, bool is_return) {
     static char program[256];
     const void *calls[CALLS];
     Dl_info info;
-    unsigned n = from != NULL ? own_calls(from, frame, calls, &info) : 0;
+    unsigned n = from != NULL ? own_calls(from, frame, searches && frame != NULL, calls, &info) : 0;
     if (program[0] == 0) {
         ssize_t length_of_name = readlink("/proc/self/exe", program, sizeof program - 1);
         program[length_of_name > 0 ? length_of_name : 0] = 0;
@@ -413,6 +457,9 @@ static bool sleeps(const struct slot *s) {
     return sizes[s->kind] == 0 ? is_of_openmp(code) : words[0] - (uintptr_t)s->object < sizes[s->kind];
 }
 
+/* Whether a signal's handler could end such a wait: by sem_post, by a word in memory, and in many programs by pthread_cond_signal. */
+static bool may_be_ended_by_handler(int kind) { return kind == SEMAPHORE || kind == ADDRESS || kind == CONDITION; }
+
 /* Whether a signal's handler may act: one is installed, and not only for a fault of the program itself. */
 static bool has_handlers(void) {
     char status[4096];
@@ -435,24 +482,53 @@ static bool has_handlers(void) {
 /* ---- objects and groups: who waits for the same */
 struct object { int kind; const void *key; unsigned number, team, turns; };
 static struct object objects[OBJECTS];
-static unsigned object_count[KINDS];
+static unsigned object_count[KINDS], objects_known;
 struct group { bool used; int kind; const void *object; unsigned team, barriers; struct slot *owner; bool any; unsigned number, wildcards; char name[NAME + 24]; unsigned turn; };
 static struct group groups[OBJECTS];
 static bool any_is_said;
 
-static struct object *object_of(int kind, const void *key, unsigned team) {
+/* The entry of an object, or the free one that it may have: one is always free. */
+static struct object *entry_among(struct object *table, int kind, const void *key, unsigned team) {
     unsigned h = (unsigned)(((uintptr_t)key >> 3) * 2654435761u + (unsigned)kind * 97 + team * 31) % OBJECTS;
-    for (unsigned i = 0; i < OBJECTS; i++, h = (h + 1) % OBJECTS) {
-        struct object *o = &objects[h];
-        if (o->number == 0) {
-            *o = (struct object){kind, key, ++object_count[kind], team, 0};
-            return o;
-        }
-        if (o->kind == kind && o->key == key && o->team == team) {
-            return o;
+    while (table[h].number != 0 && (table[h].kind != kind || table[h].key != key || table[h].team != team)) {
+        h = (h + 1) % OBJECTS;
+    }
+    return &table[h];
+}
+
+static unsigned team_of_group(const struct group *g) { return g->kind == TEAM || g->kind == TEAM_END ? g->team : 0; }
+
+/* Keeps only those at which somebody is told to wait. Numbers are not given again, so one that comes back has a new name. */
+static void forget_objects(void) {
+    static struct object before[OBJECTS];
+    memcpy(before, objects, sizeof before);
+    memset(objects, 0, sizeof objects);
+    objects_known = 0;
+    for (unsigned i = 0; i < OBJECTS; i++) {
+        const struct group *g = &groups[i];
+        const struct object *known = entry_among(before, g->kind, g->object, team_of_group(g));
+        struct object *o = entry_among(objects, g->kind, g->object, team_of_group(g));
+        if (g->used && known->number != 0 && o->number == 0) {
+            *o = *known;
+            objects_known++;
         }
     }
-    return NULL;
+}
+
+static struct object *object_of(int kind, const void *key, unsigned team) {
+    struct object *o = entry_among(objects, kind, key, team);
+    if (o->number == 0 && objects_known == OBJECTS - 1) {
+        forget_objects();
+        o = entry_among(objects, kind, key, team);
+    }
+    if (o->number == 0) {
+        if (objects_known == OBJECTS - 1) {
+            return NULL;
+        }
+        *o = (struct object){kind, key, ++object_count[kind], team, 0};
+        objects_known++;
+    }
+    return o;
 }
 
 #define EACH_SLOT(s) for (unsigned index_ = 0; index_ < CHUNK * CHUNKS && slot_at(index_) != NULL; index_++) for (struct slot *s = slot_at(index_); s != NULL; s = NULL) if (atomic_load_explicit(&s->state, memory_order_acquire) != FREE)
@@ -467,8 +543,18 @@ static struct slot *slot_of_tid(pid_t tid) {
     return found;
 }
 
+/* Whether another thread has the name; that of main is kept for it. */
+static bool is_name_of_another(const struct slot *s) {
+    bool found = strcmp(s->name, "main") == 0;
+    EACH_SLOT(t) {
+        found |= t != s && t->announced && strcmp(t->name, s->name) == 0;
+    }
+    return found;
+}
+
+/* A name of its own, which does not begin as those of wildcards do. */
 static void named(struct slot *s) {
-    char comm[20] = "", own[20] = "";
+    char comm[20] = "", own[20] = "", base[NAME];
     pid_t tid = atomic_load(&s->tid);
     if (tid == process) {
         snprintf(s->name, sizeof s->name, "main");
@@ -481,14 +567,14 @@ static void named(struct slot *s) {
         *c = *c > 32 && *c < 127 && *c != '/' ? *c : '_';
     }
     if (comm[0] == 0 || strcmp(comm, own) == 0) {
-        snprintf(s->name, sizeof s->name, "thread-%u", s->number);
-        return;
+        snprintf(base, sizeof base, "thread-%u", s->number);
+    } else {
+        comm[0] = comm[0] == '?' ? '_' : comm[0];
+        snprintf(base, sizeof base, "%s", comm);
     }
-    snprintf(s->name, sizeof s->name, "%s", comm);
-    EACH_SLOT(t) {
-        if (t != s && t->announced && strcmp(t->name, s->name) == 0) {
-            snprintf(s->name, sizeof s->name, "%s_%u", comm, s->number);
-        }
+    snprintf(s->name, sizeof s->name, "%s", base);
+    for (unsigned k = s->number; is_name_of_another(s); k++) {
+        snprintf(s->name, sizeof s->name, "%.20s_%u", base, k);
     }
 }
 
@@ -524,12 +610,13 @@ static struct slot *owner_of(const struct slot *s) {
     } else if (s->kind == CRITICAL || s->kind == OMP_LOCK) {
         return owner_of_lock(s->object);
     } else if (s->kind == JOIN) {
+        struct slot *last = NULL;                              /* one that has ended may have had the same address */
         EACH_SLOT(t) {
-            if (atomic_load(&t->handle) == (pthread_t)(uintptr_t)s->object && !t->foreign) {
-                return t;
+            if (atomic_load(&t->handle) == (pthread_t)(uintptr_t)s->object && !t->foreign && (last == NULL || t->number > last->number)) {
+                last = t;
             }
         }
-        return NULL;
+        return last;
     }
     return owner > 0 ? slot_of_tid(owner) : NULL;
 }
@@ -547,10 +634,10 @@ static void look_at(struct slot *s, int *handlers) {
     s->team_number = atomic_load(&s->team.number);
     s->barriers = atomic_load(&s->team.barriers);
     atomic_thread_fence(memory_order_acquire);
-    if ((s->kind == SEMAPHORE || s->kind == ADDRESS) && *handlers < 0) {
+    if (may_be_ended_by_handler(s->kind) && *handlers < 0) {
         *handlers = has_handlers();
     }
-    if (((s->kind == SEMAPHORE || s->kind == ADDRESS) && *handlers) || !sleeps(s)) {
+    if ((may_be_ended_by_handler(s->kind) && *handlers) || !sleeps(s)) {
         return;
     }
     s->owner = owner_of(s);
@@ -590,7 +677,7 @@ static bool is_past(unsigned i) {
 
 static void retire(unsigned i) {
     struct group *g = &groups[i];
-    struct object *o = object_of(g->kind, g->object, g->kind == TEAM || g->kind == TEAM_END ? g->team : 0);
+    struct object *o = object_of(g->kind, g->object, team_of_group(g));
     if (g->any) {
         say("%d/?any-thread leave %d/%s", process, process, g->name);
     }
@@ -645,6 +732,18 @@ static void wildcard(struct group *g, const struct slot *only) {
     g->wildcards++;
 }
 
+/* Of a mutex that nobody gives back, since its owner has ended: who that was. What it is told by says so, and still any thread may act. */
+static const char *ended_owner(const struct slot *s) {
+    pthread_mutex_t m;
+    int owner = s->kind == MUTEX && s->owner == NULL && read_memory(s->object, &m, sizeof m) ? m.__data.__owner & FUTEX_TID_MASK : 0;
+    for (unsigned i = 0; owner > 0 && i < ENDED; i++) {
+        if (ended[i].tid == owner) {
+            return ended[i].name;
+        }
+    }
+    return NULL;
+}
+
 static int new_group(struct slot *s) {
     struct object *o = object_of(s->kind, s->object, s->kind == TEAM || s->kind == TEAM_END ? s->team_number : 0);
     if (o == NULL) {
@@ -658,7 +757,8 @@ static int new_group(struct slot *s) {
         *g = (struct group){.used = true, .kind = s->kind, .object = s->object, .team = s->team_number, .barriers = s->barriers, .owner = s->owner, .turn = o->turns};
         snprintf(g->name, sizeof g->name, s->kind == JOIN && s->owner != NULL ? "%s-%s" : "%s-%s", kind_names[s->kind], s->kind == JOIN && s->owner != NULL ? s->owner->name : "");
         if (s->kind != JOIN || s->owner == NULL) {
-            snprintf(g->name, sizeof g->name, "%s-%u", kind_names[s->kind], o->number);
+            const char *kept_by = ended_owner(s);
+            snprintf(g->name, sizeof g->name, kept_by != NULL ? "%s-%u-kept-by-%.24s" : "%s-%u", kind_names[s->kind], o->number, kept_by);
         }
         for (unsigned j = 0; j < OBJECTS; j++) {
             if (j != i && groups[j].used && strcmp(groups[j].name, g->name) == 0) {
@@ -691,7 +791,7 @@ static void announce_new(void) {
     EACH_SLOT(s) {
         if (!s->announced && atomic_load(&s->tid) != 0 && !s->over) {
             named(s);
-            place_of(s->place, sizeof s->place, s->begins, NULL, false);
+            place_of(s->place, sizeof s->place, s->begins, NULL, false, false);
             say("%d/%s at @%s", process, s->name, s->place);
             s->announced = news = true;
         }
@@ -707,7 +807,7 @@ static void announce_wait(struct slot *s) {
     }
     s->group = s->group >= 0 ? s->group : new_group(s);
     if (s->group >= 0) {
-        place_of(s->place, sizeof s->place, atomic_load(&s->wait.from), s->kind == ADDRESS || s->kind == CONDITION || s->kind == JOIN ? atomic_load(&s->wait.frame) : NULL, true);
+        place_of(s->place, sizeof s->place, atomic_load(&s->wait.from), atomic_load(&s->wait.frame), s->kind == ADDRESS || s->kind == CONDITION || s->kind == JOIN, true);
         say("%d/%s wait %d/%s %u @%s", process, s->name, process, groups[s->group].name, groups[s->group].turn + 1, s->place);
         s->told = s->seen;
     }
@@ -750,7 +850,12 @@ static void look(void) {
         if (s->over) {
             if (s->announced) {
                 say("%d/%s end", process, s->name);
+            } else {
+                snprintf(s->name, sizeof s->name, "thread-%u", s->number);
             }
+            ended[ended_count % ENDED].tid = atomic_load(&s->tid);
+            snprintf(ended[ended_count++ % ENDED].name, NAME, "%s", s->name);
+            owns_no_more(s);
             memset(&s->wait, 0, sizeof s->wait);
             memset(&s->team, 0, sizeof s->team);
             s->announced = s->over = s->stands = s->foreign = false;
@@ -856,6 +961,8 @@ static void forked(void) {
     }
     memset(objects, 0, sizeof objects);
     memset(object_count, 0, sizeof object_count);
+    objects_known = 0;
+    memset(ended, 0, sizeof ended);
     memset(groups, 0, sizeof groups);
     any_is_said = false;
     mine = NULL;
@@ -1000,16 +1107,16 @@ __attribute__((noreturn)) void thrd_exit(int result) {
     pthread_cleanup_pop(1); \
     return result
 #define TRIED_FIRST(kind, type, name, tried, busy) \
-    static __attribute__((noinline)) int waits_##name(type *object, const void *from) { \
+    static __attribute__((noinline)) int waits_##name(type *object, const void *from, const void *frame) { \
         struct slot *s = own_slot(); \
-        wait_begins(s, kind, object, from, NULL); \
+        wait_begins(s, kind, object, from, frame); \
         int result = real_##name()(object); \
         wait_ends(s); \
         return result; \
     } \
     int name(type *object) { \
         int result = real_##tried()(object); \
-        return __builtin_expect(result != busy, 1) ? result : waits_##name(object, __builtin_extract_return_addr(__builtin_return_address(0))); \
+        return __builtin_expect(result != busy, 1) ? result : waits_##name(object, HERE); \
     }
 
 int pthread_join(pthread_t thread, void **to) { CANCELLABLE(JOIN, (const void *)(uintptr_t)thread, real_pthread_join()(thread, to)); }

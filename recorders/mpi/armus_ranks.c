@@ -2383,23 +2383,41 @@ FORTRAN_SEND(mpi_ssend, )
 FORTRAN_SEND(mpi_bsend, KEEPS_OF_FORTRAN)
 FORTRAN_SEND(mpi_rsend, KEEPS_OF_FORTRAN)
 
-/* In Fortran it is not asked which message came: the status may be left out, in more than one way. */
-static void has_received_something(const struct slot *s, const struct receive *r, F error) {
+/* A status of Fortran, or several: where the program leaves it out, one of the recorder's own stands in its place. So it is known which message came. */
+enum { INTEGERS = sizeof(MPI_Status) / sizeof(MPI_Fint) };
+struct status { MPI_Fint own[INTEGERS + 4]; MPI_Status read; };
+
+static bool is_left_out(F status) {
+#ifdef MPICH_VERSION
+    if ((void *)status == (void *)MPI_F08_STATUS_IGNORE || (void *)status == (void *)MPI_F08_STATUSES_IGNORE) {
+        return true;
+    }
+#endif
+    return status == NULL || status == MPI_F_STATUS_IGNORE || status == MPI_F_STATUSES_IGNORE;
+}
+
+static F wanted(struct status *s, F status) { return is_left_out(status) ? s->own : status; }
+
+/* The status in the form of C. */
+static const MPI_Status *in_c(struct status *s, F status) { return PMPI_Status_f2c(status, &s->read) == MPI_SUCCESS ? &s->read : NULL; }
+
+static void has_received_something(const struct slot *s, const struct receive *r, F error, const MPI_Status *status) {
     if (succeeded(error)) {
-        has_received(s, r, MPI_SUCCESS, NULL);
+        has_received(s, r, MPI_SUCCESS, status);
     }
 }
 
 #define FORTRAN_RECEIVE(name, tag, how, parameters, words, before, behind) \
     FORTRAN(name, parameters, words, struct receive r = receive_at(PMPI_Comm_f2c(*h), (int)*from, (int)*tag); before; struct slot *s = how, behind; ends(s))
-FORTRAN_RECEIVE(mpi_recv, g, receives(&r, HERE), (void *a, F n, F t, F from, F g, F h, F st, F e), (a, n, t, from, g, h, st, e), , has_received_something(s, &r, e))
+#define OWN_STATUS struct status own; st = wanted(&own, st)
+FORTRAN_RECEIVE(mpi_recv, g, receives(&r, HERE), (void *a, F n, F t, F from, F g, F h, F st, F e), (a, n, t, from, g, h, st, e), OWN_STATUS, has_received_something(s, &r, e, in_c(&own, st)))
 FORTRAN_RECEIVE(mpi_probe, g, waits_for_message(&r, HERE), (F from, F g, F h, F st, F e), (from, g, h, st, e), , )
-FORTRAN_RECEIVE(mpi_mprobe, g, waits_for_message(&r, HERE), (F from, F g, F h, F m, F st, F e), (from, g, h, m, st, e), , if (succeeded(e)) { takes_out(s, &r, NULL); })
-FORTRAN_RECEIVE(mpi_improbe, g, begins(NONE, NULL, 0, 0, HERE), (F from, F g, F h, F flag, F m, F st, F e), (from, g, h, flag, m, st, e), , if (succeeded(e) && *flag) { takes_out(s, &r, NULL); })
+FORTRAN_RECEIVE(mpi_mprobe, g, waits_for_message(&r, HERE), (F from, F g, F h, F m, F st, F e), (from, g, h, m, st, e), OWN_STATUS, if (succeeded(e)) { takes_out(s, &r, in_c(&own, st)); })
+FORTRAN_RECEIVE(mpi_improbe, g, begins(NONE, NULL, 0, 0, HERE), (F from, F g, F h, F flag, F m, F st, F e), (from, g, h, flag, m, st, e), OWN_STATUS, if (succeeded(e) && *flag) { takes_out(s, &r, in_c(&own, st)); })
 FORTRAN_RECEIVE(mpi_sendrecv, g2, receives(&r, HERE), (void *a, F n, F t, F to, F g, void *b, F m, F u, F from, F g2, F h, F st, F e), (a, n, t, to, g, b, m, u, from, g2, h, st, e),
-    sends_to(r.of, (int)*to, (int)*g), has_received_something(s, &r, e))
+    OWN_STATUS; sends_to(r.of, (int)*to, (int)*g), has_received_something(s, &r, e, in_c(&own, st)))
 FORTRAN_RECEIVE(mpi_sendrecv_replace, g2, receives(&r, HERE), (void *a, F n, F t, F to, F g, F from, F g2, F h, F st, F e), (a, n, t, to, g, from, g2, h, st, e),
-    sends_to(r.of, (int)*to, (int)*g), has_received_something(s, &r, e))
+    OWN_STATUS; sends_to(r.of, (int)*to, (int)*g), has_received_something(s, &r, e, in_c(&own, st)))
 FORTRAN_RECEIVE(mpi_irecv, g, begins_receive(&r, HERE), (void *a, F n, F t, F from, F g, F h, F q, F e), (a, n, t, from, g, h, q, e), ,
     if (s != NULL && part_of(&r).kind != NONE && succeeded(e)) { remember(request_of(PMPI_Request_f2c(*q), r.of, part_of(&r))); })
 
@@ -2438,26 +2456,45 @@ static void keep_before_of_fortran(struct before *b, int n, F q) {
     }
 }
 
-/* Of a receive from anybody, or of any tag, it is not told which message came, so it counts as none: a later receive waits for less than it needs, and never for more. */
-static void numbered_are_done(const struct before *b, int done, F which) {
-    for (int i = 0; i < done; i++) {
-        one_is_done(b, (int)which[i] - 1, NULL);
+/* Which messages came, where the program wants to know of all of them. Else a receive from anybody, or of any tag, counts as none: a later receive waits for less than it
+ * needs, and never for more. */
+static void all_have_come(const struct before *b, F statuses) {
+    struct status one;
+    for (int i = 0; i < b->n; i++) {
+        one_is_done(b, i, is_left_out(statuses) ? NULL : in_c(&one, statuses + i * INTEGERS));
     }
 }
 
-#define FORTRAN_OF_REQUESTS(name, beginning, count, parameters, words, behind) \
-    FORTRAN(name, parameters, words, struct before b; keep_before_of_fortran(&b, count, q); struct slot *s = beginning, \
+static bool has_gone(const struct before *b, int i, F now) {
+    return i >= 0 && i < b->n && b->handles[i] != MPI_REQUEST_NULL && PMPI_Request_f2c(now[i]) == MPI_REQUEST_NULL;
+}
+
+/* The numbers begin with 1, and by mpi_f08 of some MPICH with 0: which request was done is told by its handle, where that is gone. */
+static void some_have_come(struct before *b, int done, F which, F statuses, F now) {
+    struct status one;
+    for (int i = 0; i < done; i++) {
+        int at = (int)which[i] - 1;
+        at += !has_gone(b, at, now) && has_gone(b, at + 1, now);
+        one_is_done(b, at, is_left_out(statuses) ? NULL : in_c(&one, statuses + i * INTEGERS));
+        if (at >= 0 && at < b->n) {
+            b->handles[at] = MPI_REQUEST_NULL;
+        }
+    }
+}
+
+#define FORTRAN_OF_REQUESTS(name, beginning, count, own_status, parameters, words, behind) \
+    FORTRAN(name, parameters, words, struct before b; own_status; keep_before_of_fortran(&b, count, q); struct slot *s = beginning, \
         if (s != NULL && succeeded(e)) { behind; } free_before(&b); ends(s))
 #define WAITS_FOR(all) waits(b.n, b.handles, b.known_ones, all, HERE)
 #define LOOKS begins(NONE, NULL, 0, 0, HERE)
-FORTRAN_OF_REQUESTS(mpi_wait, WAITS_FOR(true), 1, (F q, F st, F e), (q, st, e), all_are_done(&b, MPI_STATUSES_IGNORE))
-FORTRAN_OF_REQUESTS(mpi_waitall, WAITS_FOR(true), (int)*n, (F n, F q, F st, F e), (n, q, st, e), all_are_done(&b, MPI_STATUSES_IGNORE))
-FORTRAN_OF_REQUESTS(mpi_waitany, WAITS_FOR(false), (int)*n, (F n, F q, F which, F st, F e), (n, q, which, st, e), numbered_are_done(&b, 1, which))
-FORTRAN_OF_REQUESTS(mpi_waitsome, WAITS_FOR(false), (int)*n, (F n, F q, F done, F which, F st, F e), (n, q, done, which, st, e), numbered_are_done(&b, (int)*done, which))
-FORTRAN_OF_REQUESTS(mpi_test, LOOKS, 1, (F q, F flag, F st, F e), (q, flag, st, e), if (*flag) { all_are_done(&b, MPI_STATUSES_IGNORE); })
-FORTRAN_OF_REQUESTS(mpi_testall, LOOKS, (int)*n, (F n, F q, F flag, F st, F e), (n, q, flag, st, e), if (*flag) { all_are_done(&b, MPI_STATUSES_IGNORE); })
-FORTRAN_OF_REQUESTS(mpi_testany, LOOKS, (int)*n, (F n, F q, F which, F flag, F st, F e), (n, q, which, flag, st, e), if (*flag) { numbered_are_done(&b, 1, which); })
-FORTRAN_OF_REQUESTS(mpi_testsome, LOOKS, (int)*n, (F n, F q, F done, F which, F st, F e), (n, q, done, which, st, e), numbered_are_done(&b, (int)*done, which))
+FORTRAN_OF_REQUESTS(mpi_wait, WAITS_FOR(true), 1, OWN_STATUS, (F q, F st, F e), (q, st, e), all_have_come(&b, st))
+FORTRAN_OF_REQUESTS(mpi_waitall, WAITS_FOR(true), (int)*n, , (F n, F q, F st, F e), (n, q, st, e), all_have_come(&b, st))
+FORTRAN_OF_REQUESTS(mpi_waitany, WAITS_FOR(false), (int)*n, OWN_STATUS, (F n, F q, F which, F st, F e), (n, q, which, st, e), some_have_come(&b, 1, which, st, q))
+FORTRAN_OF_REQUESTS(mpi_waitsome, WAITS_FOR(false), (int)*n, , (F n, F q, F done, F which, F st, F e), (n, q, done, which, st, e), some_have_come(&b, (int)*done, which, st, q))
+FORTRAN_OF_REQUESTS(mpi_test, LOOKS, 1, OWN_STATUS, (F q, F flag, F st, F e), (q, flag, st, e), if (*flag) { all_have_come(&b, st); })
+FORTRAN_OF_REQUESTS(mpi_testall, LOOKS, (int)*n, , (F n, F q, F flag, F st, F e), (n, q, flag, st, e), if (*flag) { all_have_come(&b, st); })
+FORTRAN_OF_REQUESTS(mpi_testany, LOOKS, (int)*n, OWN_STATUS, (F n, F q, F which, F flag, F st, F e), (n, q, which, flag, st, e), if (*flag) { some_have_come(&b, 1, which, st, q); })
+FORTRAN_OF_REQUESTS(mpi_testsome, LOOKS, (int)*n, , (F n, F q, F done, F which, F st, F e), (n, q, done, which, st, e), some_have_come(&b, (int)*done, which, st, q))
 
 FORTRAN(mpi_request_free, (F q, F e), (q, e), is_given_up(PMPI_Request_f2c(*q), true), )
 FORTRAN(mpi_cancel, (F q, F e), (q, e), is_given_up(PMPI_Request_f2c(*q), false), )

@@ -30,7 +30,7 @@ final class Tasks {
         StringBuilder name = new StringBuilder();
         for (int i = 0; i < Math.min(NAME, text.length()); i++) {
             char c = text.charAt(i);
-            name.append(c > ' ' && c < 127 && c != '/' && c != ',' && c != ';' ? c : '_');
+            name.append(c > ' ' && c < 127 && c != '/' && c != ',' && c != ';' && (c != '?' || i > 0) ? c : '_');      // those of wildcards begin with '?'
         }
         return name.length() == 0 ? "_" : name.toString();
     }

@@ -14,6 +14,7 @@ final class Announcer {
     private static final int NAME = 40;
     private static final int LINE = 511;
     private static final int TURNS = 3;
+    private static final int KEPT = 4096;
 
     /** Those who wait for one turn of one object. */
     private static final class Group {
@@ -51,7 +52,7 @@ final class Announcer {
         StringBuilder name = new StringBuilder();
         for (int i = 0; i < Math.min(NAME, text.length()); i++) {
             char c = text.charAt(i);
-            name.append(c > ' ' && c < 127 && c != '/' ? c : '_');
+            name.append(c > ' ' && c < 127 && c != '/' && (c != '?' || i > 0) ? c : '_');      // those of wildcards begin with '?'
         }
         return name.length() == 0 ? "_" : name.toString();
     }
@@ -124,6 +125,10 @@ final class Announcer {
         }
         turns.put(group.name, group.turn + 1);
         inUse.remove(group.name);
+        if (turns.size() > KEPT) {                             // what was waited for once is not kept for ever; a number does not come again
+            turns.keySet().retainAll(inUse);
+            numbers.clear();
+        }
     }
 
     private void waitAll(Map<Long, Thread> present, Map<Long, Wait> standing, int turn) {

@@ -83,10 +83,11 @@ final class Wait {
         if (future != null) {
             Object runner = inside.runner(future);
             by = runner instanceof Thread && present.containsKey(inside.id((Thread) runner)) ? inside.id((Thread) runner) : -1;
+            kind = runner == null ? "Future-not-begun" : "Future";
         }
     }
 
     String key() {
-        return object + " " + by + " " + phase;
+        return kind + " " + object + " " + by + " " + phase;
     }
 }

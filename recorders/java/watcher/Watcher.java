@@ -100,6 +100,19 @@ public final class Watcher implements Runnable {
         return threads != null && threads.isCurrentThreadCpuTimeSupported() ? threads.getCurrentThreadCpuTime() : 0;
     }
 
+    /** Whether this is a thread of the machine, or the watcher. One of the program may have the same name, but it is in a group of its own, or runs code. */
+    private boolean isOwn(Thread thread) {
+        String name = thread.getName();
+        if (!OWN_THREADS.contains(name)) {
+            return false;
+        }
+        if (name.equals("DestroyJavaVM")) {
+            return thread.getStackTrace().length == 0;
+        }
+        ThreadGroup group = thread.getThreadGroup();
+        return name.equals("armus watcher") || group == null || group == root || group.getName().equals("InnocuousThreadGroup");
+    }
+
     private Map<Long, Thread> present() {
         Thread[] found = new Thread[root.activeCount() * 2 + 16];
         int count = root.enumerate(found);
@@ -109,7 +122,7 @@ public final class Watcher implements Runnable {
         }
         Map<Long, Thread> present = new LinkedHashMap<>();
         for (int i = 0; i < count; i++) {
-            if (!OWN_THREADS.contains(found[i].getName())) {
+            if (!isOwn(found[i])) {
                 present.put(inside.id(found[i]), found[i]);
             }
         }

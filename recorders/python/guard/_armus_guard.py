@@ -51,7 +51,8 @@ def place():
 
 
 def named(text):
-    return ''.join(c if '!' <= c <= '~' and c not in '/,;()' else '_' for c in text)[:30] or '_'
+    text = ''.join(c if '!' <= c <= '~' and c not in '/,;()' else '_' for c in text)[:30] or '_'
+    return '_' + text[1:] if text[0] == '?' else text          # those of wildcards begin with '?'
 
 
 class Task:

@@ -173,7 +173,8 @@ class Text:
             if isinstance(node, (ast.With, ast.AsyncWith)):
                 for item in node.items:
                     self.note(item.context_expr.lineno, getattr(item.context_expr, 'end_lineno', 0), 'with', item.context_expr)
-                    self.regions.append((span(node.body), item.context_expr))
+                    if not gives_back(node.body, item.context_expr):
+                        self.regions.append((span(node.body), item.context_expr))
             elif isinstance(node, ast.Call) and isinstance(node.func, ast.Attribute) and node.func.attr in ('acquire', 'get', 'put', 'wait'):
                 self.note(node.lineno, node.end_lineno, node.func.attr, node.func.value)
             for _, body in ast.iter_fields(node):
@@ -198,7 +199,8 @@ class Text:
         """lock.acquire(), and then try .. finally lock.release()"""
         call = one.value if isinstance(one, ast.Expr) else None
         call = call.value if isinstance(call, ast.Await) else call
-        if isinstance(call, ast.Call) and isinstance(call.func, ast.Attribute) and call.func.attr == 'acquire' and not call.args and isinstance(two, ast.Try):
+        if isinstance(call, ast.Call) and isinstance(call.func, ast.Attribute) and call.func.attr == 'acquire' and not call.args and isinstance(two, ast.Try) \
+                and not gives_back(two.body, call.func.value):
             for last in two.finalbody:
                 end = last.value if isinstance(last, ast.Expr) else None
                 if isinstance(end, ast.Call) and isinstance(end.func, ast.Attribute) and end.func.attr == 'release' and ast.dump(end.func.value) == ast.dump(call.func.value):
@@ -210,6 +212,13 @@ class Text:
         if file not in cls.known:
             cls.known[file] = cls(file)
         return cls.known[file]
+
+
+def gives_back(body, lock):
+    """Whether the lock is given back in the midst of these lines: then who stands there may not have it."""
+    text = ast.dump(lock)
+    return any(isinstance(node, ast.Call) and isinstance(node.func, ast.Attribute) and node.func.attr == 'release' and ast.dump(node.func.value) == text
+               for one in body for node in ast.walk(one))
 
 
 def span(body):
@@ -282,10 +291,13 @@ class Lines:
 
 
 def named(text, longest=40):
-    return ''.join(c if '!' <= c <= '~' and c != '/' else '_' for c in text)[:longest] or '_'
+    """What the monitor takes for a name, and not for one of a wildcard, which begins with '?'."""
+    text = ''.join(c if '!' <= c <= '~' and c != '/' else '_' for c in text)[:longest] or '_'
+    return '_' + text[1:] if text[0] == '?' else text
 
 
 ALL = 'all'
+KEPT = 4096            # so many objects and names of what was waited for are kept
 
 
 class Wait:
@@ -349,6 +361,10 @@ class Announcer:
             self.lines.say(f'{self.task(key)} go')
             del self.waits[key]
         self.turns[group.name] = group.turn + 1
+        if len(self.turns) > KEPT:                              # a number does not come again, and so no name of an object
+            kept = {g.name for g in self.groups.values()}
+            self.turns = {name: turn for name, turn in self.turns.items() if name in kept}
+            self.numbers = {key: value for key, value in self.numbers.items() if not isinstance(key, tuple) or value[0]() is not None}
 
     def announce(self, present, standing):
         """present: the tasks that are there, each with a name and a place. standing: those that stood in the same wait at two looks."""
@@ -419,7 +435,7 @@ class Watcher:
     def __init__(self, lines):
         self.announcer, self.memory, self.own = Announcer(lines), Memory(), _thread.get_ident()
         self.native_offset = self.found_offset()
-        self.seen, self.slept, self.beginning = {}, {}, {}
+        self.slept, self.beginning, self.earlier, self.began = {}, {}, {}, {}
         self.task_keys = weakref.WeakKeyDictionary()
         self.main = None
 
@@ -438,9 +454,25 @@ class Watcher:
         threading = sys.modules.get('threading')
         return getattr(getattr(threading, '_active', {}).get(ident), 'native_id', None)
 
+    @staticmethod
+    def thread(ident):
+        return getattr(sys.modules.get('threading'), '_active', {}).get(ident)
+
+    def know(self, idents):
+        """How many threads had this number one behind the other: a thread that begins may have that of one which has just ended."""
+        for ident in idents:
+            thread, (known, count) = self.thread(ident), self.began.get(ident, (None, 0))
+            if thread is not None and (known is None or known() is not thread):
+                self.began[ident] = weakref.ref(thread), count + (known is not None)
+        for ident in [i for i in self.began if i not in idents]:
+            del self.began[ident]
+
+    def key(self, ident):
+        """What the announcer knows a thread by. Tasks and others have a key of their own."""
+        return ('thread', ident, self.began.get(ident, (None, 0))[1]) if isinstance(ident, int) else ident
+
     def name(self, ident):
-        threading = sys.modules.get('threading')
-        thread = getattr(threading, '_active', {}).get(ident)
+        threading, thread = sys.modules.get('threading'), self.thread(ident)
         if thread is not None:
             return 'main' if thread is threading._main_thread else thread._name
         return f'thread-{len(self.announcer.names)}'
@@ -470,6 +502,8 @@ class Watcher:
         frames = {ident: frame for ident, frame in reversed(list(sys._current_frames().items())) if ident != self.own}
         natives = {ident: self.native(ident) for ident in frames}
         present, asleep = {}, {}
+        self.earlier, self.beginning = self.beginning, {}
+        self.know(frames)
         for ident, frame in frames.items():
             present[ident] = self.name(ident), self.place(frame)
             if natives[ident] is not None:
@@ -492,11 +526,12 @@ class Watcher:
         self.end_main(present, standing, frames)
         if standing and self.has_handlers():
             present['signals'] = 'signal-handlers', 'signal.py'
-        self.announcer.announce(present, standing)
+        for wait in standing.values():
+            wait.keepers = [k if k in (None, ALL) else [self.key(ident) for ident in k] for k in wait.keepers]
+        self.announcer.announce({self.key(k): value for k, value in present.items()}, {self.key(k): wait for k, wait in standing.items()})
         self.announcer.lines.hand_over()
         for key in [k for k in self.slept if k not in present]:
             del self.slept[key]
-        return bool(frames)
 
     def add_others(self, present, standing, known):
         """Threads that are not of Python: they may call it. Those that sleep without a limit wait for anybody."""
@@ -545,7 +580,7 @@ class Watcher:
         if threading is not None and code.co_filename == threading.__file__:
             return self.of_threading(frame, place, asleep[ident], frames, ident)
         if code.co_name == '_worker' and code.co_filename.endswith(os.path.join('concurrent', 'futures', 'thread.py')):
-            return Wait('idle', frame, [None], place, f'work-of-{self.announcer.names.get(ident, "pool")}')
+            return Wait('idle', frame, [None], place, f'work-of-{self.announcer.names.get(self.key(ident), "pool")}')
         if code.co_filename.endswith(os.path.join('multiprocessing', 'synchronize.py')):
             return self.of_processes(frame, place, ident)
         return self.of_line(frame, place, asleep[ident], frames, ident)
@@ -559,7 +594,7 @@ class Watcher:
         if name in ('_wait_for_tstate_lock', 'join') and isinstance(this, threading.Thread):
             if values.get('timeout') not in (None, -1) or not this.is_alive():
                 return None
-            return Wait('end-of', this, [[this.ident]], place, f'end-of-{self.announcer.names.get(this.ident, named(this._name))}', ends=True)
+            return Wait('end-of', this, [[this.ident]], place, f'end-of-{self.announcer.names.get(self.key(this.ident), named(this._name))}', ends=True)
         if name in ('_acquire_restore', '__enter__', 'acquire'):
             return self.of_lock(self.lock_at(address, [getattr(this, '_lock', None), getattr(this, '_block', None)]), place, frames, ident)
         return None
@@ -605,14 +640,14 @@ class Watcher:
                     item = dict(self.library_values(f)).get('self')
                     if getattr(item, 'future', None) is future:
                         return Wait('Future', future, [[ident]], place)
-        return Wait('Future', future, [None], place)
+        return Wait('Future-not-begun' if getattr(future, '_state', None) == 'PENDING' else 'Future', future, [None], place)
 
     def of_processes(self, frame, place, ident):
         """Objects of several processes: time enough has to pass until all of them are there."""
         values = dict(self.library_values(frame))
         if frame.f_code.co_name != 'wait' or values.get('timeout') is not None:
             return None
-        since = self.beginning.setdefault((ident, id(frame)), time.monotonic())
+        since = self.beginning[ident, id(frame)] = self.earlier.get((ident, id(frame)), time.monotonic())
         if time.monotonic() - since < 0.5:
             return None
         outer = frame.f_back
@@ -735,7 +770,11 @@ class Watcher:
         return self.holds_among(frames_of(frame), lock, waits)
 
     def holds_among(self, frames, lock, waits):
-        """Whether one with these frames stands inside of a with-statement of this lock, or between its acquire and the release of a finally."""
+        """Whether one with these frames stands inside of a with-statement of this lock, or between its acquire and the release of a finally. The wait of a condition gives
+        its lock back."""
+        frames = list(frames)
+        if any(f.f_code.co_name == 'wait' and f.f_code.co_filename.startswith(STANDARD) and attribute(f.f_locals.get('self'), '_lock') is lock for f in frames[:2]):
+            return False
         outside = [f for f in frames if not f.f_code.co_filename.startswith(STANDARD) or 'site-packages' in f.f_code.co_filename]
         for n, f in enumerate(outside):
             for region, expression in Text.of(f).regions:
