@@ -238,9 +238,16 @@ __attribute__((constructor)) static void find_program(void) {
     program[n > 0 ? n : 0] = 0;
 }
 
-/* The address of the program's call; where that is one of a library of threads, those that stand on the stack, the next one first. */
+/* Whether the program has C++ in it, where a call may stand in a function of a header. */
+static bool has_headers;
+
+__attribute__((constructor)) static void find_headers(void) {
+    has_headers = dlsym(RTLD_DEFAULT, "_ZSt9terminatev") != NULL;
+}
+
+/* The address of the program's call; where that is one of a library of threads, or may be one of a header, those that stand on the stack too, the next one first. */
 static void place_of(char *to, const void *from, const void *frame) {
-    enum { CALLS = 4, WORDS = 128 };
+    enum { CALLS = 6, WORDS = 128, FILE_SIZE = 1 << 28 };
     uintptr_t words[WORDS];
     const void *seen[CALLS];
     Dl_info info, found;
@@ -248,11 +255,14 @@ static void place_of(char *to, const void *from, const void *frame) {
     if (dladdr(from, &info) != 0 && info.dli_fname != NULL && !is_library_of_threads(info.dli_fname)) {
         seen[n++] = from;
     }
-    bool is_library = n == 0;
-    while (is_library && size >= 256 && !read_memory((const char *)frame + 16, words, size)) {
+    bool searches = n == 0 || has_headers;
+    while (searches && size >= 256 && !read_memory((const char *)frame + 16, words, size)) {
         size /= 2;                                             /* the stack ends before */
     }
-    for (unsigned i = 0; is_library && i < size / sizeof words[0] && n < CALLS; i++) {
+    for (unsigned i = 0; searches && i < size / sizeof words[0] && n < CALLS; i++) {
+        if (n > 0 && words[i] - (uintptr_t)info.dli_fbase >= FILE_SIZE) {
+            continue;
+        }
         if (is_own_call((const void *)words[i], &found) && (n == 0 || found.dli_fbase == info.dli_fbase)) {
             info = found;
             seen[n++] = (const void *)words[i];

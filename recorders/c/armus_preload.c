@@ -807,7 +807,7 @@ static void announce_wait(struct slot *s) {
     }
     s->group = s->group >= 0 ? s->group : new_group(s);
     if (s->group >= 0) {
-        place_of(s->place, sizeof s->place, atomic_load(&s->wait.from), atomic_load(&s->wait.frame), s->kind == ADDRESS || s->kind == CONDITION || s->kind == JOIN, true);
+        place_of(s->place, sizeof s->place, atomic_load(&s->wait.from), atomic_load(&s->wait.frame), s->kind < CRITICAL || s->kind == ADDRESS, true);
         say("%d/%s wait %d/%s %u @%s", process, s->name, process, groups[s->group].name, groups[s->group].turn + 1, s->place);
         s->told = s->seen;
     }
