@@ -18,3 +18,5 @@ pub mod ExplainedClocks
 pub mod ToldTasks
 pub mod AfterRefusal
 pub mod RefusalsTold
+pub mod OpsByVisits
+pub mod ToldByOps

@@ -11,5 +11,6 @@ pub mod ExplainedAvoid
 pub mod ExplainedClocks
 pub mod ToldTasks
 pub mod RefusalsTold
+pub mod OpOrigins
 -- Words of contracts further down, which no promise of a program needs.
 pub mod calls
