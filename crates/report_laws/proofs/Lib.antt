@@ -20,3 +20,4 @@ pub mod AfterRefusal
 pub mod RefusalsTold
 pub mod OpsByVisits
 pub mod ToldByOps
+pub mod CountedTurns

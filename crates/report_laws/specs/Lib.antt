@@ -12,5 +12,6 @@ pub mod ExplainedClocks
 pub mod ToldTasks
 pub mod RefusalsTold
 pub mod OpOrigins
+pub mod OpTurns
 -- Words of contracts further down, which no promise of a program needs.
 pub mod calls

@@ -16,5 +16,5 @@ pub use agreement::{
 };
 pub use answers::{live_tells_as_run, one_answer, printing_keeps_meaning, texts_go_by_plan};
 pub use explanations::{each_task_is_told, refusals_are_so};
-pub use origins::ops_come_from_what_is_told;
+pub use origins::{ops_come_from_what_is_told, turns_are_counted};
 pub use reports::{cycle_is_proof, held_tasks_have_end, stand_as_reported};

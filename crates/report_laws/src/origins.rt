@@ -1,9 +1,16 @@
-// Laws of the statements that explanations tell.
+// Laws of the statements and turns that explanations tell.
 ghost use Rattle.report_laws.specs.OpOrigins.{ForksAreToldByTheirOps, PhasersAreToldByTheirOps};
+ghost use Rattle.report_laws.specs.OpTurns.{TurnsAreCounted};
 
 /// The statement that is told of a phaser is the one from which the op comes that makes it, and the one that is told of a task's fork is the one from which the op
 /// comes that forks it.
 pub fn ops_come_from_what_is_told()
     ensures phasers { PhasersAreToldByTheirOps }
     ensures forks { ForksAreToldByTheirOps }
+{}
+
+/// The turns that are told of an op are those in which its task is, as a fault would have it: of the loops around the op's statement, and of each as many as began
+/// since the task came to it.
+pub fn turns_are_counted()
+    ensures { TurnsAreCounted }
 {}
