@@ -8,7 +8,7 @@ ghost use Rattle.armus_base.specs.declared.event.Event.{Event};
 ghost use Rattle.pl_core.specs.calls.Stands.{IsAtAwaitOf};
 ghost use Rattle.pl_core.specs.calls.Worlds.{places_of, state_of};
 ghost use Rattle.avoider.specs.calls.Decisions.{IsBeforeStep, IsDecision, IsOutcome, IsPublished, supposed_statuses};
-ghost use Rattle.avoider.specs.inside.GoingOn.{GoOnFrom, GoesOn, ImpedersGoOn};
+ghost use Rattle.avoider.specs.inside.GoingOn.{GoOnBesideFrom, GoesOnBeside, ImpedersGoOn};
 ghost use Rattle.avoider.specs.declared.decision.Decision.TheVariants.{Published, Refused};
 
 use crate::Decision;
@@ -139,7 +139,7 @@ fn behind_those_that_go_on(world: &World, from: u32, t: TaskId) -> u32
     requires from { from ≤ length world.now.plan.parents }
     ensures from { from ≤ result }
     ensures inside { result ≤ length world.now.plan.parents }
-    ensures go_on { GoOnFrom (state_of world.now) t.0 from result }
+    ensures go_on { GoOnBesideFrom (state_of world.now) t.0 from result }
 {
     // the plan is checked
     let _plan = world.plan();
@@ -155,7 +155,7 @@ fn behind_those_that_go_on(world: &World, from: u32, t: TaskId) -> u32
 // Whether task `u`, which is not task `t`, waits on an event that is reached.
 fn goes_on(world: &World, u: TaskId, t: TaskId) -> bool
     requires task { u.0 < length world.now.plan.parents }
-    ensures { IsTrue result → GoesOn (state_of world.now) t.0 u.0 }
+    ensures { IsTrue result → GoesOnBeside (state_of world.now) t.0 u.0 }
 {
     if u == t {
         return false;

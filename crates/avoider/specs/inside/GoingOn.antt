@@ -10,9 +10,9 @@ ImpedersGoOn s t e n =
     (u : ℕ) → u < n → IsPublishedImpeder (if_published s t e) e u → (f : Event) → (if_published s t e).published u ≡ Some f → IsReached s f
 
 -- task u is not task t, and the event on which it is published, if there is one, is reached
-abbrev pub GoesOn : State → ℕ → ℕ → Type 0
-GoesOn s t u = (u ≢ t) × ((f : Event) → s.published u ≡ Some f → IsReached s f)
+abbrev pub GoesOnBeside : State → ℕ → ℕ → Type 0
+GoesOnBeside s t u = (u ≢ t) × ((f : Event) → s.published u ≡ Some f → IsReached s f)
 
 -- so it is of each task from k on and below n
-abbrev pub GoOnFrom : State → ℕ → ℕ → ℕ → Type 0
-GoOnFrom s t k n = (u : ℕ) → k ≤ u → u < n → GoesOn s t u
+abbrev pub GoOnBesideFrom : State → ℕ → ℕ → ℕ → Type 0
+GoOnBesideFrom s t k n = (u : ℕ) → k ≤ u → u < n → GoesOnBeside s t u
