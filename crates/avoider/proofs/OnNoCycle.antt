@@ -7,7 +7,7 @@ use Rattle.armus_base.specs.Deadlocks.{IsAtPhase, IsImpededWithin, IsPublishedOn
 use Rattle.armus_base.specs.States.{IsReached, State, if_published}
 use Rattle.armus_base.proofs.Steps.{updated_other, updated_same}
 use Rattle.pl_core.specs.calls.HighestPhases.{ImpedesNobody, IsPublishedImpeder}
-use Rattle.avoider.specs.inside.GoingOn.{ImpedersGoOn}
+use Rattle.avoider.specs.inside.GoingOn.{GoesOnBeside, GoOnBesideFrom, ImpedersGoOn}
 
 -- a set without one task
 without_in : (u t : ℕ) (x : Bool) → u ≢ t → x ≡ true → (if u == t then false else x) ≡ true
@@ -103,4 +103,20 @@ impeders_all s t e k n before none v l impedes f waits =
     elim (cases_lt v k) [
       | inl early ↦ before v early impedes f waits
       | inr late ↦ absurd (none v late impedes)
+    ]
+
+-- and those behind them that go on
+pub impeders_behind : (s : State) (t : ℕ) (e : Event) (k n : ℕ) → ImpedersGoOn s t e k → GoOnBesideFrom s t k n → ImpedersGoOn s t e n
+impeders_behind s t e k n before behind v l impedes f waits =
+    elim (cases_lt v k) [
+      | inl early ↦ before v early impedes f waits
+      | inr late ↦ (let goes = behind v late l in goes.1 f (sym (updated_other s.published t v (Some e) goes.0) ∙ waits))
+    ]
+
+-- one more that goes on
+pub go_on_more : (s : State) (t k n : ℕ) → GoOnBesideFrom s t k n → GoesOnBeside s t n → GoOnBesideFrom s t k (n + 1)
+go_on_more s t k n before goes v l m =
+    elim (cases_eq v n) [
+      | inl same ↦ subst (GoesOnBeside s t) (sym same) goes
+      | inr apart ↦ before v l (omega (arith, apart))
     ]

@@ -1,15 +1,14 @@
 // The step of a task that stands at an await, in a world where nobody is dead.
-ghost use Rattle.std.specs.Prelude.{◌≡◌, ◌≢◌, ℕ, ◌<◌, Some, length, IfOk, IsTrue, MatchOption, OnErr};
+ghost use Rattle.std.specs.Prelude.{◌≡◌, ℕ, ◌<◌, ◌≤◌, length, IfOk, IsTrue, MatchOption, OnErr};
 ghost use Rattle.armus_base.specs.CheckedPlans.{IsCheckedPlan};
 ghost use Rattle.armus_base.specs.Deadlocks.{NobodyDead, WouldBeDead};
 ghost use Rattle.armus_base.specs.Runs.{IsReachable};
-ghost use Rattle.armus_base.specs.States.{IsReached};
 ghost use Rattle.armus_base.specs.calls.Statuses.{IsInOrder};
 ghost use Rattle.armus_base.specs.declared.event.Event.{Event};
 ghost use Rattle.pl_core.specs.calls.Stands.{IsAtAwaitOf};
 ghost use Rattle.pl_core.specs.calls.Worlds.{places_of, state_of};
 ghost use Rattle.avoider.specs.calls.Decisions.{IsBeforeStep, IsDecision, IsOutcome, IsPublished, supposed_statuses};
-ghost use Rattle.avoider.specs.inside.GoingOn.{ImpedersGoOn};
+ghost use Rattle.avoider.specs.inside.GoingOn.{GoOnBesideFrom, GoesOnBeside, ImpedersGoOn};
 ghost use Rattle.avoider.specs.declared.decision.Decision.TheVariants.{Published, Refused};
 
 use crate::Decision;
@@ -20,6 +19,9 @@ use dep_state::task_place;
 use pl_core::{Stand, World};
 use std::alloc::Global;
 use verdict::{Cycle, cycle};
+
+// So many tasks behind an impeder are looked at before the next impeder is looked for.
+const FEW_TASKS: u32 = 16;
 
 /// Decides on the await at which task `t` stands, in a world where nobody is dead: it is refused exactly where the task would be dead if it were
 /// published, and published otherwise, and nobody is dead after. A refusal has the cycle that a report would show with the task published. No
@@ -86,6 +88,7 @@ fn death_if(
 
 // Whether a look at the phasers shows that the task, were it published on the event, would lie on no cycle: its event is reached, or it impedes
 // no event that a task awaits, or each published task that impedes its event may go on. Where nobody is dead, a dead task would lie on a cycle through itself.
+// The one look goes over the phasers of the plan, the other over the members of the event's phaser: that which may take longer comes last.
 fn is_on_no_cycle(world: &World, t: TaskId, event: Event) -> bool
     requires task { t.0 < length world.now.plan.parents }
     requires phaser { event.p.0 < length world.now.plan.makers }
@@ -95,10 +98,21 @@ fn is_on_no_cycle(world: &World, t: TaskId, event: Event) -> bool
     if world.is_reached(event) {
         return true;
     }
-    if world.impedes_nobody(t, event) {
+    if !has_many_phasers(world) {
+        if world.impedes_nobody(t, event) {
+            return true;
+        }
+        return impeders_go_on(world, t, event);
+    }
+    if impeders_go_on(world, t, event) {
         return true;
     }
-    impeders_go_on(world, t, event)
+    world.impedes_nobody(t, event)
+}
+
+// Whether a look at each phaser takes longer than one at each task as a member of one of them. To look for the phase of a task takes as long as to pass four members.
+fn has_many_phasers(world: &World) -> bool {
+    world.plan().phasers() > world.plan().tasks() / 4
 }
 
 // Whether each published task that impedes the event, with task `t` counted as published on it, waits on an event that is reached.
@@ -114,15 +128,34 @@ fn impeders_go_on(world: &World, t: TaskId, event: Event) -> bool
         if !goes_on(world, u, t) {
             return false;
         }
-        next = u.0 + 1;
+        next = behind_those_that_go_on(world, u.0 + 1, t);
     }
     true
+}
+
+// The first of a few tasks from `from` on that does not go on, or else the first one behind them. Where many tasks come to an await one behind the other, most
+// of those behind an impeder impede too, and may go on.
+fn behind_those_that_go_on(world: &World, from: u32, t: TaskId) -> u32
+    requires from { from ≤ length world.now.plan.parents }
+    ensures from { from ≤ result }
+    ensures inside { result ≤ length world.now.plan.parents }
+    ensures go_on { GoOnBesideFrom (state_of world.now) t.0 from result }
+{
+    // the plan is checked
+    let _plan = world.plan();
+    let end = world.plan().tasks().min(from.saturating_add(FEW_TASKS));
+    for u in from..end {
+        if !goes_on(world, TaskId(u), t) {
+            return u;
+        }
+    }
+    end
 }
 
 // Whether task `u`, which is not task `t`, waits on an event that is reached.
 fn goes_on(world: &World, u: TaskId, t: TaskId) -> bool
     requires task { u.0 < length world.now.plan.parents }
-    ensures { IsTrue result → (u.0 ≢ t.0) × ((f : Event) → (state_of world.now).published u.0 ≡ Some f → IsReached (state_of world.now) f) }
+    ensures { IsTrue result → GoesOnBeside (state_of world.now) t.0 u.0 }
 {
     if u == t {
         return false;

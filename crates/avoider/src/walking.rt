@@ -19,8 +19,14 @@ use pl_core::World;
 use std::alloc::{AllocError, Global};
 use verdict::Cycle;
 
-// For how many tasks at most walks look who impedes their events.
+// For how many tasks at most a walk looks who impedes their events.
 const MOST_LOOKS: usize = 12;
+
+// For how many tasks at most the walk looks that finds the cycle of a refusal: where there are many phasers it may be longer, since it takes longer to make the
+// statuses, which have a phase on each awaited phaser.
+fn most_looks_on_cycle(world: &World) -> usize {
+    MOST_LOOKS.max(2 * world.plan().phasers() as usize)
+}
 
 /// A walk from the least task that may be dead, each time to the least one that may be dead and impedes the event of the task before it.
 #[derive(Drop)]
@@ -246,7 +252,8 @@ impl ImpederWalk {
 
 /// What walks tell of task `t`, were it published on the event, in a world where nobody is dead: the cycle of the statuses where it is dead by them, and no
 /// cycle where it is not. None where the walks are longer than what is looked at: the impeders of at most twelve tasks are looked for from the task itself, which
-/// tells of most tasks that they are not dead, and as many again from the least task that may be dead, where the cycle of a refusal begins.
+/// tells of most tasks that they are not dead, and those of as many again, or of twice as many as there are phasers, from the least task that may be dead, where
+/// the cycle of a refusal begins.
 pub(crate) fn told_by_walks(
     alloc: Global,
     world: &World,
@@ -268,7 +275,7 @@ pub(crate) fn told_by_walks(
     if walk.tells_alive(world, t, event) || !walk.begin(alloc, world, t, event) {
         return Ok(Some(None));
     }
-    for _ in 0..MOST_LOOKS {
+    for _ in 0..most_looks_on_cycle(world) {
         if let Some(k) = place_in(&walk.path, walk.at) {
             let cycle = cycle_of(alloc, world, &walk.path[k..], t, event)?;
             return Ok(Some(Some(cycle)));

@@ -16,6 +16,7 @@ ghost use Rattle.explain_avoid.specs.inside.SoFar.{RoundsGoTo, HasDecided, HasEn
 
 use crate::known_text::KnownText;
 use crate::refusal::{pending_of, put_freed, put_refusal};
+use adaptive::Wanted;
 use armus_base::{Event, Final, List, NoMemory, Plan, TaskId};
 use avoider::{Decision, Judge, Judging};
 use explain_facts::TextFacts;
@@ -179,7 +180,7 @@ fn avoided_to_end<'p>(
     let mut queue = RunQueue::start(alloc, &world)?;
     let mut run = Avoiding {
         world,
-        judge: Judge::new(Judging::Order),
+        judge: Judge::new(Judging::Graph(Wanted::Auto)),
         refusals: Vec::new(alloc),
     };
     'rounds: while run.round(&mut queue, text)? {}
@@ -188,7 +189,7 @@ fn avoided_to_end<'p>(
 
 /// Makes the serial avoided run of the plan of the text of this program, which comes from a file with this name, or from none: in rounds each task that was
 /// forked before acts, in order of number, until it is done, waits, or is refused. `places` are those of the text, and `forks` the statements that fork its
-/// tasks, as `unfold` of pl_plan answers them. The only error is want of memory. For each await that is decided it takes the time of `avoid_step_kept` and of a
+/// tasks, as `unfold` of pl_plan answers them. The only error is want of memory. For each await that is decided it takes the time of `avoid_step` and of a
 /// look at each phaser, and for each refusal a look at each task, and time that is linear in the text times the tasks of the deadlock.
 pub fn avoid_through<'p>(
     alloc: Global,

@@ -35,7 +35,7 @@ pub fn run_avoid<R: Threads + Sync, G: Gate>(
 
 /// The same, where awaits are judged by orders that are kept from one await to the next: one for each part of a round that is not split further, kept from
 /// round to round, and one for what goes on in one thread. There an await of which the phases of its task tell that it closes no cycle is published without
-/// the order.
+/// the order, and any other one is decided by `avoid_step_kept`.
 pub fn run_avoid_kept<R: Threads + Sync, G: Gate>(
     rt: &R,
     alloc: Global,

@@ -10,8 +10,9 @@ ghost use Rattle.task_runner.specs.inside.BoardRuns.{HasHadRound, HaveAllEnded, 
 
 use crate::RunOptions;
 use crate::beside::Beside;
-use crate::leaving::{bound_on_loads, goes_on};
+use crate::leaving::{are_many_on, bound_on_loads, goes_on};
 use crate::pass_times::PassTimes;
+use crate::worker_room::with_room;
 use armus_base::{Gate, List, NoMemory, Plan};
 use avoider::Judging;
 use board::{Board, TaskSeat, ViewSeat};
@@ -104,7 +105,8 @@ impl<'p> BoardRun<'p> {
             Ok(made) => {
                 self.round_workers.note(made.actions);
                 self.pass_times.note(made.actions);
-                Ok(goes_on(made, self.board_tasks.loads(), beside.is_there()))
+                let too_many = are_many_on(board, self.board_tasks.loads());
+                Ok(goes_on(made, too_many, beside.is_there()))
             }
             Err(error) => Err(B::early(error)),
         }
@@ -158,7 +160,7 @@ impl<'p> BoardRun<'p> {
         ensures given { (self.new.plan ≡ self.old.plan) × (self.new.options ≡ self.old.options) }
         ensures round { IfOk result (HasHadRound board.now self.new.plan.now with_pass self.old.board_tasks self.new.board_tasks) }
     {
-        let workers = self.round_workers.workers(self.options.workers);
+        let workers = with_room(board, self.round_workers.workers(self.options.workers));
         let setting = TurnSetting {
             rt,
             alloc: self.alloc,

@@ -18,6 +18,7 @@ mod ran;
 mod rest;
 mod site_runs;
 mod viewers;
+mod worker_room;
 
 pub use avoided::{run_avoid, run_avoid_kept};
 pub use board_runs::{Task, round};

@@ -43,10 +43,10 @@ fn text_of(word: &str) -> &'static str {
         "large" => {
             "p = newPhaser(); q = newPhaser(); r = newPhaser(); u = newTid(); w = newTid(); loop 4092 { t = newTid(); reg(t, p); reg(t, q); fork(t) { adv(q); adv(p); await(p); } } v = newTid(); loop 5 { adv(r); await(r); } adv(q); await(q); fork(u) { x = newPhaser(); } fork(w) { x = newPhaser(); } fork(v) { x = newPhaser(); }"
         }
-        // Task 0 waits for task 2, which passes each of 4,200 awaits at once and then arrives, and forks two more, one behind those that wait by its number. Task 2
-        // is the first of them after task 0, so that one worker lets both act, task 0 first.
+        // Task 0 waits for task 2, which passes each of 300 awaits at once and then arrives, and forks two more, one behind those that wait by its number. Task 2
+        // is the first of them after task 0, so that one worker lets both act, task 0 first. A decision loads the words of 4,007 tasks: they load 1.2 million.
         "decisions" => {
-            "q = newPhaser(); s = newPhaser(); u = newTid(); a = newTid(); reg(a, q); loop 4000 { t = newTid(); fork(t) { } } loop 3 { t = newTid(); reg(t, s); fork(t) { adv(s); await(s); } } v = newTid(); fork(a) { r = newPhaser(); loop 4200 { adv(r); await(r); } adv(q); } adv(q); await(q); fork(u) { x = newPhaser(); } fork(v) { x = newPhaser(); }"
+            "q = newPhaser(); s = newPhaser(); u = newTid(); a = newTid(); reg(a, q); loop 4000 { t = newTid(); fork(t) { } } loop 3 { t = newTid(); reg(t, s); fork(t) { adv(s); await(s); } } v = newTid(); fork(a) { r = newPhaser(); loop 300 { adv(r); await(r); } adv(q); } adv(q); await(q); fork(u) { x = newPhaser(); } fork(v) { x = newPhaser(); }"
         }
         // A child passes each of its awaits at once, and another one is behind it.
         "awaits" => {
