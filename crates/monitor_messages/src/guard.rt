@@ -4,7 +4,7 @@ ghost use Rattle.std.specs.List.{list_any};
 ghost use Rattle.monitor_laws.specs.Lines.{Announces, TraceLine as Line, Waits};
 ghost use Rattle.monitor_laws.specs.States.{TraceState, after_line};
 ghost use Rattle.monitor_reasons.specs.Found.{participant_at};
-ghost use Rattle.monitor_search.specs.Known.{AreStuckTasks, KeepsStuck};
+ghost use Rattle.monitor_search.specs.Known.{AreStuckAfter, AreStuckTasks, KeepsStuck};
 ghost use Rattle.monitor_words.specs.Messages.{IsWaitLine};
 ghost use Rattle.trace_lines.specs.Values.{line_value, place_value};
 ghost use Rattle.monitor_messages.specs.inside.Changes.{IsKnownBefore};
@@ -98,7 +98,7 @@ fn stand_back(
 
 // Those that are stuck now: those that were found, or else the same as before.
 fn stuck_now<'k>(found: &'k Option<StuckTasks>, was: &'k StuckTasks) -> &'k StuckTasks
-    ensures { (s after : TraceState) (l : Line) → IfNone found.now (KeepsStuck after l was.now) → IfSome found.now (λ known. AreStuckTasks after known) → IsKnownBefore s l was.now after → AreStuckTasks after result.now }
+    ensures { (s after : TraceState) (l : Line) → IfNone found.now (KeepsStuck after l was.now) → IfSome found.now (AreStuckAfter after l was.now) → IsKnownBefore s l was.now after → AreStuckTasks after result.now }
 {
     match found {
         None => was,

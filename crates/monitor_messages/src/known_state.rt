@@ -5,7 +5,7 @@ ghost use Rattle.monitor_laws.specs.Faults.{first_fault};
 ghost use Rattle.monitor_laws.specs.States.{TraceState, after_line, nobody_named};
 ghost use Rattle.monitor_laws.specs.Lawful.{IsLawfulState};
 ghost use Rattle.monitor_search.specs.calls.Ahead.{KeepsWhoeverIsStuck};
-ghost use Rattle.monitor_search.specs.Known.{AreStuckTasks, KeepsStuck, has_stuck_number};
+ghost use Rattle.monitor_search.specs.Known.{AreStuckAfter, AreStuckTasks, KeepsStuck, has_stuck_number};
 ghost use Rattle.monitor_words.specs.Messages.{asked_words, report_words};
 ghost use Rattle.monitor_words.specs.Stops.{TellsStuck};
 ghost use Rattle.trace_lines.specs.Values.{line_value};
@@ -53,7 +53,7 @@ pub(crate) fn told_by(
     found: Option<StuckTasks>,
 ) -> Result<(StuckTasks, bool), NoMemory>
     requires same { IfNone found (KeepsStuck state.now (line_value line.now) was) }
-    requires found { IfSome found (λ known. AreStuckTasks state.now known) }
+    requires found { IfSome found (AreStuckAfter state.now (line_value line.now) was) }
     ensures { IfOk result (λ r. (s : TraceState) → IsKnownBefore s (line_value line.now) was state.now → AreStuckTasks state.now r.0 × TellsChange s (line_value line.now) was state.now r.0 out.old.items out.new.items r.1) }
 {
     match found {

@@ -1,6 +1,6 @@
 -- Who is kept waiting, and who has a distance then.
-use Rattle.std.proofs.Common.{◌≡◌, ℕ, ◌<◌, ◌==◌, ◌&&◌, Bool, true, Some, None, Option, List, [], ◌∷◌, ◌++◌, length, set, refl, sym, ◌∙◌, ap, subst, inl, inr, ◌⊎◌, arith, eq-eqb, length-set, if◌then◌else◌}
-use Rattle.std.specs.Prelude.{Contains, bytes_eq, is_some, nat_lt}
+use Rattle.std.proofs.Common.{◌≡◌, ℕ, ◌<◌, ◌==◌, ◌&&◌, Bool, true, Some, None, List, [], ◌∷◌, ◌++◌, length, set, refl, sym, ◌∙◌, ap, subst, inl, inr, ◌⊎◌, arith, eq-eqb, length-set, if◌then◌else◌}
+use Rattle.std.specs.Prelude.{Contains, bytes_eq, nat_lt}
 use Rattle.std.specs.List.{list_any}
 use Rattle.std.proofs.lemmas.Bool.{and_from, and_parts, cases_Bool, cases_lt, cond-true, cond-false, eqb-true, or_cases, true≢false}
 use Rattle.std.proofs.lemmas.List.{get_or-set_same, get_or-set_other}
@@ -33,10 +33,6 @@ waits_if_kept w (OneOf names tasks) kept = absurd (true≢false (sym kept))
 
 pub kept_if_waits : (w : Participant) (c : Condition) (q : List ℕ) (n : ℕ) → c ≡ Waiting q n → has_phase_below w q n ≡ true → impedes_wait w (waited_for c) ≡ true
 kept_if_waits w c q n waits below = ap (λ x. impedes_wait w (waited_for x)) waits ∙ below
-
-pub some_below : (o : Option ℕ) (n : ℕ) → is_phase_below o n ≡ true → is_some o ≡ true
-some_below None n below = absurd (true≢false (sym below))
-some_below (Some m) n below = refl
 
 -- one place that is filled in
 module _ (old new : DistanceSearch) (d place : ℕ) (p : ℕ → Bool) (within : place < length old.distances.items) (unknown : distance_at old.distances.items place ≡ None) (passes : p place ≡ true)

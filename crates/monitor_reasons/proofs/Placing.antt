@@ -1,8 +1,7 @@
 -- Places that are added under a name or a number.
-use Rattle.std.proofs.Common.{◌≡◌, ℕ, ◌+◌, ◌<◌, Bool, true, false, Some, List, [], ◌∷◌, ◌++◌, length, get_or, take, sym, ◌∙◌, ap, subst, ◌⊎◌, inl, inr, arith}
-use Rattle.std.specs.Prelude.{Contains, bytes_eq, is_some}
-use Rattle.std.specs.Map.{lookup}
-use Rattle.std.proofs.lemmas.Bool.{cases_Bool, cases_lt, cond-true, cond-false}
+use Rattle.std.proofs.Common.{◌≡◌, ℕ, ◌+◌, ◌<◌, Bool, true, false, List, [], ◌∷◌, ◌++◌, length, get_or, take, sym, ◌∙◌, ap, subst, ◌⊎◌, inl, inr, arith}
+use Rattle.std.specs.Prelude.{Contains}
+use Rattle.std.proofs.lemmas.Bool.{cases_Bool, cases_lt}
 use Rattle.std.proofs.lemmas.List.{take_more}
 use Rattle.std.proofs.lemmas.List.Elements.{Contains-append_cases, Contains-append_left, Contains-append_right}
 use Rattle.armus_base.proofs.Elements.{Contains-cons_cases, Contains-head, nothing_in_nil}
@@ -22,27 +21,13 @@ module _ {K : Type 0} (eq : K → K → Bool) (decides : (a b : K) → eq a b �
   now_added q same =
       subst (λ x. Contains (g x) place) (sym (decides q key same)) (subst (λ l. Contains l place) (sym own) (Contains-append_right (f key) (place ∷ []) place (Contains-head place [])))
 
-some_behind : (ms : List (List ℕ × ℕ)) (m : List ℕ × ℕ) (q : List ℕ) → is_some (lookup (bytes_eq q) (ms ++ m ∷ [])) ≡ true → (is_some (lookup (bytes_eq q) ms) ≡ true) ⊎ (bytes_eq q m.0 ≡ true)
-some_behind [] m q some = elim (cases_Bool (bytes_eq q m.0)) [
-  | inl on ↦ inr on
-  | inr off ↦ absurd (let e = ap is_some (cond-false (bytes_eq q m.0) (Some m.1) (lookup (bytes_eq q) []) off) in cc)
-]
-some_behind (k ∷ ms) m q some = by_test (some_behind ms m q) (cases_Bool (bytes_eq q k.0))
-  where
-    by_test : (is_some (lookup (bytes_eq q) (ms ++ m ∷ [])) ≡ true → (is_some (lookup (bytes_eq q) ms) ≡ true) ⊎ (bytes_eq q m.0 ≡ true)) → ((bytes_eq q k.0 ≡ true) ⊎ (bytes_eq q k.0 ≡ false)) →
-        (is_some (lookup (bytes_eq q) (k ∷ ms)) ≡ true) ⊎ (bytes_eq q m.0 ≡ true)
-    by_test rest (inl on) = inl (ap is_some (cond-true (bytes_eq q k.0) (Some k.1) (lookup (bytes_eq q) ms) on))
-    by_test rest (inr off) =
-        elim (rest (sym (ap is_some (cond-false (bytes_eq q k.0) (Some k.1) (lookup (bytes_eq q) (ms ++ m ∷ [])) off)) ∙ some)) [
-          | inl before ↦ inl (ap is_some (cond-false (bytes_eq q k.0) (Some k.1) (lookup (bytes_eq q) ms) off) ∙ before)
-          | inr here ↦ inr here
-        ]
-
--- whoever is a member of one of the first phasers and one more
-pub some_more : (ms : List (List ℕ × ℕ)) (i : ℕ) (m : List ℕ × ℕ) (q : List ℕ) → i < length ms → m ≡ get_or ms i m → is_some (lookup (bytes_eq q) (take (i + 1) ms)) ≡ true →
-    (is_some (lookup (bytes_eq q) (take i ms)) ≡ true) ⊎ (bytes_eq q m.0 ≡ true)
-some_more ms i m q within is some =
-    some_behind (take i ms) m q (sym (ap (λ l. is_some (lookup (bytes_eq q) l)) (take_more ms i m within ∙ ap (λ x. take i ms ++ x ∷ []) (sym is))) ∙ some)
+-- one more of some
+pub one_more_of : {A : Type 0} (xs : List A) (i : ℕ) (x y : A) → i < length xs → x ≡ get_or xs i x → Contains (take (i + 1) xs) y → Contains (take i xs) y ⊎ (x ≡ y)
+one_more_of xs i x y within is there =
+    elim (Contains-append_cases (take i xs) (x ∷ []) y (subst (λ l. Contains l y) (take_more xs i x within ∙ ap (λ z. take i xs ++ z ∷ []) (sym is)) there)) [
+      | inl before ↦ inl before
+      | inr last ↦ elim (Contains-cons_cases x [] y last) [ inl here ↦ inr here | inr none ↦ absurd (nothing_in_nil y none) ]
+    ]
 
 -- one of those below the next number is below this one, or is it
 pub below_next : (i n : ℕ) → i < n + 1 → (i < n) ⊎ (i ≡ n)

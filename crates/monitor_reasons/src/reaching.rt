@@ -16,7 +16,7 @@ use crate::phaser_places::PhaserPlaces;
 use crate::stopping::{keeps_waiting, stands_for};
 use armus_base::NoMemory;
 use monitor_search::StuckTasks;
-use monitor_state::ListedParticipant;
+use monitor_state::{ListedParticipant, PhaserMembership};
 use std::collections::HashMap;
 
 /// How far tasks are, as far as that is known.
@@ -135,7 +135,7 @@ fn reach_above<'a>(
 }
 
 // Those who wait at phaser p get the distance d whom w keeps waiting.
-fn reach_on<'a>(
+fn reach_at<'a>(
     search: &mut DistanceSearch<'a>,
     places: &PhaserPlaces,
     list: &[ListedParticipant],
@@ -163,6 +163,29 @@ fn reach_on<'a>(
     }
 }
 
+// Those who wait at the phaser of a membership get the distance d whom w keeps waiting, where its phase there is not above that of the membership.
+fn reach_on<'a>(
+    search: &mut DistanceSearch<'a>,
+    places: &PhaserPlaces,
+    list: &[ListedParticipant],
+    w: &ListedParticipant,
+    membership: &'a PhaserMembership,
+    d: usize,
+) -> Result<(), NoMemory>
+    requires long { length search.old.distances.items ≡ length list.now }
+    requires waiting { HaveWaitingPlaces list.now (places_named places.now.waiting) }
+    requires passed { HavePassedDistances list.now search.old }
+    ensures fills { OnOk result (IsFilling search.old search.new d (λ t. keeps_waiting w.now (participant_at list.now t))) }
+    ensures reached { OnOk result ((t : ℕ) (n : ℕ) → t < length list.now → (participant_at list.now t).condition ≡ Waiting membership.now.0 n → has_phase_below w.now membership.now.0 n ≡ true → membership.now.1 < n → HasDistance search.new t) }
+    ensures passed { OnOk result (HavePassedDistances list.now search.new) }
+{
+    if is_passed(search, membership.phaser(), membership.phase()) {
+        return Ok(());
+    }
+    reach_at(search, places, list, w, membership.phaser(), d)?;
+    Ok(())
+}
+
 // All get the distance d whom w keeps waiting.
 fn reach_by<'a>(
     search: &mut DistanceSearch<'a>,
@@ -179,7 +202,7 @@ fn reach_by<'a>(
     ensures passed { OnOk result (HavePassedDistances list.now search.new) }
 {
     for membership in w.memberships().as_slice() {
-        reach_on(search, places, list, w, membership.phaser(), d)?;
+        reach_on(search, places, list, w, membership, d)?;
     }
     Ok(())
 }

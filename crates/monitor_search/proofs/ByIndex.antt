@@ -22,7 +22,7 @@ found_later : (q : List ℕ) (m : List ℕ × ℕ) (ms : List (List ℕ × ℕ))
 found_later q m ms other = cond-false (bytes_eq q m.0) (Some m.1) (lookup (bytes_eq q) ms) other
 
 -- a phase that is looked up is one of the phases
-phase_is_one : (phases : List (List ℕ × ℕ)) (q : List ℕ) (n : ℕ) → is_phase_below (lookup (bytes_eq q) phases) n ≡ true → (m : List ℕ × ℕ) × Contains phases m × (bytes_eq q m.0 ≡ true) × (nat_lt m.1 n ≡ true)
+pub phase_is_one : (phases : List (List ℕ × ℕ)) (q : List ℕ) (n : ℕ) → is_phase_below (lookup (bytes_eq q) phases) n ≡ true → (m : List ℕ × ℕ) × Contains phases m × (bytes_eq q m.0 ≡ true) × (nat_lt m.1 n ≡ true)
 phase_is_one [] q n below = absurd (cc)
 phase_is_one (m ∷ ms) q n below = by_test (phase_is_one ms q n) (cases_Bool (bytes_eq q m.0))
   where

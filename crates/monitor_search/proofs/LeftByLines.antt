@@ -1,4 +1,4 @@
--- Lines by which nobody becomes stuck and nobody is stuck no longer.
+-- Lines by which nobody becomes stuck and nobody is stuck no longer, and those by which one task becomes stuck alone.
 use Rattle.std.proofs.Common.{◌≡◌, ◌==◌, ℕ, Bool, true, false, ◌||◌, not, Option, List, [], ◌∷◌, length, map, refl, sym, ◌∙◌, ap, subst, ◌⊎◌, inl, inr, arith}
 use Rattle.std.specs.Prelude.{Contains, filter, is_some}
 use Rattle.std.specs.List.{list_any}
@@ -11,12 +11,14 @@ use Rattle.monitor_laws.proofs.Filters.{any_from, any_is}
 use Rattle.monitor_laws.proofs.Lawful.{IsLawfulState, announced_name, announced_number, lawful_after, placed_condition, placed_name, placed_number}
 use Rattle.monitor_search.proofs.QuietEnds.{quietly_ended}
 use Rattle.monitor_laws.proofs.Rows.{both_tables, has_no_fault, is_task, is_wildcard, no_row, no_task_row, task_or_wildcard}
-use Rattle.monitor_search.specs.Known.{AreStuckTasks, KeepsStuck, has_stuck_number, known_task}
+use Rattle.monitor_search.specs.Known.{AreStuckAfter, AreStuckTasks, KeepsStuck, has_stuck_number, known_task}
+use Rattle.monitor_search.specs.inside.Joining.{JoinsAlone, JoinsAloneBy, known_with}
 use Rattle.monitor_search.specs.inside.Keeping.{LeavesStuck, LeavesStuckBy, StaysOut}
 use Rattle.monitor_search.specs.inside.Leaving.{HasNoPhase, is_for_any, is_freed, ends_quietly, is_nobody, is_surely_out, runs_beside, runs_now}
-use Rattle.monitor_search.specs.inside.Waits.{waits_unneeded}
+use Rattle.monitor_search.specs.inside.Waits.{is_inside_below, needs_other, waits_inside, waits_unneeded}
 use Rattle.monitor_search.proofs.Carried.{AsksFor, IsApart, IsCarried, NoneAsks, apart_idle, apart_outside, still_stuck}
 use Rattle.monitor_search.proofs.OneChanged.{WasThere, had_number, new_number, one_there, others_are, others_were, same_number, same_passed, was_there}
+use Rattle.monitor_search.proofs.OneMore.{one_more}
 use Rattle.monitor_search.proofs.SurelyOut.{freed_out, runs_is, surely_out}
 use Rattle.monitor_search.proofs.Unneeded.{IsBeside, unneeded_out}
 
@@ -378,6 +380,54 @@ module _ (s : TraceState) (lawful : IsLawfulState s) (t : List ℕ) (what : Anno
           (inl (wild_onward s lawful t change number lawful_too known is u within there new outside wild same (surely wild)))
           (wild_back s lawful t change number lawful_too known is u within there new outside wild same (surely wild))
 
+  announced_joins : IsLawfulState later → (known : List (ℕ × List ℕ)) → AreStuckTasks s known → (u : Participant) → Contains later.list u → is_there_as t u ≡ true →
+      JoinsAlone later.list known u → AreStuckTasks later (known_with later.list known u.number)
+  announced_joins lawful_too known is u within there joins = by_condition u.condition refl joins.waits
+    where
+      was : WasThere s lawful t change number u
+      was = was_there s lawful t change number u within there
+
+      beside : IsBeside s later u
+      beside =
+          record {
+            within = within;
+            only = λ x listed same. lawful_too.one_number x u listed within same;
+            back = others_were s lawful t change number u was;
+            onward = others_are s lawful t change number u was;
+          }
+
+      not_known : (x : Participant) → IsStuck s x → x.number ≡ u.number → ⊥
+      not_known x stuck same =
+          absurd (let on = (is.tells x.number).1 (x, stuck, refl) in let e = ap (has_stuck_number known) same in let off = joins.new in cc)
+
+      -- it lived, and stood in no closed set
+      out : is_live_task u.condition ≡ true → (set : ℕ → Bool) → IsClosedSet s set → (x : Participant) → Contains s.list x → x.number ≡ u.number → set x.number ≡ true → ⊥
+      out live set closed x listed same inside = by_old x.condition refl lived
+        where
+          is_was : x ≡ was.was
+          is_was = had_number s lawful t change number u was x listed same
+
+          lived : is_live_task x.condition ≡ true
+          lived =
+              ap (λ (y : Participant). is_live_task y.condition) is_was
+              ∙ task_was was.was (subst (Contains s.list) is_was listed) was.there (subst (λ (y : Participant). is_live_task y.condition ≡ true) (sym was.is) live)
+
+          by_old : (c : Condition) → x.condition ≡ c → is_live_task c ≡ true → ⊥
+          by_old Running waits alive = subst (IsKeptIn s set) waits (closed x listed inside)
+          by_old (Waiting q m) waits alive = not_known x (record { listed = listed; waits = (q, m, waits); set = set; closed = closed; inside = inside }) same
+          by_old Ended waits alive = absurd (cc)
+          by_old AnyTask waits alive = absurd (cc)
+          by_old (OneOf names tasks) waits alive = absurd (cc)
+
+      by_condition : (c : Condition) → u.condition ≡ c → waits_inside later.list known u c ≡ true → AreStuckTasks later (known_with later.list known u.number)
+      by_condition Running same on = absurd (cc)
+      by_condition (Waiting p n) same on =
+          let parts = and_parts (list_any (is_inside_below later.list known u.number p n) later.list) (not (list_any (needs_other later.list known u) later.list)) on in
+          one_more s later u beside known is lawful (out (ap is_live_task same)) p n same joins.new parts.0 (from_not (list_any (needs_other later.list known u) later.list) parts.1)
+      by_condition Ended same on = absurd (cc)
+      by_condition AnyTask same on = absurd (cc)
+      by_condition (OneOf names tasks) same on = absurd (cc)
+
 -- after a line that says who may play a wildcard
 module _ (s : TraceState) (lawful : IsLawfulState s) (w : List ℕ) (c : Condition) (wild : is_live_wildcard c ≡ true) (none : is_task_in s w ≡ false) where
   played : Participant → Participant
@@ -432,3 +482,12 @@ one_of_keeps state w names known (u, within, there, short) s lawful same legal i
     subst (λ a. AreStuckTasks a known) (sym same)
     (played_leaves s lawful w (OneOf names (task_numbers s names)) refl (no_row (is_task_in s w) (NamesTask w) (no_task_row s w names legal))
     (lawful_after s (PlaysOneOf w names) lawful) known is u (subst (λ (a : TraceState). Contains a.list u) same within) there short)
+
+pub announces_joins : (state : TraceState) (t : List ℕ) (what : Announcement) (place : Option (List ℕ)) (known more : List (ℕ × List ℕ)) →
+    JoinsAloneBy state.list known t more → AreStuckAfter state (Announces t what place) known more
+unfolding change
+announces_joins state t what place known more (u, within, there, joins, is_more) s lawful same legal is =
+    subst (AreStuckTasks state) (sym is_more)
+    (subst (λ (a : TraceState). AreStuckTasks a (known_with a.list known u.number)) (sym same)
+    (announced_joins s lawful t what place legal (lawful_after s (Announces t what place) lawful) known is u
+    (subst (λ (a : TraceState). Contains a.list u) same within) there (subst (λ (a : TraceState). JoinsAlone a.list known u) same joins)))

@@ -9,6 +9,7 @@ pub mod LeftByLines
 pub mod NoWildcards
 pub mod NumberSearch
 pub mod OneChanged
+pub mod OneMore
 pub mod Parted
 pub mod QuietEnds
 pub mod References

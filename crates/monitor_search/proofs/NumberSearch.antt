@@ -61,6 +61,14 @@ lower_before (y ∷ ys) (suc i) r up within is x before = elim (Contains-cons_ca
   | inr there ↦ lower_before ys i r up.1 (omega arith) is x there
 ]
 
+pub lower_in_front : (us : List Participant) (i : ℕ) (u : Participant) → AreAscending us → i < length us → u ≡ get_or us i u → (x : Participant) → Contains (take i us) x → x.number < u.number
+lower_in_front [] i u up within is x before = absurd (omega arith)
+lower_in_front (y ∷ ys) zero u up within is x before = absurd (nothing_in_nil x before)
+lower_in_front (y ∷ ys) (suc i) u up within is x before = elim (Contains-cons_cases y (take i ys) x before) [
+  | inl here ↦ (let less = up.0 u (i, omega arith, sym is) in let e = ap (λ (v : Participant). v.number) here in omega arith)
+  | inr there ↦ lower_in_front ys i u up.1 (omega arith) is x there
+]
+
 -- of tasks that are known the numbers
 pub known_below : (us : List Participant) (number : ℕ) → ((u : Participant) → Contains us u → u.number < number) → (x : ℕ × List ℕ) → Contains (map known_task us) x → x.0 ≤ number
 known_below us number below x within =

@@ -43,10 +43,10 @@ pub record IsBeside (s after : TraceState) (u : Participant) : Type 0 where
 
 module _ (s after : TraceState) (u : Participant) (beside : IsBeside s after u) (known : List (ℕ × List ℕ)) (is : AreStuckTasks s known) where
   -- who stood in a closed set
-  abbrev greatest : ℕ → Bool
+  abbrev pub greatest : ℕ → Bool
   greatest = (stuck_is_known s).0
 
-  abbrev is_greatest : IsGreatestClosedSet s greatest
+  abbrev pub is_greatest : IsGreatestClosedSet s greatest
   is_greatest = (stuck_is_known s).1
 
   pub known_was_inside : (j : ℕ) → has_stuck_number known j ≡ true → greatest j ≡ true
@@ -107,7 +107,7 @@ module _ (s after : TraceState) (u : Participant) (beside : IsBeside s after u) 
 
   -- nobody else needs u
   module _ (unneeded : list_any (needs_other after.list known u) after.list ≡ false) (set : ℕ → Bool) (closed : IsClosedSet after set) where
-    needs_not : (x : Participant) → Contains after.list x → (x.number ≡ u.number → ⊥) → needs_in after.list known u x.number x.condition ≡ false
+    pub needs_not : (x : Participant) → Contains after.list x → (x.number ≡ u.number → ⊥) → needs_in after.list known u x.number x.condition ≡ false
     needs_not x listed other =
         not_other (not (x.number == u.number)) (needs_in after.list known u x.number x.condition) (none_passes (needs_other after.list known u) after.list x listed unneeded)
         (not_from_false (x.number == u.number) (elim (cases_Bool (x.number == u.number)) [ inl same ↦ absurd (other (eqb-true x.number u.number same)) | inr apart ↦ apart ]))
@@ -146,7 +146,7 @@ module _ (s after : TraceState) (u : Participant) (beside : IsBeside s after u) 
               in_without_own set y.number (all y (beside.onward y in_y differs) live in_tasks) differs)
         ]
 
-    set_closed : IsClosedSet s (without_own set)
+    pub set_closed : IsClosedSet s (without_own set)
     set_closed = without_own_closed set each_kept
 
     -- who was outside is in no closed set that has all its players but u

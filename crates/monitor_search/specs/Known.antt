@@ -24,7 +24,11 @@ pub record AreStuckTasks (s : TraceState) (known : List (ℕ × List ℕ)) : Typ
 abbrev pub OneKnown : Type 0
 OneKnown = (s : TraceState) (known more : List (ℕ × List ℕ)) → AreStuckTasks s known → AreStuckTasks s more → known ≡ more
 
+-- after this line, which is legal, just these are stuck, where those were in the state before it
+abbrev pub AreStuckAfter : TraceState → TraceLine → (was known : List (ℕ × List ℕ)) → Type 0
+AreStuckAfter after l was known =
+    (s : TraceState) → IsLawfulState s → after ≡ after_line s l → faults_of s l ≡ [] → AreStuckTasks s was → AreStuckTasks after known
+
 -- after this line, which is legal, the same are stuck as in the state before it
 abbrev pub KeepsStuck : TraceState → TraceLine → List (ℕ × List ℕ) → Type 0
-KeepsStuck after l known =
-    (s : TraceState) → IsLawfulState s → after ≡ after_line s l → faults_of s l ≡ [] → AreStuckTasks s known → AreStuckTasks after known
+KeepsStuck after l known = AreStuckAfter after l known known

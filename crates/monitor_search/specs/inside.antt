@@ -1,4 +1,5 @@
 pub mod Cascades
+pub mod Joining
 pub mod Keeping
 pub mod LeastPhases
 pub mod Leaving

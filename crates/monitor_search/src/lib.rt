@@ -6,6 +6,7 @@
 mod ahead;
 mod cascade;
 mod grouping;
+mod joining;
 mod known_tasks;
 mod laws;
 mod leaving;

@@ -3,9 +3,10 @@ ghost use Rattle.std.specs.Prelude.{◌≡◌, IfNone, IfOk, IfSome};
 ghost use Rattle.std.specs.List.{list_any};
 ghost use Rattle.monitor_laws.specs.Faults.{waits_now};
 ghost use Rattle.trace_lines.specs.Values.{line_value};
-ghost use Rattle.monitor_search.specs.Known.{AreStuckTasks, KeepsStuck};
+ghost use Rattle.monitor_search.specs.Known.{AreStuckAfter, AreStuckTasks, KeepsStuck};
 
 use crate::StuckTasks;
+use crate::joining::stuck_with_one;
 use crate::leaving::keeps_stuck;
 use crate::parting::{closed_parting, waiting_of};
 use armus_base::NoMemory;
@@ -40,11 +41,14 @@ pub fn stuck_after(
     was: &StuckTasks,
 ) -> Result<Option<StuckTasks>, NoMemory>
     ensures same { IfOk result (λ found. IfNone found (KeepsStuck state.now (line_value line.now) was.now)) }
-    ensures found { IfOk result (λ found. IfSome found (λ known. AreStuckTasks state.now known)) }
+    ensures found { IfOk result (λ found. IfSome found (AreStuckAfter state.now (line_value line.now) was.now)) }
     ensures differs { IfOk result (λ found. IfSome found (λ known. known ≡ was.now → ⊥)) }
 {
     if keeps_stuck(state, line, was) {
         return Ok(None);
+    }
+    if let Some(known) = stuck_with_one(alloc, state, line, was)? {
+        return Ok(Some(known));
     }
     let known = stuck_tasks(alloc, state)?;
     if known.is_same(was) {

@@ -1,9 +1,9 @@
-// A wait by which its task does not come into a closed set.
+// A wait by which its task does not come into a closed set, or comes into one alone.
 ghost use Rattle.std.specs.Prelude.{◌≡◌, ◌&&◌, ◌==◌, false};
 ghost use Rattle.std.specs.List.{list_any};
 ghost use Rattle.monitor_state.specs.Values.{condition_value};
 ghost use Rattle.monitor_search.specs.inside.Leaving.{passes_below, passes_numbered};
-ghost use Rattle.monitor_search.specs.inside.Waits.{NobodyAwaits, is_inside_below, is_unstuck, is_unstuck_of, may_stand_inside, needs_in, needs_other, waits_unneeded, was_outside};
+ghost use Rattle.monitor_search.specs.inside.Waits.{NobodyAwaits, is_inside_below, is_unstuck, is_unstuck_of, may_stand_inside, needs_in, needs_other, waits_inside, waits_unneeded, was_outside};
 
 use crate::StuckTasks;
 use crate::leaving::{somebody_runs, somebody_runs_of};
@@ -166,6 +166,21 @@ pub(crate) fn waits_unneeded(state: &MonitorState, was: &StuckTasks, u: &ListedP
     match u.condition() {
         ListedCondition::Waiting(p, n) => {
             !some_inside_below(state, was, u.number(), p, *n) && !is_needed(state, was, u)
+        }
+        ListedCondition::Running
+        | ListedCondition::Ended
+        | ListedCondition::AnyTask
+        | ListedCondition::OneOf(_, _) => false,
+    }
+}
+
+/// Whether u waits for somebody who may have stood in a closed set, or for itself, and nobody else needs it.
+pub(crate) fn waits_inside(state: &MonitorState, was: &StuckTasks, u: &ListedParticipant) -> bool
+    ensures { result ≡ waits_inside state.now.list was.now u.now u.now.condition }
+{
+    match u.condition() {
+        ListedCondition::Waiting(p, n) => {
+            some_inside_below(state, was, u.number(), p, *n) && !is_needed(state, was, u)
         }
         ListedCondition::Running
         | ListedCondition::Ended

@@ -1,4 +1,4 @@
--- A wait by which its task does not come into a closed set.
+-- A wait by which its task does not come into a closed set, or comes into one alone.
 use Rattle.std.specs.Prelude.{◌≡◌, ℕ, Bool, true, false, not, ◌&&◌, ◌||◌, ◌==◌, List, Contains}
 use Rattle.std.specs.List.{list_any}
 use Rattle.monitor_laws.specs.States.{Condition, Running, Waiting, Ended, AnyTask, OneOf, Participant, is_live_task}
@@ -54,3 +54,11 @@ waits_unneeded list known u (Waiting p n) = not (list_any (is_inside_below list 
 waits_unneeded list known u Ended = false
 waits_unneeded list known u AnyTask = false
 waits_unneeded list known u (OneOf names tasks) = false
+
+-- u, in this condition, waits for somebody who may have stood in a closed set, or for itself, and nobody else needs it
+abbrev pub waits_inside : List Participant → List (ℕ × List ℕ) → Participant → Condition → Bool
+waits_inside list known u Running = false
+waits_inside list known u (Waiting p n) = list_any (is_inside_below list known u.number p n) list && not (list_any (needs_other list known u) list)
+waits_inside list known u Ended = false
+waits_inside list known u AnyTask = false
+waits_inside list known u (OneOf names tasks) = false

@@ -1,17 +1,14 @@
-use Rattle.std.proofs.Common.{◌<◌, ◌∙◌, ap}
-use Rattle.std.proofs.lemmas.Bool.{ltb-true}
-use Rattle.monitor_laws.specs.Stuck.{is_phase_below}
-use Rattle.monitor_words.specs.Stops.{keeps_waiting}
-use Rattle.monitor_reasons.specs.Found.{participant_at}
-use Rattle.monitor_reasons.proofs.Filling.{fills_same}
+use Rattle.std.proofs.Common.{◌<◌, sym, ◌∙◌, ap, subst}
+use Rattle.monitor_laws.specs.States.{Waiting}
+use Rattle.monitor_laws.specs.Stuck.{has_phase_below}
 use Rattle.monitor_reasons.proofs.reaching.reach_on.Goals as goal
 
 pub returns-then-is_passed-clause-reached : goal.returns-then-is_passed-clause-reached
-returns-then-is_passed-clause-reached c = λ t n within waits below.
-    let above : c.in-Some.m < n = ltb-true c.in-Some.m n (ap (λ o. is_phase_below o n) c.in-Some.ensures ∙ below) in
-    c.requires.passed t c.args.p.now n within waits (c.is_passed.ensures c.if-is_passed.true n above)
+returns-then-is_passed-clause-reached c = λ t n within waits below less.
+    c.requires.passed t c.phaser.result.now n within (waits ∙ ap (λ x. Waiting x n) (sym c.phaser.ensures))
+    (c.is_passed.ensures c.if-is_passed.true n (subst (λ m. m < n) (sym c.phase.ensures) less))
 
-pub returns-in_ok-pass-in-Some-clause-fills : goal.returns-in_ok-pass-in-Some-clause-fills
-returns-in_ok-pass-in-Some-clause-fills c =
-    fills_same c.args.search.now c.reach_above.new.search c.pass.new.search c.args.d (λ t. keeps_waiting c.args.w.now (participant_at c.args.list.now t)) c.in_ok-reach_above-in-Some.ensures.fills
-    c.in_ok-pass-in-Some.ensures.distances c.in_ok-pass-in-Some.ensures.fresh
+pub returns-clause-reached : goal.returns-clause-reached
+returns-clause-reached c = λ t n within waits below less.
+    let same = sym c.phaser-2.ensures in
+    c.in_ok-reach_at.ensures.reached t n within (waits ∙ ap (λ x. Waiting x n) same) (ap (λ x. has_phase_below c.args.w.now x n) (sym same) ∙ below)
