@@ -74,8 +74,8 @@ fn put_end(
 {
     match verdict {
         WaitVerdict::Nobody => put_notes(facts, text, out),
-        WaitVerdict::Circle(_) => put_hint(facts, out, world, verdict),
-        WaitVerdict::Chain(_, _) => put_hint(facts, out, world, verdict),
+        WaitVerdict::Circle(_) => put_hint(facts, text.account, out, world, verdict),
+        WaitVerdict::Chain(_, _) => put_hint(facts, text.account, out, world, verdict),
     }
 }
 
