@@ -1,9 +1,9 @@
 -- What is written of a text consists of characters that are shown, and a text that does is written as it is.
-use Rattle.std.proofs.Common.{◌≡◌, ◌-◌, ◌∙◌, ◌≤◌, ◌<◌, ◌+◌, ◌&&◌, ◌||◌, ℕ, suc, zero, Bool, true, false, List, [], ◌∷◌, ◌++◌, Option, Some, None, if◌then◌else◌, append-nil, append_assoc, arith, ap, cond, drop, get_or, length, lt-ltb, ltb-true, map, nat_lt, refl, slice_get, subst, sym, take, take_all}
+use Rattle.std.proofs.Common.{◌≡◌, ◌-◌, ◌∙◌, ◌≤◌, ◌<◌, ◌+◌, ◌&&◌, ◌||◌, ℕ, suc, zero, Bool, true, false, [], ◌∷◌, ◌++◌, Option, Some, None, if◌then◌else◌, append-nil, append_assoc, arith, ap, cond, drop, get_or, length, lt-ltb, ltb-true, map, nat_lt, refl, slice_get, subst, sym, take, take_all}
 use Rattle.std.specs.Str.{continuation_len}
 use Rattle.std.proofs.lemmas.List.{drop_more, length-drop, nil_from_length}
 use Rattle.program_io.specs.Texts.{Text}
-use Rattle.explain.specs.Legible.{IsCharacter, IsLegible, LegibleIsWritten, LegibleStays, begins_character, character, is_continued, is_further, is_second, legible, legible_behind, may_begin, nothing, told_name}
+use Rattle.explain.specs.Legible.{IsLegible, LegibleIsWritten, LegibleStays, begins_character, character, is_continued, is_further, is_second, legible, legible_behind, may_begin, nothing, told_name}
 use Rattle.explain.specs.inside.LegibleBytes.{behind_byte, legible_byte, told_byte}
 
 -- ---- the bytes of one character

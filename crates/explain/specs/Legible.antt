@@ -1,5 +1,5 @@
 -- What is written of an output: characters that a terminal shows, tabs and ends of lines, and `?` for each other byte.
-use Rattle.std.specs.Prelude.{◌≡◌, ℕ, suc, zero, ◌==◌, ◌&&◌, ◌||◌, Bool, true, false, List, [], ◌∷◌, Option, Some, None, ◌++◌, if◌then◌else◌, length, map, nat_lt, slice_get}
+use Rattle.std.specs.Prelude.{◌≡◌, ℕ, suc, zero, ◌==◌, ◌&&◌, ◌||◌, Bool, true, false, [], ◌∷◌, Option, Some, None, ◌++◌, if◌then◌else◌, length, map, nat_lt, slice_get}
 use Rattle.std.specs.Int.{is_in_range}
 use Rattle.std.specs.Str.{continuation_len}
 use Rattle.std.specs.Str.Lossy.{second_byte_max, second_byte_min}
