@@ -39,15 +39,15 @@ at_most_three_in false form text status lines (inr (three, refused)) = omega (ar
 
 -- a whole output has a status of 3 at most
 at_most_three : (asked : Asked) (src : Passage) (status : ℕ) (lines : Text) → MayWrite asked src status lines → status ≤ 3
-at_most_three (explanation form) src status lines (inl (text, has, is)) = at_most_three_told (is_of_clocks form.file text) form text status lines is
+at_most_three (explanation form) src status lines (inl (text, has, (whole, is, written))) = at_most_three_told (is_of_clocks form.file text) form text status whole is
 at_most_three (explanation form) src status lines (inr (much, three, line)) = omega (arith, three)
-at_most_three (steps form) src status lines (inl (text, has, is)) = at_most_three_in (is_of_clocks form.file text) form text status lines is
+at_most_three (steps form) src status lines (inl (text, has, (whole, is, written))) = at_most_three_in (is_of_clocks form.file text) form text status whole is
 at_most_three (steps form) src status lines (inr (much, three, line)) = omega (arith, three)
-at_most_three (avoided form) src status lines (inl (text, has, inl is)) = small is.stays status is.status_is
-at_most_three (avoided form) src status lines (inl (text, has, inr (three, refused))) = omega (arith, three)
+at_most_three (avoided form) src status lines (inl (text, has, (whole, inl is, written))) = small is.stays status is.status_is
+at_most_three (avoided form) src status lines (inl (text, has, (whole, inr (three, refused), written))) = omega (arith, three)
 at_most_three (avoided form) src status lines (inr (much, three, line)) = omega (arith, three)
-at_most_three (clocks form) src status lines (inl (text, has, inl is)) = small is.waits status is.status_is
-at_most_three (clocks form) src status lines (inl (text, has, inr (three, refused))) = omega (arith, three)
+at_most_three (clocks form) src status lines (inl (text, has, (whole, inl is, written))) = small is.waits status is.status_is
+at_most_three (clocks form) src status lines (inl (text, has, (whole, inr (three, refused), written))) = omega (arith, three)
 at_most_three (clocks form) src status lines (inr (much, three, line)) = omega (arith, three)
 at_most_three help src status lines is = (let zero = is.0 in omega (arith, zero))
 at_most_three version src status lines is = (let zero = is.0 in omega (arith, zero))

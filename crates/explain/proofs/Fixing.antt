@@ -110,9 +110,9 @@ status_in false form text number lines is = status_of_steps form text number lin
 module _ (src : Passage) where
   -- a text that is answered with a status fixes this
   text_fixed : (form : Form) (Answers : Text → ℕ → Text → Type 0) (IsStatus : Text → ℕ → Type 0) (number : ℕ) (lines : Text)
-      → ((text : Text) → Answers text number lines → IsStatus text number) → MayAnswer form Answers src number lines → FixesTextStatus IsStatus src number
-  text_fixed form Answers IsStatus number lines tells (inl (read, has, is)) = (
-    λ text offers. subst (λ (t : Text). IsStatus t number) (sym (same_input (Some MAX_TEXT_BYTES) src text read offers has)) (tells read is),
+      → ((text all : Text) → Answers text number all → IsStatus text number) → MayAnswer form Answers src number lines → FixesTextStatus IsStatus src number
+  text_fixed form Answers IsStatus number lines tells (inl (read, has, (all, is, written))) = (
+    λ text offers. subst (λ (t : Text). IsStatus t number) (sym (same_input (Some MAX_TEXT_BYTES) src text read offers has)) (tells read all is),
     λ more. absurd (not_long (Some MAX_TEXT_BYTES) src read more has),
   )
   text_fixed form Answers IsStatus number lines tells (inr (much, three, line)) = (
@@ -123,14 +123,14 @@ module _ (src : Passage) where
   fixed : (asked : Asked) (number : ℕ) (lines : Text) → MayWrite asked src number lines → FixesStatus asked src number
   fixed (explanation form) number lines may =
       text_fixed form (AnswersEither form) (λ text. IsStatusIn (is_of_clocks form.file text) text) number lines
-      (λ text is. explained_in (is_of_clocks form.file text) form text number lines is) may
+      (λ text all is. explained_in (is_of_clocks form.file text) form text number all is) may
   fixed (steps form) number lines may =
       text_fixed form (AnswersStepsOf form) (λ text. IsStatusIn (is_of_clocks form.file text) text) number lines
-      (λ text is. status_in (is_of_clocks form.file text) form text number lines is) may
+      (λ text all is. status_in (is_of_clocks form.file text) form text number all is) may
   fixed (avoided form) number lines may =
-      text_fixed form (AnswersAvoided form) IsAvoidedStatusOf number lines (λ text is. status_of_avoided form text number lines is) may
+      text_fixed form (AnswersAvoided form) IsAvoidedStatusOf number lines (λ text all is. status_of_avoided form text number all is) may
   fixed (clocks form) number lines may =
-      text_fixed form (AnswersClock form) IsClockStatusOf number lines (λ text is. status_of_clocks form text number lines is) may
+      text_fixed form (AnswersClock form) IsClockStatusOf number lines (λ text all is. status_of_clocks form text number all is) may
   fixed help number lines is = is.0
   fixed version number lines is = is.0
   fixed nothing number lines is = is.0

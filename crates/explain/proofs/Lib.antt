@@ -1,4 +1,5 @@
 pub mod Fronts
+pub mod LegibleWritten
 pub mod ShownShort
 pub mod Told
 pub mod EndExplained

@@ -1,5 +1,5 @@
 -- From an explanation, steps or a refusal to the output that is wanted.
-use Rattle.std.proofs.Common.{◌≡◌, Bool, true, false, Option, Some, inl, inr, subst, sym}
+use Rattle.std.proofs.Common.{◌≡◌, ℕ, Bool, true, false, Option, Some, inl, inr, subst, sym}
 use Rattle.std.specs.Prelude.{IfOk, Result}
 use Rattle.std.proofs.lemmas.Result.{IfOk-weaker}
 use Rattle.armus_base.specs.declared.errors.NoMemory.{NoMemory}
@@ -15,15 +15,16 @@ use Rattle.explain.specs.declared.answer.ClockWanted as clocks
 use Rattle.explain.specs.declared.answer.ClockWanted.TheVariants as c
 use Rattle.explain.specs.declared.answer.PlWanted as pl
 use Rattle.explain.specs.declared.answer.PlWanted.TheVariants as p
-use Rattle.explain.specs.ClockExplained.{IsClockExplanationOf, IsClockRefusedWith}
+use Rattle.explain.specs.ClockExplained.{AnswersClock, IsClockExplanationOf, IsClockRefusedWith}
 use Rattle.explain.specs.ClockStepped.{AreClockStepsOf}
 use Rattle.explain.specs.Languages.{is_of_clocks}
-use Rattle.explain.specs.Outputs.{AnswersStepsIn, AnswersTextIn}
+use Rattle.explain.specs.Outputs.{AnswersAvoided, AnswersEither, AnswersStepsIn, AnswersStepsOf, AnswersTextIn}
 use Rattle.explain.specs.Explained.{IsExplanationOf}
 use Rattle.explain.specs.Avoided.{IsAvoidedOf}
 use Rattle.explain.specs.Stepped.{AreStepsOf}
 use Rattle.explain.specs.Requests.{Form}
-use Rattle.explain.specs.inside.Ending.{AnswersSource, IsAnswerTo, IsClockAnswerTo, IsClockRefusalOf, IsPlAnswerTo, IsRefusalOf}
+use Rattle.explain.specs.inside.Ending.{AnswersSource, IsAnswerTo, IsClockAnswerTo, IsClockRefusalOf, IsPlAnswerTo, IsRefusalOf, IsWrittenAnswerTo, IsWrittenOf}
+use Rattle.explain.specs.Legible.{IsWritten, legible}
 
 module _ (wanted : pl.PlWanted) (form : Form) (text : Text) where
   refused_so : (own : pl.PlWanted) (a : Answer) → IsRefusalOf form.file text a → IsPlAnswerTo own form text a
@@ -67,6 +68,12 @@ module _ (wanted : clocks.ClockWanted) (form : Form) (text : Text) where
       → IfOk r (IsClockAnswerTo wanted form text)
   clock_steps_answer r wanted_is is = rw wanted_is (IfOk-weaker r _ (IsClockAnswerTo c.Steps form text) (λ a told. inl told) is)
 
+-- what is written of an output has its status
+in_status : (whole answer : Answer) (Answers : ℕ → Text → Type 0) → Answers (number_of_status whole.status) whole.lines → IsWrittenOf whole answer
+    → IsWritten (Answers (number_of_status answer.status)) answer.lines
+in_status whole answer Answers is written =
+    (whole.lines, subst (λ s. Answers (number_of_status s) whole.lines) (sym written.status) is, written.lines)
+
 module _ (wanted : WantedOutput) (form : Form) (text : Text) where
   explained_in : (of_clocks : Bool) (a : Answer) → is_of_clocks form.file text ≡ of_clocks
       → AnswersTextIn of_clocks form text (number_of_status a.status) a.lines → wanted ≡ Explanation → IsAnswerTo wanted form text a
@@ -106,14 +113,16 @@ module _ (wanted : WantedOutput) (form : Form) (text : Text) where
       → IfOk r (IsAnswerTo wanted form text)
   clocks_answer r wanted_is is = rw wanted_is is
 
--- an output for the text that was read is one for the source
+-- what is written of an output for the text that was read is one for the source
 pub text_answers : (wanted : WantedOutput) (form : Form) (src : Passage) (text : Text) (answer : Answer) → HasInput (Some MAX_TEXT_BYTES) src text
-    → IsAnswerTo wanted form text answer → IsSound src → AnswersSource wanted form src answer
-text_answers Explanation form src text answer has is still = (inl (text, has, is), still)
-text_answers wanted form src text answer has is still = (inl (text, has, is), still)
+    → IsWrittenAnswerTo wanted form text answer → IsSound src → AnswersSource wanted form src answer
+text_answers Explanation form src text answer has (whole, is, written) still = (inl (text, has, in_status whole answer (AnswersEither form text) is written), still)
+text_answers Steps form src text answer has (whole, is, written) still = (inl (text, has, in_status whole answer (AnswersStepsOf form text) is written), still)
+text_answers Avoided form src text answer has (whole, is, written) still = (inl (text, has, in_status whole answer (AnswersAvoided form text) is written), still)
+text_answers Clocks form src text answer has (whole, is, written) still = (inl (text, has, in_status whole answer (AnswersClock form text) is written), still)
 
 -- and so is the refusal of too long a text
 pub length_answers : (wanted : WantedOutput) (form : Form) (src : Passage) (answer : Answer) → GaveTooMuch (Some MAX_TEXT_BYTES) src
-    → number_of_status answer.status ≡ 3 → answer.lines ≡ length_refusal form.file → IsSound src → AnswersSource wanted form src answer
+    → number_of_status answer.status ≡ 3 → answer.lines ≡ legible (length_refusal form.file) → IsSound src → AnswersSource wanted form src answer
 length_answers Explanation form src answer much three lines still = (inr (much, three, lines), still)
 length_answers wanted form src answer much three lines still = (inr (much, three, lines), still)

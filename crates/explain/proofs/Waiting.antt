@@ -82,7 +82,7 @@ module _ (plan : Plan) (state : State) (f : FactsValue) (of_plan : IsOfPlan plan
       (task, passed_from (λ (u : TaskId). is_waiting (situation_of f u.0)) (list_below (λ u. record { 0 = u }) (length f.standings)) task (task_below (length f.standings) task within) on)
 
   -- what the explanation tells of it
-  explains_waiting : (phases : ℕ → Phases) (counts lines : List ℕ) (some : Bool) → Explains f phases counts lines some
+  explains_waiting : (phases : ℕ → Phases) (counts lines : List ℕ) (some : Bool) → Explains f plan phases counts lines some
       → (some ≡ true) ↔ ((t : ℕ) × WaitsIn state t)
   explains_waiting phases counts lines some is =
       let both = waits f phases is.verdict is.found in

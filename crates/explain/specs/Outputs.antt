@@ -8,6 +8,7 @@ use Rattle.program_io.specs.declared.text_limit.TheConstants.{MAX_TEXT_BYTES}
 use Rattle.explain.specs.ClockExplained.{AnswersClock, IsClockRefusedWith, IsClockStatusOf}
 use Rattle.explain.specs.ClockStepped.{AreClockStepsOf}
 use Rattle.explain.specs.Languages.{is_of_clocks}
+use Rattle.explain.specs.Legible.{IsWritten, legible}
 use Rattle.explain.specs.Explained.{EndsSo, IsExplanationOf, IsStatusBy, SomeWaits}
 use Rattle.explain.specs.Stepped.{AreStepsOf}
 use Rattle.explain.specs.Avoided.{AvoidsSo, IsAvoidedOf, SomeStays}
@@ -41,12 +42,12 @@ AnswersStepsOf form text = AnswersStepsIn (is_of_clocks form.file text) form tex
 abbrev pub AnswersAvoided : Form → Text → ℕ → Text → Type 0
 AnswersAvoided form text status lines = IsAvoidedOf form text status lines ⊎ ((status ≡ 3) × IsRefusedWith form.file text lines)
 
--- what may be written where a text is read that is answered so: the output of the text that the source has given, or, where it gives more than a text may have, 3
--- with one line
+-- what may be written where a text is read that is answered so, legibly: the output of the text that the source has given, or, where it gives more than a text may
+-- have, 3 with one line
 abbrev pub MayAnswer : Form → (Text → ℕ → Text → Type 0) → Passage → ℕ → Text → Type 0
 MayAnswer form Answers src status lines =
-    ((text : Text) × HasInput (Some MAX_TEXT_BYTES) src text × Answers text status lines)
-    ⊎ (GaveTooMuch (Some MAX_TEXT_BYTES) src × (status ≡ 3) × (lines ≡ length_refusal form.file))
+    ((text : Text) × HasInput (Some MAX_TEXT_BYTES) src text × IsWritten (Answers text status) lines)
+    ⊎ (GaveTooMuch (Some MAX_TEXT_BYTES) src × (status ≡ 3) × (lines ≡ legible (length_refusal form.file)))
 
 -- What may be written, with which status, where this is asked for. For an explanation, for steps, for the run that avoids deadlock, and for a clock text: such an
 -- output. The lines of help and of the version with 0, and the line of usage with 2.

@@ -3,6 +3,7 @@ use Rattle.std.specs.Prelude.{Bool, true, false, not, ◌==◌, if◌then◌else
 use Rattle.std.specs.Str.{bytes_eq}
 use Rattle.pl_syntax.specs.Printed.{line}
 use Rattle.program_io.specs.Texts.{Text}
+use Rattle.explain.specs.Legible.{told_name}
 use Rattle.explain.specs.declared.extent.Extent.{Extent}
 use Rattle.explain.specs.declared.extent.Extent.TheVariants.{Whole, Usual, Short}
 
@@ -33,7 +34,7 @@ form_of extent file = record { file = file; extent = extent }
 
 -- what a word asks for that stands where the file is named of which this is wanted
 abbrev pub file_asked : Extent → (Form → Asked) → Text → Asked
-file_asked extent wanted word = if names_file word then wanted (form_of extent (Some word)) else nothing
+file_asked extent wanted word = if names_file word then wanted (form_of extent (Some (told_name word))) else nothing
 
 -- what one word asks for
 abbrev pub word_asked : Extent → Text → Asked

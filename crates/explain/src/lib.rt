@@ -11,6 +11,7 @@ mod clocks;
 mod extent;
 mod language;
 mod laws;
+mod legible;
 mod refusing;
 mod request;
 mod shortened;
@@ -18,8 +19,9 @@ mod top;
 
 pub use answer::WantedOutput;
 pub use laws::{
-    one_avoided_output, one_clock_output, one_either_output, one_output, one_steps_output,
-    shown_short,
+    legible_is_written, one_avoided_output, one_clock_output, one_either_output, one_output,
+    one_steps_output, shown_short,
 };
+pub use legible::written_name;
 pub use request::{Request, request_of};
 pub use top::explain;

@@ -1,26 +1,27 @@
 // What the words ask for.
-ghost use Rattle.std.specs.Prelude.{◌≡◌, [], ◌∷◌, map, string_bytes};
+ghost use Rattle.std.specs.Prelude.{◌≡◌, [], ◌∷◌};
 ghost use Rattle.explain.specs.Requests.{asked, asked_so, file_asked, names_file, word_asked};
 ghost use Rattle.explain.specs.calls.Requested.{asked_for, requested, wanted_by_word};
 
 use crate::answer::WantedOutput;
 use crate::extent::Extent;
+use armus_base::List;
 
-const ALL: &str = "--all";
+const ALL: &[u8] = b"--all";
 
-const SHORT: &str = "--short";
+const SHORT: &[u8] = b"--short";
 
-const RUN: &str = "run";
+const RUN: &[u8] = b"run";
 
-const STEPS: &str = "steps";
+const STEPS: &[u8] = b"steps";
 
-const AVOID: &str = "avoid";
+const AVOID: &[u8] = b"avoid";
 
-const CLOCK: &str = "clock";
+const CLOCK: &[u8] = b"clock";
 
-const HELP: &str = "--help";
+const HELP: &[u8] = b"--help";
 
-const VERSION: &str = "--version";
+const VERSION: &[u8] = b"--version";
 
 /// What the words ask for.
 #[derive(Clone, Copy, Debug)]
@@ -32,7 +33,7 @@ pub enum Request<'w> {
         /// How much of its explanation is shown.
         extent: Extent,
         /// The name of the file with the text, which is read from standard input where there is none.
-        file: Option<&'w str>,
+        file: Option<&'w [u8]>,
     },
     /// The lines of help.
     Help,
@@ -44,7 +45,7 @@ pub enum Request<'w> {
 
 impl<'w> Request<'w> {
     // What is asked for where a word can only be the name of the file with the text of which this is wanted.
-    fn of_file(extent: Extent, wanted: WantedOutput, word: &'w str) -> Request<'w>
+    fn of_file(extent: Extent, wanted: WantedOutput, word: &'w [u8]) -> Request<'w>
         ensures { requested result ≡ file_asked extent (asked_for wanted) word.now }
     {
         if names_file(word) {
@@ -60,17 +61,17 @@ impl<'w> Request<'w> {
 }
 
 // Whether a word can be the name of a file.
-fn names_file(word: &str) -> bool
+fn names_file(word: &[u8]) -> bool
     ensures { result ≡ names_file word.now }
 {
-    match word.as_bytes() {
+    match word {
         [] => false,
         [first, ..] => *first != b'-',
     }
 }
 
 // What a word asks for of a text, if it does.
-fn wanted_by_word(word: &str) -> Option<WantedOutput>
+fn wanted_by_word(word: &[u8]) -> Option<WantedOutput>
     ensures { result ≡ wanted_by_word word.now }
 {
     if word == RUN {
@@ -89,7 +90,7 @@ fn wanted_by_word(word: &str) -> Option<WantedOutput>
 }
 
 // What one word asks for.
-fn word_request(extent: Extent, word: &str) -> Request<'_>
+fn word_request(extent: Extent, word: &[u8]) -> Request<'_>
     ensures { requested result ≡ word_asked extent word.now }
 {
     if let Some(wanted) = wanted_by_word(word) {
@@ -109,7 +110,7 @@ fn word_request(extent: Extent, word: &str) -> Request<'_>
 }
 
 // What two words ask for.
-fn words_request<'w>(extent: Extent, word: &'w str, file: &'w str) -> Request<'w>
+fn words_request<'w>(extent: Extent, word: &'w [u8], file: &'w [u8]) -> Request<'w>
     ensures { requested result ≡ asked_so extent (word.now ∷ file.now ∷ []) }
 {
     match wanted_by_word(word) {
@@ -119,8 +120,8 @@ fn words_request<'w>(extent: Extent, word: &'w str, file: &'w str) -> Request<'w
 }
 
 // What the words ask for, behind `--all` or `--short`, or without them.
-fn request_so(extent: Extent, words: &[String]) -> Request<'_>
-    ensures { requested result ≡ asked_so extent (map string_bytes words.now) }
+fn request_so(extent: Extent, words: &[List<u8>]) -> Request<'_>
+    ensures { requested result ≡ asked_so extent words.now }
 {
     match words {
         [] => Request::Text {
@@ -128,22 +129,22 @@ fn request_so(extent: Extent, words: &[String]) -> Request<'_>
             extent,
             file: None,
         },
-        [word] => word_request(extent, word.as_str()),
-        [word, file] => words_request(extent, word.as_str(), file.as_str()),
+        [word] => word_request(extent, word.as_slice()),
+        [word, file] => words_request(extent, word.as_slice(), file.as_slice()),
         _ => Request::Usage,
     }
 }
 
 /// What the words ask for.
-pub fn request_of(words: &[String]) -> Request<'_>
-    ensures asked { requested result ≡ asked (map string_bytes words.now) }
+pub fn request_of(words: &[List<u8>]) -> Request<'_>
+    ensures asked { requested result ≡ asked words.now }
 {
     match words {
         [] => request_so(Extent::Usual, words),
         [first, rest @ ..] => {
-            if first.as_str() == ALL {
+            if first.as_slice() == ALL {
                 request_so(Extent::Whole, rest)
-            } else if first.as_str() == SHORT {
+            } else if first.as_slice() == SHORT {
                 request_so(Extent::Short, rest)
             } else {
                 request_so(Extent::Usual, words)

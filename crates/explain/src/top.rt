@@ -1,16 +1,16 @@
 // The top call.
-ghost use Rattle.std.specs.Prelude.{◌≡◌, map, string_bytes};
+ghost use Rattle.std.specs.Prelude.{◌≡◌};
 ghost use Rattle.program_io.specs.calls.Passages.{passage};
 ghost use Rattle.program_io.specs.calls.ExitNumbers.{number_of_status};
 ghost use Rattle.explain.specs.Outputs.{IsExplainCall};
 ghost use Rattle.explain.specs.Requests.{asked};
-ghost use Rattle.explain.specs.calls.Requested.{asked_for, file_bytes, form_with};
+ghost use Rattle.explain.specs.calls.Requested.{asked_for, form_named};
 
 use crate::answer::{AnswerEnd, WantedOutput};
 use crate::answering::answer_source;
 use crate::extent::Extent;
 use crate::request::{Request, request_of};
-use armus_base::{Sink, Source};
+use armus_base::{List, Sink, Source};
 use program_io::{ExitStatus, finish};
 use std::alloc::Global;
 
@@ -36,29 +36,19 @@ Status: 0 nobody waits for ever, 1 somebody does or is refused, 2 other words,
 3 the text is refused, 4 it cannot be read, 5 it cannot be written, 6 no memory.
 ";
 
-// The bytes of a name, where there is one.
-fn name_bytes(file: Option<&str>) -> Option<&[u8]>
-    ensures { file_bytes result ≡ file_bytes file.entry }
-{
-    match file {
-        Some(name) => Some(name.as_bytes()),
-        None => None,
-    }
-}
-
 // Writes the explanation or the refusal of what the source gives.
 fn explain_source<S: Source, K: Sink>(
     alloc: Global,
     wanted: WantedOutput,
     extent: Extent,
-    file: Option<&str>,
+    file: Option<&[u8]>,
     src: &mut S,
     out: &mut K,
 ) -> ExitStatus
-    ensures call { IsExplainCall (asked_for wanted (form_with file.entry extent)) (passage S.left S.faults src.old src.new) (passage K.taken K.faults out.old out.new)
+    ensures call { IsExplainCall (asked_for wanted (form_named file.entry extent)) (passage S.left S.faults src.old src.new) (passage K.taken K.faults out.old out.new)
         (src.new ≡ src.old) (out.new ≡ out.old) (number_of_status result) }
 {
-    match answer_source(alloc, wanted, extent, name_bytes(file), src) {
+    match answer_source(alloc, wanted, extent, file, src) {
         Ok(answer) => finish(out, answer.lines.as_slice(), answer.status),
         Err(AnswerEnd::Fault) => ExitStatus::ReadFailed,
         Err(AnswerEnd::NoMemory) => ExitStatus::OutOfMemory,
@@ -76,8 +66,13 @@ fn explain_source<S: Source, K: Sink>(
 /// line of usage, and answers 2; nothing is read then. Of an explanation it shows at most 60 lines, unless the words ask for all of it, or for its first lines
 /// and its hint alone. It answers 4 and 5 where the source or the sink failed, and 6 for want of memory; after 4 and 6 nothing was written, and after 5 at most
 /// first bytes were.
-pub fn explain<S: Source, K: Sink>(alloc: Global, words: &[String], src: &mut S, out: &mut K) -> u8
-    ensures call { IsExplainCall (asked (map string_bytes words.now)) (passage S.left S.faults src.old src.new) (passage K.taken K.faults out.old out.new)
+pub fn explain<S: Source, K: Sink>(
+    alloc: Global,
+    words: &[List<u8>],
+    src: &mut S,
+    out: &mut K,
+) -> u8
+    ensures call { IsExplainCall (asked words.now) (passage S.left S.faults src.old src.new) (passage K.taken K.faults out.old out.new)
         (src.new ≡ src.old) (out.new ≡ out.old) result }
 {
     match request_of(words) {

@@ -32,7 +32,7 @@ explanation_exists file text p plan steps is unfolds run maximal =
     let wait = waits_for_some plan a f at (rests_at_end plan steps (text_is_checked text p plan is unfolds) run maximal) in
     let (verdict, found) = verdict_exists f s.phases plan fits wait in
     let counts = counts_line (counts_of reports.standings) in (
-      explained_by f s.phases counts verdict,
+      explained_by f plan s.phases counts verdict,
       somebody_waits verdict,
       record {
         account = account;

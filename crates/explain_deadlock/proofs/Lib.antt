@@ -1,4 +1,6 @@
 pub mod Pieces
+pub mod Marks
+pub mod NobodyThere
 pub mod VerdictWalks
 pub mod NextInside
 pub mod Starts

@@ -4,6 +4,7 @@ use Rattle.std.specs.Prelude.{Option}
 use Rattle.armus_base.specs.declared.ending.Final.{Final}
 use Rattle.armus_base.specs.Finals.{final_of}
 use Rattle.armus_base.specs.Places.{state_at}
+use Rattle.armus_base.specs.Plans.{Plan}
 use Rattle.armus_base.specs.States.{Phases}
 use Rattle.pl_syntax.specs.declared.tree.Program.{Program}
 use Rattle.pl_syntax.proofs.Unique.{one_tree}
@@ -22,20 +23,21 @@ use Rattle.explain_deadlock.proofs.OneVerdict.{one_verdict}
 
 -- what is known is explained in one way
 explained_once :
-    (f : FactsValue) (phases : ℕ → Phases) (counts lines other : List ℕ) (waits also : Bool) → Explains f phases counts lines waits → Explains f phases counts other also →
+    (f : FactsValue) (plan : Plan) (phases : ℕ → Phases) (counts lines other : List ℕ) (waits also : Bool) → Explains f plan phases counts lines waits →
+    Explains f plan phases counts other also →
     (lines ≡ other) × (waits ≡ also)
-explained_once f phases counts lines other waits also x y =
+explained_once f plan phases counts lines other waits also x y =
     let same : x.verdict ≡ y.verdict = one_verdict f phases x.verdict y.verdict x.found y.found in
-    (x.is_it ∙ ap (explained_by f phases counts) same ∙ sym y.is_it, x.tells ∙ ap somebody_waits same ∙ sym y.tells)
+    (x.is_it ∙ ap (explained_by f plan phases counts) same ∙ sym y.is_it, x.tells ∙ ap somebody_waits same ∙ sym y.tells)
 
 -- so is the end of a run
 pub ended_once :
-    (text : List ℕ) (file : Option (List ℕ)) (account : Account) (end : Final) (phases : ℕ → Phases) (lines other : List ℕ) (waits also : Bool) →
-    IsExplanation text file account end phases lines waits → IsExplanation text file account end phases other also → (lines ≡ other) × (waits ≡ also)
-ended_once text file account end phases lines other waits also x y =
+    (text : List ℕ) (file : Option (List ℕ)) (account : Account) (plan : Plan) (end : Final) (phases : ℕ → Phases) (lines other : List ℕ) (waits also : Bool) →
+    IsExplanation text file account plan end phases lines waits → IsExplanation text file account plan end phases other also → (lines ≡ other) × (waits ≡ also)
+ended_once text file account plan end phases lines other waits also x y =
     let same : x.standings ≡ y.standings = one_standings _ end.ends x.standings y.standings x.stand y.stand in
-    let again = subst (λ (all : List Standing). Explains (facts_of text file account all) phases (counts_line (counts_of all)) lines waits) same x.explains in
-    explained_once (facts_of text file account y.standings) phases (counts_line (counts_of y.standings)) lines other waits also again y.explains
+    let again = subst (λ (all : List Standing). Explains (facts_of text file account all) plan phases (counts_line (counts_of all)) lines waits) same x.explains in
+    explained_once (facts_of text file account y.standings) plan phases (counts_line (counts_of y.standings)) lines other waits also again y.explains
 
 pub one_explanation : OneExplanation
 one_explanation file text plan a lines other waits also x y =
@@ -44,5 +46,5 @@ one_explanation file text plan a lines other waits also x y =
     let known = subst (λ (p : Program). IsAccount text p plan a x.account) programs x.is_account.known in
     let same : x.account ≡ y.account = one_account text y.is_account.program plan a x.account y.account known y.is_account.known in
     let s = state_at plan a in
-    let again = subst (λ (account : Account). IsExplanation text file account (final_of plan s) s.phases lines waits) same x.explains in
-    ended_once text file y.account (final_of plan s) s.phases lines other waits also again y.explains
+    let again = subst (λ (account : Account). IsExplanation text file account plan (final_of plan s) s.phases lines waits) same x.explains in
+    ended_once text file y.account plan (final_of plan s) s.phases lines other waits also again y.explains

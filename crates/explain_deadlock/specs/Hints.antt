@@ -1,5 +1,5 @@
 -- The hint: what to mend, by where the walk of the verdict leads.
-use Rattle.std.specs.Prelude.{ℕ, ◌-◌, ◌==◌, ◌&&◌, not, nat_lt, Bool, true, false, List, [], ◌++◌, Option, Some, None, codes, decimal, if◌then◌else◌, length, option_map, slice_get}
+use Rattle.std.specs.Prelude.{ℕ, ◌-◌, ◌==◌, ◌&&◌, not, nat_lt, Bool, true, false, List, [], ◌∷◌, ◌++◌, Option, Some, None, codes, decimal, if◌then◌else◌, is_none, length, option_map, slice_get}
 use Rattle.std.specs.List.{find}
 use Rattle.armus_base.specs.declared.ids.TaskId.{TaskId}
 use Rattle.armus_base.specs.States.{Phases}
@@ -12,7 +12,7 @@ use Rattle.explain_facts.specs.declared.account.Waiting.{Waiting}
 use Rattle.explain_tasks.specs.declared.impeders.Impeder.{Impeder}
 use Rattle.explain_tasks.specs.declared.situation.Situation.{Situation}
 use Rattle.explain_tasks.specs.declared.situation.Situation.TheVariants.{HasEnded, NeverForked, NotForkedYet}
-use Rattle.explain_tasks.specs.Facts.{FactsValue, drawing_of, forking_of, is_waiting, situation_of, wait_of}
+use Rattle.explain_tasks.specs.Facts.{FactsValue, drawing_of, forking_of, is_waiting, next_op_of, situation_of, wait_of}
 use Rattle.explain_tasks.specs.Impeders.{impeders_by_facts}
 use Rattle.explain_tasks.specs.Places.{end_words, fork_place, named_phaser, named_task, said_of, wait_place}
 use Rattle.explain_deadlock.specs.declared.outcome.WaitVerdict.{WaitVerdict}
@@ -150,9 +150,46 @@ circle_hint_words f shown =
     ++ pair_words f (slice_get shown 0) (slice_get shown 1)
     ++ others_words (length shown))
 
--- the hint on a circle of two or more: of its first two tasks, each with the one before it
+-- task t does nothing any more to the phaser that is awaited so
+abbrev pub is_done_with : FactsValue → ℕ → Option Waiting → Bool
+is_done_with f t None = false
+is_done_with f t (Some w) = is_none (next_op_of f t w.event.p.0)
+
+-- who waits so waits at a place of the text itself
+abbrev pub waits_in_text : Option Waiting → Bool
+waits_in_text None = false
+waits_in_text (Some w) = is_of_text w.at
+
+-- task t waits at a place of the text itself, and does nothing any more to the phaser for which this one waits
+abbrev pub comes_no_more : FactsValue → TaskId → TaskId → Bool
+comes_no_more f waiter t = waits_in_text (wait_of f t.0) && is_done_with f t.0 (wait_of f waiter.0)
+
+-- the first of these tasks that comes no more to the phaser for which the one before it waits, with that one; before the first stands this one
+abbrev pub first_no_more : FactsValue → TaskId → List TaskId → Option (TaskId × TaskId)
+first_no_more f waiter [] = None
+first_no_more f waiter (t ∷ rest) = if comes_no_more f waiter t then Some (waiter, t) else first_no_more f t rest
+
+-- the same, where the last one stands before the first, if there is one
+abbrev pub no_more_behind : FactsValue → Option TaskId → List TaskId → Option (TaskId × TaskId)
+no_more_behind f None shown = None
+no_more_behind f (Some last) shown = first_no_more f last shown
+
+-- hint: v has no adv of left any more: let it arrive there, or leave, before it waits at 4:55
+abbrev pub no_more_hint : FactsValue → TaskId → TaskId → List ℕ
+no_more_hint f waiter t =
+    line
+    (codes "hint: " ++ named_task f t.0 ++ codes " has no adv of " ++ awaited_phaser_words f waiter.0
+    ++ codes " any more: let it arrive there, or leave, before it waits at " ++ wait_place f t.0)
+
+-- the hint on a circle of two or more: of one of its tasks that comes no more, if one does not, with the one before it; or else of its first two tasks, likewise
+abbrev pub no_more_or_circle : FactsValue → List TaskId → Option (TaskId × TaskId) → List ℕ
+no_more_or_circle f shown (Some (waiter, t)) = no_more_hint f waiter t
+no_more_or_circle f shown None = circle_hint_words f shown
+
+-- the hint on a circle
 abbrev pub circle_hint : FactsValue → List TaskId → List ℕ
-circle_hint f shown = if nat_lt (length shown) 2 then [] else circle_hint_words f shown
+circle_hint f shown =
+    if nat_lt (length shown) 2 then [] else no_more_or_circle f shown (no_more_behind f (slice_get shown (length shown - 1)) shown)
 
 -- the hint where this task waits for itself, if one does, and else that of the circle
 abbrev pub itself_or_circle : FactsValue → List TaskId → Option TaskId → List ℕ

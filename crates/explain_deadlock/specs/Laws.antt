@@ -1,14 +1,18 @@
 -- What is proved of explanations.
-use Rattle.std.specs.Prelude.{◌≡◌, ◌↔◌, ℕ, ◌<◌, true, List, ◌++◌, Contains, Some, flat_map, length, take}
+use Rattle.std.specs.Prelude.{◌≡◌, ◌↔◌, ℕ, ◌<◌, true, false, List, ◌++◌, Contains, Some, flat_map, length, take}
 use Rattle.armus_base.specs.declared.ids.TaskId.{TaskId}
+use Rattle.armus_base.specs.declared.event.Event.{Event}
+use Rattle.armus_base.specs.CheckedPlans.{IsCheckedPlan}
 use Rattle.armus_base.specs.Counts.{IsDistinct}
 use Rattle.armus_base.specs.Finals.{final_of}
 use Rattle.armus_base.specs.Places.{state_at}
 use Rattle.armus_base.specs.Plans.{Plan}
-use Rattle.armus_base.specs.Runs.{Place}
-use Rattle.armus_base.specs.States.{Phases}
+use Rattle.armus_base.specs.Runs.{IsPlainRun, Place, state_after}
+use Rattle.armus_base.specs.States.{Phases, Step}
 use Rattle.explain_facts.specs.declared.account.Waiting.{Waiting}
 use Rattle.report.specs.Reports.{IsReportedCycle, IsSomeDead}
+use Rattle.explain_deadlock.specs.Notes.{is_used_so}
+use Rattle.explain_deadlock.specs.declared.notes.PhaserUse.TheVariants.{Awaits}
 use Rattle.explain_deadlock.specs.declared.outcome.WaitVerdict.{WaitVerdict}
 use Rattle.explain_deadlock.specs.declared.outcome.WaitVerdict.TheVariants.{Circle}
 use Rattle.explain_tasks.specs.Facts.{FactsValue, is_waiting, situation_of, wait_of}
@@ -67,3 +71,11 @@ DeadlockIsReported =
     (plan : Plan) (a : ℕ → Place) (f : FactsValue) (v : WaitVerdict) → AreFactsAt plan a f → IsVerdict f (state_at plan a).phases v →
     IsSomeDead (final_of plan (state_at plan a)).blocked →
     (cycle : List TaskId) × (v ≡ Circle cycle) × IsReportedCycle (final_of plan (state_at plan a)).blocked cycle
+
+-- ---- the notes
+
+-- where no op of a plan awaits phaser q, nobody waits there in any state to which a run leads
+abbrev pub NobodyWaitsThere : Type 0
+NobodyWaitsThere =
+    (plan : Plan) (steps : List Step) (q t : ℕ) (e : Event) → IsCheckedPlan plan → IsPlainRun plan steps → is_used_so Awaits plan q ≡ false →
+    (state_after steps).published t ≡ Some e → e.p.0 ≡ q → ⊥

@@ -8,6 +8,7 @@ pub mod ImpederLines
 pub mod Paragraphs
 -- What to mend.
 pub mod Hints
+pub mod Notes
 -- The whole.
 pub mod Explanations
 -- What is proved of it.

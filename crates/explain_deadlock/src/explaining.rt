@@ -1,15 +1,17 @@
 // The explanation of the state in which a run has ended.
 ghost use Rattle.explain_deadlock.specs.Explanations.{Explains, IsExplanationAt};
-ghost use Rattle.std.specs.Prelude.{◌≡◌, IfOk, option_copied};
+ghost use Rattle.std.specs.Prelude.{◌≡◌, ◌++◌, IfOk, OnOk, option_copied};
 ghost use Rattle.armus_base.specs.Finals.{final_of};
+ghost use Rattle.explain_deadlock.specs.Notes.{verdict_end};
 ghost use Rattle.explain_deadlock.specs.RunEnds.{IsAccountOf};
 ghost use Rattle.explain_deadlock.specs.calls.RunEnds.{WaitersStay};
 ghost use Rattle.explain_tasks.specs.calls.Fitting.{FactsFitPlan};
-ghost use Rattle.explain_deadlock.specs.inside.Fitting.{WaitForSome};
+ghost use Rattle.explain_deadlock.specs.inside.Fitting.{IsTextOf, WaitForSome};
 ghost use Rattle.pl_core.specs.calls.Worlds.{places_of, state_of};
 ghost use Rattle.explain_deadlock.specs.Verdicts.{shown_of, somebody_waits};
 
 use crate::hint::put_hint;
+use crate::notes::{NotedText, put_notes};
 use crate::outcome::WaitVerdict;
 use crate::paragraphs::put_paragraphs;
 use crate::verdict_line::put_verdict;
@@ -57,18 +59,45 @@ fn has_waiting(verdict: &WaitVerdict) -> bool
     }
 }
 
-// Explains what is known, behind this line of counts.
-fn explain_facts(facts: &Facts, world: &World, counts: List<u8>) -> Result<Explanation, NoMemory>
+// Appends what stands behind the paragraphs: the hint, if one fits, or the notes.
+fn put_end(
+    facts: &Facts,
+    text: NotedText<'_>,
+    out: &mut Vec<u8>,
+    world: &World,
+    verdict: &WaitVerdict,
+) -> Result<(), NoMemory>
+    requires fits { FactsFitPlan facts.now world.now.plan }
+    requires text { IsTextOf facts.now text }
+    requires plan { text.plan.now ≡ world.now.plan }
+    ensures { OnOk result (out.new.items ≡ out.old.items ++ verdict_end facts.now world.now.plan (state_of world.now).phases verdict.now) }
+{
+    match verdict {
+        WaitVerdict::Nobody => put_notes(facts, text, out),
+        WaitVerdict::Circle(_) => put_hint(facts, text.account, out, world, verdict),
+        WaitVerdict::Chain(_, _) => put_hint(facts, text.account, out, world, verdict),
+    }
+}
+
+// Explains what is known of a text, behind this line of counts.
+fn explain_facts(
+    facts: &Facts,
+    text: NotedText<'_>,
+    world: &World,
+    counts: List<u8>,
+) -> Result<Explanation, NoMemory>
     requires fits { FactsFitPlan facts.now world.now.plan }
     requires wait { WaitForSome facts.now (state_of world.now).phases }
-    ensures { IfOk result (λ e. Explains facts.now (state_of world.now).phases counts e.lines e.has_waiting) }
+    requires text { IsTextOf facts.now text }
+    requires plan { text.plan.now ≡ world.now.plan }
+    ensures { IfOk result (λ e. Explains facts.now world.now.plan (state_of world.now).phases counts e.lines e.has_waiting) }
 {
     let verdict = verdict_of(facts, world)?;
     let shown = shown_of(facts.alloc(), &verdict)?;
     let mut out = counts.into_vec();
     put_verdict(facts, &mut out, &verdict)?;
     put_paragraphs(facts, &mut out, world, &shown)?;
-    put_hint(facts, &mut out, world, &verdict)?;
+    put_end(facts, text, &mut out, world, &verdict)?;
     Ok(Explanation {
         lines: List::from_vec(out),
         has_waiting: has_waiting(&verdict),
@@ -90,9 +119,15 @@ pub fn explanation_of(
     requires end { end.now ≡ final_of world.now.plan (state_of world.now) }
     ensures { IfOk result (λ e. IsExplanationAt (option_copied file.entry) places.now world.now.plan (places_of world.now) e.lines e.has_waiting) }
 {
-    let _plan = world.plan();
+    let plan = world.plan();
     let outline = outline_of(alloc, end)?;
     let Outline { standings, counts } = outline;
     let facts = Facts::new(alloc, places, file, account, standings.as_slice());
-    explain_facts(&facts, world, counts)
+    let text = NotedText {
+        places,
+        file,
+        account,
+        plan,
+    };
+    explain_facts(&facts, text, world, counts)
 }

@@ -1,14 +1,14 @@
 // The line of the hint.
-ghost use Rattle.std.specs.Prelude.{◌≡◌, ◌==◌, ◌<◌, ◌-◌, ◌++◌, OnOk, length, option_copied, slice_get};
+ghost use Rattle.std.specs.Prelude.{◌≡◌, ◌==◌, ◌<◌, ◌-◌, ◌++◌, OnOk, is_none, length, option_copied, slice_get};
 ghost use Rattle.std.specs.List.{find};
-ghost use Rattle.explain_tasks.specs.Facts.{wait_of};
+ghost use Rattle.explain_tasks.specs.Facts.{next_op_of, wait_of};
 ghost use Rattle.explain_tasks.specs.calls.Fitting.{FactsFitPlan};
-ghost use Rattle.explain_deadlock.specs.Hints.{awaited_phaser_words, before_fork_words, before_words, chain_hint, circle_hint, circle_hint_words, closed_hint, ended_hint, for_event_words, fork_hint, fork_or_others, verdict_hint, impeding_phase, is_ahead_of_itself, is_behind_a_wait, is_of_text, is_outside, itself_hint, itself_or_circle, leaving_words, let_maker_words, let_task_words, let_words, missing_arrivals, arrivals_words, never_forked_hint, others_words, own_phase_words, pair_words, unforked_hint, waits_at_words, waits_before_fork, waits_for_itself};
+ghost use Rattle.explain_deadlock.specs.Hints.{awaited_phaser_words, before_fork_words, before_words, chain_hint, circle_hint, circle_hint_words, closed_hint, comes_no_more, first_no_more, is_done_with, no_more_behind, no_more_hint, no_more_or_circle, ended_hint, for_event_words, fork_hint, fork_or_others, verdict_hint, impeding_phase, is_ahead_of_itself, is_behind_a_wait, is_of_text, is_outside, itself_hint, itself_or_circle, leaving_words, let_maker_words, let_task_words, let_words, missing_arrivals, arrivals_words, never_forked_hint, others_words, own_phase_words, pair_words, unforked_hint, waits_at_words, waits_before_fork, waits_for_itself, waits_in_text};
 ghost use Rattle.pl_core.specs.calls.Worlds.{state_of};
 
 use crate::outcome::WaitVerdict;
-use armus_base::{NoMemory, Phase, TaskId};
-use explain_facts::{Drawn, Forked, Waiting, put_number, put_words};
+use armus_base::{NoMemory, Phase, PhaserId, TaskId};
+use explain_facts::{Account, Drawn, Forked, NextOp, Waiting, put_number, put_words};
 use explain_tasks::{Facts, Impeder, Situation, is_waiting};
 use pl_core::World;
 use source_map::TextPlace;
@@ -397,23 +397,156 @@ fn put_circle_words(facts: &Facts, out: &mut Vec<u8>, shown: &[TaskId]) -> Resul
     put_words(out, b"\n")
 }
 
+// Whether what a task does next is on this phaser.
+fn is_there(next: NextOp, p: PhaserId) -> bool
+    ensures { result ≡ (next.p.0 == p.0) }
+{
+    next.p.0 == p.0
+}
+
+// What of this is done first to a phaser.
+fn next_there(nexts: &[NextOp], p: PhaserId) -> Option<NextOp>
+    ensures { result ≡ find (λ (x : NextOp). x.p.0 == p.0) nexts.now }
+{
+    nexts.iter().copied().find(|next| is_there(*next, p))
+}
+
+// Whether a task does nothing any more to a phaser.
+fn has_no_next(facts: &Facts, account: &Account, t: TaskId, p: PhaserId) -> bool
+    requires account { facts.now.account ≡ account.now }
+    ensures { result ≡ is_none (next_op_of facts.now t.0 p.0) }
+{
+    match account.tasks.as_slice().get(t.0 as usize) {
+        Some(task) => next_there(task.nexts.as_slice(), p).is_none(),
+        None => true,
+    }
+}
+
+// Whether a task does nothing any more to the phaser that is awaited so.
+fn is_done_with(facts: &Facts, account: &Account, t: TaskId, wait: Option<&Waiting>) -> bool
+    requires account { facts.now.account ≡ account.now }
+    ensures { result ≡ is_done_with facts.now t.0 (option_copied wait.entry) }
+{
+    match wait {
+        Some(wait) => has_no_next(facts, account, t, wait.event.p),
+        None => false,
+    }
+}
+
+// Whether who waits so waits at a place of the text itself.
+fn waits_in_text(wait: Option<&Waiting>) -> bool
+    ensures { result ≡ waits_in_text (option_copied wait.entry) }
+{
+    match wait {
+        Some(wait) => is_of_text(wait.at),
+        None => false,
+    }
+}
+
+// Whether a task waits at a place of the text itself, and does nothing any more to the phaser for which this one waits.
+fn comes_no_more(facts: &Facts, account: &Account, waiter: TaskId, t: TaskId) -> bool
+    requires account { facts.now.account ≡ account.now }
+    ensures { result ≡ comes_no_more facts.now waiter t }
+{
+    waits_in_text(facts.wait(t)) && is_done_with(facts, account, t, facts.wait(waiter))
+}
+
+// The first of these tasks that comes no more to the phaser for which the one before it waits, with that one.
+fn first_no_more(
+    facts: &Facts,
+    account: &Account,
+    waiter: TaskId,
+    shown: &[TaskId],
+) -> Option<(TaskId, TaskId)>
+    requires account { facts.now.account ≡ account.now }
+    ensures { result ≡ first_no_more facts.now waiter shown.now }
+{
+    match shown {
+        [] => None,
+        [t, rest @ ..] => {
+            if comes_no_more(facts, account, waiter, *t) {
+                Some((waiter, *t))
+            } else {
+                first_no_more(facts, account, *t, rest)
+            }
+        }
+    }
+}
+
+// The same, where the last one stands before the first, if there is one.
+fn no_more_behind(
+    facts: &Facts,
+    account: &Account,
+    last: Option<TaskId>,
+    shown: &[TaskId],
+) -> Option<(TaskId, TaskId)>
+    requires account { facts.now.account ≡ account.now }
+    ensures { result ≡ no_more_behind facts.now last shown.now }
+{
+    match last {
+        Some(last) => first_no_more(facts, account, last, shown),
+        None => None,
+    }
+}
+
+// Appends the hint on a task that comes no more.
+fn put_no_more(facts: &Facts, out: &mut Vec<u8>, waiter: TaskId, t: TaskId) -> Result<(), NoMemory>
+    ensures { OnOk result (out.new.items ≡ out.old.items ++ no_more_hint facts.now waiter t) }
+{
+    put_words(out, b"hint: ")?;
+    facts.put_named(out, t)?;
+    put_words(out, b" has no adv of ")?;
+    put_awaited_phaser(facts, out, waiter)?;
+    put_words(
+        out,
+        b" any more: let it arrive there, or leave, before it waits at ",
+    )?;
+    facts.put_wait_place(out, t)?;
+    put_words(out, b"\n")
+}
+
+// Appends the hint on a task that comes no more, if there is one, or else that on all of them.
+fn put_no_more_or_circle(
+    facts: &Facts,
+    out: &mut Vec<u8>,
+    shown: &[TaskId],
+    gone: Option<(TaskId, TaskId)>,
+) -> Result<(), NoMemory>
+    requires { 0 < length shown.now }
+    ensures { OnOk result (out.new.items ≡ out.old.items ++ no_more_or_circle facts.now shown.now gone) }
+{
+    match gone {
+        Some((waiter, t)) => put_no_more(facts, out, waiter, t),
+        None => put_circle_words(facts, out, shown),
+    }
+}
+
 // Appends the hint on a circle.
-fn put_circle_hint(facts: &Facts, out: &mut Vec<u8>, shown: &[TaskId]) -> Result<(), NoMemory>
+fn put_circle_hint(
+    facts: &Facts,
+    account: &Account,
+    out: &mut Vec<u8>,
+    shown: &[TaskId],
+) -> Result<(), NoMemory>
+    requires account { facts.now.account ≡ account.now }
     ensures { OnOk result (out.new.items ≡ out.old.items ++ circle_hint facts.now shown.now) }
 {
     if shown.len() < 2 {
         return Ok(());
     }
-    put_circle_words(facts, out, shown)
+    let gone = no_more_behind(facts, account, task_at(shown, shown.len() - 1), shown);
+    put_no_more_or_circle(facts, out, shown, gone)
 }
 
 // Appends the hint where this task waits for itself, if one does, and else that of the circle.
 fn put_itself_or_circle(
     facts: &Facts,
+    account: &Account,
     out: &mut Vec<u8>,
     shown: &[TaskId],
     itself: Option<TaskId>,
 ) -> Result<(), NoMemory>
+    requires account { facts.now.account ≡ account.now }
     ensures { OnOk result (out.new.items ≡ out.old.items ++ itself_or_circle facts.now shown.now itself) }
 {
     match itself {
@@ -421,7 +554,7 @@ fn put_itself_or_circle(
             Some(wait) => put_itself_hint(facts, out, t, wait),
             None => Ok(()),
         },
-        None => put_circle_hint(facts, out, shown),
+        None => put_circle_hint(facts, account, out, shown),
     }
 }
 
@@ -442,10 +575,12 @@ fn first_for_itself(facts: &Facts, shown: &[TaskId]) -> Option<TaskId>
 // Appends the hint where this task is not forked before its forker waits, if one is, and else that of the others.
 fn put_fork_or_others(
     facts: &Facts,
+    account: &Account,
     out: &mut Vec<u8>,
     shown: &[TaskId],
     late: Option<TaskId>,
 ) -> Result<(), NoMemory>
+    requires account { facts.now.account ≡ account.now }
     ensures { OnOk result (out.new.items ≡ out.old.items ++ fork_or_others facts.now shown.now late) }
 {
     match late {
@@ -453,30 +588,44 @@ fn put_fork_or_others(
             Some(fork) => put_fork_hint(facts, out, t, fork),
             None => Ok(()),
         },
-        None => put_itself_or_circle(facts, out, shown, first_for_itself(facts, shown)),
+        None => put_itself_or_circle(facts, account, out, shown, first_for_itself(facts, shown)),
     }
 }
 
 // Appends the hint where the walk closes in these tasks.
-fn put_closed_hint(facts: &Facts, out: &mut Vec<u8>, shown: &[TaskId]) -> Result<(), NoMemory>
+fn put_closed_hint(
+    facts: &Facts,
+    account: &Account,
+    out: &mut Vec<u8>,
+    shown: &[TaskId],
+) -> Result<(), NoMemory>
+    requires account { facts.now.account ≡ account.now }
     ensures { OnOk result (out.new.items ≡ out.old.items ++ closed_hint facts.now shown.now) }
 {
-    put_fork_or_others(facts, out, shown, first_behind_a_wait(facts, shown))
+    put_fork_or_others(
+        facts,
+        account,
+        out,
+        shown,
+        first_behind_a_wait(facts, shown),
+    )
 }
 
 /// Appends the line of the hint, if one fits.
 pub(crate) fn put_hint(
     facts: &Facts,
+    account: &Account,
     out: &mut Vec<u8>,
     world: &World,
     verdict: &WaitVerdict,
 ) -> Result<(), NoMemory>
     requires fits { FactsFitPlan facts.now world.now.plan }
+    requires account { facts.now.account ≡ account.now }
     ensures { OnOk result (out.new.items ≡ out.old.items ++ verdict_hint facts.now (state_of world.now).phases verdict.now) }
 {
     match verdict {
         WaitVerdict::Nobody => Ok(()),
-        WaitVerdict::Circle(shown) => put_closed_hint(facts, out, shown.as_slice()),
+        WaitVerdict::Circle(shown) => put_closed_hint(facts, account, out, shown.as_slice()),
         WaitVerdict::Chain(held, last) => {
             put_chain_hint(facts, out, world, *held, *last, facts.situation(*last))
         }

@@ -1,6 +1,6 @@
 // Laws of explanations.
 ghost use Rattle.explain_deadlock.specs.calls.Laws.{ChainsEnd, DeadlockStandsFirst, ExplanationExists, ForkersAreToCome, HeldAreNotImpededByDead, NothingIsSaidTwice, OneExplanation, ShownAreDead, WaitingIsTold};
-ghost use Rattle.explain_deadlock.specs.Laws.{DeadlockIsReported, EachHasAParagraph, EachImpederIsTold, SaysWhatIsSo, WaitAlike};
+ghost use Rattle.explain_deadlock.specs.Laws.{DeadlockIsReported, EachHasAParagraph, EachImpederIsTold, NobodyWaitsThere, SaysWhatIsSo, WaitAlike};
 
 /// The places of a text's plan have one explanation at most.
 pub fn one_explanation()
@@ -63,4 +63,9 @@ pub fn held_are_not_impeded_by_dead()
 pub fn walks_end()
     ensures forkers { ForkersAreToCome }
     ensures chains { ChainsEnd }
+{}
+
+/// In no state of a run anybody waits at a phaser that no op of the plan awaits.
+pub fn nobody_waits_there()
+    ensures { NobodyWaitsThere }
 {}

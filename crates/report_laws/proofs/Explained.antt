@@ -13,7 +13,7 @@ use Rattle.armus_base.proofs.DeadByStatuses.{dead_by_final, run_is_of_plan}
 use Rattle.armus_base.proofs.Stepping.{places_fix}
 use Rattle.adaptive.specs.declared.analysis.Wanted.{Wanted}
 use Rattle.explain_deadlock.specs.declared.outcome.WaitVerdict.TheVariants.{Circle}
-use Rattle.explain_deadlock.specs.Hints.{verdict_hint}
+use Rattle.explain_deadlock.specs.Notes.{verdict_end}
 use Rattle.explain_deadlock.specs.Paragraphs.{paragraphs}
 use Rattle.explain_deadlock.specs.RunEnds.{AreFactsAt}
 use Rattle.explain_deadlock.specs.VerdictWords.{verdict_line}
@@ -71,13 +71,13 @@ module _ (form : Form) (text : Text) (status number : ℕ) (lines report : Text)
       let v = x.explains.verdict in
       let r = run.report_is in
       record {
-        rest = verdict_line f v ++ paragraphs f (state_at plan a).phases (shown_of v) ++ verdict_hint f (state_at plan a).phases v;
+        rest = verdict_line f v ++ paragraphs f (state_at plan a).phases (shown_of v) ++ verdict_end f plan (state_at plan a).phases v;
         others = task_lines r.standings ++ r.cycle_text ++ r.graph_text;
         lines_are = x.explains.is_it
             ∙ first_of_four (counts_line (counts_of x.standings)) (verdict_line f v) (paragraphs f (state_at plan a).phases (shown_of v))
-            (verdict_hint f (state_at plan a).phases v)
+            (verdict_end f plan (state_at plan a).phases v)
             ∙ ap
-            (λ s. counts_line (counts_of s) ++ (verdict_line f v ++ paragraphs f (state_at plan a).phases (shown_of v) ++ verdict_hint f (state_at plan a).phases v))
+            (λ s. counts_line (counts_of s) ++ (verdict_line f v ++ paragraphs f (state_at plan a).phases (shown_of v) ++ verdict_end f plan (state_at plan a).phases v))
             (sym stands);
         report_is = r.lines ∙ first_of_four (counts_line (counts_of r.standings)) (task_lines r.standings) r.cycle_text r.graph_text;
       }

@@ -11,7 +11,7 @@ use Rattle.armus_base.specs.Plans.{Plan}
 use Rattle.armus_base.specs.Runs.{state_after}
 use Rattle.armus_base.specs.States.{State}
 use Rattle.explain_deadlock.specs.declared.outcome.WaitVerdict.{WaitVerdict}
-use Rattle.explain_deadlock.specs.Hints.{verdict_hint}
+use Rattle.explain_deadlock.specs.Notes.{verdict_end}
 use Rattle.explain_deadlock.specs.ImpederLines.{group_line, rest_line}
 use Rattle.explain_deadlock.specs.Paragraphs.{lines_of_impeders, own_lines, tasks_of}
 use Rattle.explain_tasks.specs.Facts.{FactsValue, facts_of}
@@ -31,13 +31,13 @@ pub record NamesImpeders (f : FactsValue) (s : State) (tasks : List TaskId) (t :
   pub exact : (u : TaskId) → Contains (flat_map group told ++ rest) u ↔ WaitsForTask s t.0 u.0
 
 -- The lines have behind a front a paragraph for each of these things that are said, of the tasks of which it is said, none of them twice, and behind these a hint
--- at most. The tasks that are not done in the state, and no others, stand in one each, which is of tasks that stand alike; and it names those that keep them
+-- at most, or notes. The tasks that are not done in the state, and no others, stand in one each, which is of tasks that stand alike; and it names those that keep them
 -- waiting, if they wait.
 pub record TellsOfEach (f : FactsValue) (plan : Plan) (s : State) (lines : Text) : Type 0 where
   pub front : Text
   pub said : List Said
   pub lines_are : (v : WaitVerdict)
-      × (lines ≡ front ++ flat_map (λ x. own_lines f x (tasks_of f x) ++ lines_of_impeders f s.phases (tasks_of f x)) said ++ verdict_hint f s.phases v)
+      × (lines ≡ front ++ flat_map (λ x. own_lines f x (tasks_of f x) ++ lines_of_impeders f s.phases (tasks_of f x)) said ++ verdict_end f plan s.phases v)
   pub once : IsDistinct said
   pub told : (t : TaskId) → t.0 < length plan.parents → (end_of s t.0 ≡ Done → ⊥) → Contains said (own_said f t.0) × Contains (tasks_of f (own_said f t.0)) t
   pub only : (t : TaskId) (x : Said) → Contains (tasks_of f x) t → (x ≡ own_said f t.0) × (t.0 < length plan.parents) × (end_of s t.0 ≡ Done → ⊥)

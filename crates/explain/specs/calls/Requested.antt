@@ -3,6 +3,7 @@ use Rattle.std.specs.Prelude.{None, Option, Some, codes, if◌then◌else◌, op
 use Rattle.std.specs.Borrow.{Bor}
 use Rattle.std.specs.Str.{bytes_eq}
 use Rattle.program_io.specs.Texts.{Text}
+use Rattle.explain.specs.Legible.{told_name}
 use Rattle.explain.specs.Requests.{Asked, Form, avoided, clocks, explanation, form_of, help, nothing, steps, version}
 use Rattle.explain.specs.declared.answer.WantedOutput.{WantedOutput}
 use Rattle.explain.specs.declared.answer.WantedOutput.TheVariants.{Avoided, Clocks, Explanation, Steps}
@@ -17,6 +18,14 @@ file_bytes file = option_map (λ f. f.now) file
 -- the form in which a text is told of, by the name of its file, where there is one
 abbrev pub form_with : Option (Bor Text) → Extent → Form
 form_with file extent = form_of extent (file_bytes file)
+
+-- the name of a file as it is told, if there is one
+abbrev pub told_file : Option (Bor Text) → Option Text
+told_file file = option_map (λ f. told_name f.now) file
+
+-- the form in which a text is told of that is read from this file, if one is named
+abbrev pub form_named : Option (Bor Text) → Extent → Form
+form_named file extent = form_of extent (told_file file)
 
 -- what a word asks for of a text, if it does
 abbrev pub wanted_by_word : Text → Option WantedOutput
@@ -35,7 +44,7 @@ asked_for Clocks form = clocks form
 
 -- what the request asks for
 abbrev pub requested : request.Request → Asked
-requested (r.Text wanted extent file) = asked_for wanted (form_with file extent)
+requested (r.Text wanted extent file) = asked_for wanted (form_named file extent)
 requested r.Help = help
 requested r.Version = version
 requested r.Usage = nothing

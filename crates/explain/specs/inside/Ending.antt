@@ -13,6 +13,7 @@ use Rattle.explain.specs.declared.answer.ClockWanted as clocks_wanted
 use Rattle.explain.specs.declared.answer.ClockWanted.TheVariants as c
 use Rattle.explain.specs.declared.answer.PlWanted as pl
 use Rattle.explain.specs.declared.answer.PlWanted.TheVariants as p
+use Rattle.explain.specs.Legible.{legible}
 use Rattle.explain.specs.Outputs.{AnswersAvoided, AnswersEither, AnswersStepsIn, AnswersStepsOf, AnswersText, MayWrite}
 use Rattle.explain.specs.Refused.{IsRefusedWith}
 use Rattle.explain.specs.Requests.{Form}
@@ -44,6 +45,15 @@ IsAnswerTo Explanation form text answer = AnswersEither form text (number_of_sta
 IsAnswerTo Steps form text answer = AnswersStepsOf form text (number_of_status answer.status) answer.lines
 IsAnswerTo Avoided form text answer = AnswersAvoided form text (number_of_status answer.status) answer.lines
 IsAnswerTo Clocks form text answer = AnswersClock form text (number_of_status answer.status) answer.lines
+
+-- it is what is written of this output, with its status
+pub record IsWrittenOf (whole answer : Answer) : Type 0 where
+  pub lines : answer.lines ≡ legible whole.lines
+  pub status : answer.status ≡ whole.status
+
+-- it is what is written of a whole output for this text, of which this is wanted
+abbrev pub IsWrittenAnswerTo : WantedOutput → Form → Text → Answer → Type 0
+IsWrittenAnswerTo wanted form text answer = (whole : Answer) × IsAnswerTo wanted form text whole × IsWrittenOf whole answer
 
 -- it is a whole output for what the source gave, which did not fail
 abbrev pub AnswersSource : WantedOutput → Form → Passage → Answer → Type 0

@@ -43,6 +43,12 @@ explain_facts-requires c =
     c.in_ok-outline.ensures.stand in
     record {
       fits = subst (λ (g : FactsValue). FactsFitPlan g plan) (sym c.new-facts.ensures) (fits_plan plan a f at);
+      plan = c.plan-plan.ensures.plan;
+      text = record {
+        text = ap (λ (g : FactsValue). g.text) c.new-facts.ensures;
+        file = ap (λ (g : FactsValue). g.file) c.new-facts.ensures;
+        account = ap (λ (g : FactsValue). g.account) c.new-facts.ensures;
+      };
       wait =
           subst (λ (g : FactsValue). WaitForSome g (state_of c.args.world.now).phases) (sym c.new-facts.ensures) (waits_for_some plan a f at c.requires.rest);
     }
@@ -60,7 +66,7 @@ returns c =
     facts_at plan a f c.args.end.now c.in_ok-outline.outline.standings c.requires.account c.plan-plan.ensures.reachable c.requires.end c.as_slice.ensures.items
     c.in_ok-outline.ensures.stand in
     IfOk-weaker c.explain_facts.result
-    (λ (e : Explanation). Explains c.new-facts.result s.phases counts e.lines e.has_waiting)
+    (λ (e : Explanation). Explains c.new-facts.result plan s.phases counts e.lines e.has_waiting)
     (λ (e : Explanation). IsExplanationAt file c.args.places.now plan a e.lines e.has_waiting)
     (λ e is. record {
       account = c.args.account.now;
@@ -69,9 +75,9 @@ returns c =
         standings = c.as_slice.result.now;
         stand = at.stand;
         explains =
-            subst (λ (t : List ℕ). Explains f s.phases t e.lines e.has_waiting)
+            subst (λ (t : List ℕ). Explains f plan s.phases t e.lines e.has_waiting)
             (c.in_ok-outline.ensures.counts ∙ ap (λ (ss : List Standing). counts_line (counts_of ss)) (sym c.as_slice.ensures.items))
-            (subst (λ (g : FactsValue). Explains g s.phases counts e.lines e.has_waiting) c.new-facts.ensures is);
+            (subst (λ (g : FactsValue). Explains g plan s.phases counts e.lines e.has_waiting) c.new-facts.ensures is);
       };
     })
     c.explain_facts.ensures
