@@ -21,3 +21,4 @@ pub mod RefusalsTold
 pub mod OpsByVisits
 pub mod ToldByOps
 pub mod CountedTurns
+pub mod ClocksByMoves
