@@ -22,3 +22,4 @@ pub mod OpsByVisits
 pub mod ToldByOps
 pub mod CountedTurns
 pub mod ClocksByMoves
+pub mod WaitsByMoves

@@ -15,5 +15,6 @@ pub mod OpOrigins
 pub mod OpTurns
 pub mod MovesMade
 pub mod ClocksTold
+pub mod WaitsTold
 -- Words of contracts further down, which no promise of a program needs.
 pub mod calls
