@@ -4,7 +4,7 @@ use Rattle.std.specs.List.{flat_map, slice_get}
 use Rattle.std.proofs.lemmas.List.{length-append}
 use Rattle.std.proofs.lemmas.Grind.{flat_map-append}
 use Rattle.std.proofs.lemmas.Option.{get_or_from_slice_get, slice_get_within}
-use Rattle.armus_base.proofs.Lists.{slice_get-append, slice_get-behind, some_at}
+use Rattle.armus_base.proofs.Lists.{slice_get-behind, some_at}
 use Rattle.clock_syntax.specs.Trees.{ClockTree, advance, clock, drop, resume, skip}
 use Rattle.clock_semantics.specs.Moves.{Move, advances, begins, drops, ends, made_by, made_of, opens, resumes, starts, stops}
 use Rattle.clock_semantics.specs.Unfolding.{ClockComing, ClockPart, ClockStart, ClockUnfolding, a_close, a_finish, a_loop, a_plain, a_turn, an_async, clock_unfolded, coming}
@@ -16,10 +16,9 @@ use Rattle.clock_source_map.specs.ClockOps.{makes_move, moving_comings}
 use Rattle.clock_source_map.specs.ClockOrigins.{MadeThing, StartedActivity, all_begun, all_things, begun_by, comings_by, made_thing_at, things_in}
 use Rattle.clock_source_map.specs.calls.Laws.{AreMovesAt, IsMoveAt}
 use Rattle.clock_source_map.proofs.AllOrigins.{begun_many}
-use Rattle.clock_source_map.proofs.MovesOf.{moves_come, moves_many, starts_many}
+use Rattle.clock_source_map.proofs.MovesOf.{moves_come, moves_many}
 use Rattle.clock_source_map.proofs.NotedMoves.{moving_more}
 use Rattle.report_laws.specs.ClocksTold.{AreToldOfMove, ClocksAreToldByTheirMoves}
-use Rattle.report_laws.specs.MovesMade.{MakesMoveAt}
 
 -- ---- one move
 

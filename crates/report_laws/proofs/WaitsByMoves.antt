@@ -1,5 +1,5 @@
 -- The ops of each move of an activity come from the statement at which the move is made.
-use Rattle.std.proofs.Common.{◌≡◌, ℕ, zero, suc, ◌+◌, ◌-◌, ◌<◌, ◌≤◌, true, Option, Some, None, Ok, List, [], ◌∷◌, ◌++◌, length, map, take, append-nil, arith, refl, sym, ap, subst, ◌∙◌}
+use Rattle.std.proofs.Common.{◌≡◌, ℕ, zero, suc, ◌+◌, ◌-◌, ◌<◌, ◌≤◌, Option, Some, None, Ok, List, [], ◌∷◌, ◌++◌, length, map, take, arith, refl, sym, ap, ◌∙◌}
 use Rattle.std.specs.Prelude.{count_by, replicate, slice_index_or}
 use Rattle.std.specs.List.{slice_get, zip}
 use Rattle.std.proofs.lemmas.List.{length-append, length-map}
@@ -15,8 +15,7 @@ use Rattle.clock_source_map.proofs.AllOrigins.{begun_many, pair_at}
 use Rattle.clock_source_map.proofs.AwaitOrigins.{awaits_come_from_waits}
 use Rattle.clock_source_map.proofs.MovesOf.{moves_many}
 use Rattle.report_laws.proofs.ClocksByMoves.{begun_at}
-use Rattle.report_laws.specs.MovesMade.{MakesMoveAt}
-use Rattle.report_laws.specs.WaitsTold.{IsOpOfMove, OpsAreToldByTheirMoves, WaitsAreToldByTheirMoves}
+use Rattle.report_laws.specs.WaitsTold.{OpsAreToldByTheirMoves, WaitsAreToldByTheirMoves}
 
 -- ---- the ops of one activity
 
