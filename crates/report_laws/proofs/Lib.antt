@@ -21,3 +21,5 @@ pub mod RefusalsTold
 pub mod OpsByVisits
 pub mod ToldByOps
 pub mod CountedTurns
+pub mod ClocksByMoves
+pub mod WaitsByMoves

@@ -13,5 +13,8 @@ pub mod ToldTasks
 pub mod RefusalsTold
 pub mod OpOrigins
 pub mod OpTurns
+pub mod MovesMade
+pub mod ClocksTold
+pub mod WaitsTold
 -- Words of contracts further down, which no promise of a program needs.
 pub mod calls

@@ -6,6 +6,7 @@
 
 mod agreement;
 mod answers;
+mod clock_origins;
 mod explanations;
 mod origins;
 mod reports;
@@ -15,6 +16,7 @@ pub use agreement::{
     steps_end_as_explained, who_gains_and_pays,
 };
 pub use answers::{live_tells_as_run, one_answer, printing_keeps_meaning, texts_go_by_plan};
+pub use clock_origins::{clocks_come_from_what_is_told, waits_come_from_what_is_told};
 pub use explanations::{each_task_is_told, refusals_are_so};
 pub use origins::{ops_come_from_what_is_told, turns_are_counted};
 pub use reports::{cycle_is_proof, held_tasks_have_end, stand_as_reported};
