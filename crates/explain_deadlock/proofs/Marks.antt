@@ -1,6 +1,7 @@
 -- Which phasers the ops use, found op by op.
 use Rattle.std.proofs.Common.{◌≡◌, ◌∙◌, ◌+◌, ◌++◌, ◌<◌, ◌||◌, ℕ, suc, Bool, true, false, List, [], ◌∷◌, ap, append_assoc, arith, length, refl, replicate, slice_index_or, sym}
 use Rattle.std.proofs.lemmas.List.{get_or-replicate, get_or_default, length-replicate}
+use Rattle.std.specs.List.{list_any}
 use Rattle.armus_base.specs.declared.op.Op.{Op}
 use Rattle.armus_base.specs.Places.{some_before}
 use Rattle.armus_base.specs.Plans.{Plan, code_of}
