@@ -6,7 +6,7 @@ use explain::{Request, explain, request_of, written_name};
 use std::alloc::Global;
 use std::env::FillError;
 use std::fs::File;
-use std::io::{self, Eprint, ErrorKind, Read};
+use std::io::{Eprint, ErrorKind, Read};
 use std::process::ExitCode;
 use std::rt::Env;
 use std::str;
@@ -53,22 +53,13 @@ fn tell(rt: &HostRuntime, name: &[u8]) {
     }
 }
 
-// Opens a file with a name that may be any bytes: one that is not UTF-8 by the number under which the system has it open.
-fn open(rt: &HostRuntime, name: &[u8]) -> io::Result<File> {
-    if let Ok(name) = str::from_utf8(name) {
-        return File::open(rt, name);
-    }
-    let number = os::open_read(name);
-    if number < 0 {
-        return Err(io::Error::from(ErrorKind::NotFound));
-    }
-    let path = format!(in rt.alloc(); "/proc/self/fd/{number}")?;
-    File::open(rt, path.as_str())
-}
-
-// Explains the text of a file.
+// Explains the text of a file. None with a name that is not UTF-8 can be opened.
 fn explain_file(rt: &HostRuntime, words: &[List<u8>], name: &[u8]) -> u8 {
-    match open(rt, name) {
+    let Ok(path) = str::from_utf8(name) else {
+        tell(rt, name);
+        return 4;
+    };
+    match File::open(rt, path) {
         Ok(file) => explain_from(rt, words, name, file),
         Err(e) if e.kind() == ErrorKind::OutOfMemory => 6,
         Err(_) => {
