@@ -24,6 +24,7 @@ mod run_limits;
 mod standard;
 mod status;
 mod status_list;
+mod words;
 mod write;
 
 pub use code::Code;
@@ -54,4 +55,5 @@ pub use run_limits::{MAX_SITES, MAX_WORKERS};
 pub use standard::{StdSink, StdSource};
 pub use status::{Dead, Member, Status};
 pub use status_list::{ShowsTasks, list_statuses};
+pub use words::{put_number, put_words};
 pub use write::{Writes, write_text};

@@ -10,9 +10,9 @@ ghost use Rattle.explain_avoid.specs.calls.AvoidedRuns.{IsExplainedRun};
 ghost use Rattle.explain_avoid.specs.AvoidedWords.{avoided_words, has_some, was_refused, waits_at_the_end, refused_line, somebody_stays, tasks_with, waiting_line};
 
 use crate::avoiding::AvoidedRun;
-use armus_base::{List, NoMemory, TaskId};
+use armus_base::{List, NoMemory, TaskId, put_words};
 use explain_deadlock::put_paragraphs;
-use explain_facts::{Account, put_words};
+use explain_facts::Account;
 use explain_tasks::{Facts, passing_below, put_by_number, task_standing};
 use report::{Outline, Standing, outline_of};
 use source_map::TextPlaces;

@@ -6,7 +6,7 @@ ghost use Rattle.explain_check.specs.NameWords.{phaser_words, task_words};
 
 use crate::names::{put_phaser, put_task};
 use crate::scene::{Matter, NamedPhaser, NamedTask, Verb};
-use armus_base::NoMemory;
+use armus_base::{NoMemory, put_words};
 use explain_syntax::put_quoted;
 use std::alloc::Global;
 
@@ -126,14 +126,6 @@ fn put_cells(alloc: Global, out: &mut Vec<u8>, tasks: u32, phasers: u32) -> Resu
 {
     put_many(alloc, out, tasks, phasers)?;
     out.extend_from_slice(b": the tasks times one more than the phasers may be at most 1048576")?;
-    Ok(())
-}
-
-// Words that name nothing.
-fn put_words(out: &mut Vec<u8>, words: &[u8]) -> Result<(), NoMemory>
-    ensures { OnOk result (out.new.items ≡ out.old.items ++ (words.now)) }
-{
-    out.extend_from_slice(words)?;
     Ok(())
 }
 

@@ -1,83 +1,22 @@
 // Lists of activities, as they are written.
-ghost use Rattle.std.specs.Prelude.{◌≡◌, ◌==◌, ◌+◌, ◌++◌, IfOk, OnOk, flat_map};
+ghost use Rattle.std.specs.Prelude.{◌≡◌, ◌++◌, IfOk, OnOk};
 ghost use Rattle.explain_clock.specs.ActivityLists.{activity_list, number_item, number_items};
-ghost use Rattle.explain_tasks.specs.TaskLists.{items_of, runs_of, separator};
+ghost use Rattle.explain_tasks.specs.TaskLists.{separator};
 
-use crate::words::put_number;
-use armus_base::{NoMemory, TaskId};
-use explain_facts::put_words;
-use explain_tasks::{Run, put_by_number, separator};
+use armus_base::{NoMemory, TaskId, put_number, put_words};
+use explain_tasks::{Run, list_items, put_by_number, separator};
 use std::alloc::Global;
-
-// Whether b is the number behind a.
-fn is_behind(b: u32, a: u32) -> bool
-    ensures { result ≡ (b == a + 1) }
-{
-    b > 0 && b - 1 == a
-}
-
-// The run of one activity.
-fn run_of(t: TaskId) -> Run
-    ensures { result ≡ record { from = t.0; to = t.0 } }
-{
-    Run { from: t.0, to: t.0 }
-}
-
-// The runs of consecutive numbers of an ascending list.
-fn runs_of(alloc: Global, activities: &[TaskId]) -> Result<Vec<Run>, NoMemory>
-    ensures { IfOk result (λ v. v.items ≡ runs_of activities.now) }
-{
-    let mut runs = Vec::new(alloc);
-    let [first, rest @ ..] = activities else {
-        return Ok(runs);
-    };
-    let mut run = run_of(*first);
-    for t in rest {
-        if is_behind(t.0, run.to) {
-            run.to = t.0;
-        } else {
-            runs.push(run)?;
-            run = run_of(*t);
-        }
-    }
-    runs.push(run)?;
-    Ok(runs)
-}
-
-// Appends the items of a run.
-fn add_items(items: &mut Vec<Run>, run: Run) -> Result<(), NoMemory>
-    ensures { OnOk result (items.new.items ≡ items.old.items ++ items_of run) }
-{
-    if is_behind(run.to, run.from) {
-        items.push(run_of(TaskId(run.from)))?;
-        items.push(run_of(TaskId(run.to)))?;
-    } else {
-        items.push(run)?;
-    }
-    Ok(())
-}
-
-// The items of runs.
-fn items_of_runs(alloc: Global, runs: &[Run]) -> Result<Vec<Run>, NoMemory>
-    ensures { IfOk result (λ v. v.items ≡ flat_map items_of runs.now) }
-{
-    let mut items = Vec::new(alloc);
-    for run in runs {
-        add_items(&mut items, *run)?;
-    }
-    Ok(items)
-}
 
 // Appends an item.
 fn put_item(alloc: Global, out: &mut Vec<u8>, run: Run) -> Result<(), NoMemory>
     ensures { OnOk result (out.new.items ≡ out.old.items ++ number_item run) }
 {
-    put_number(alloc, out, run.from as usize)?;
+    put_number(alloc, out, run.from as u64)?;
     if run.from == run.to {
         return Ok(());
     }
     put_words(out, b" to ")?;
-    put_number(alloc, out, run.to as usize)
+    put_number(alloc, out, run.to as u64)
 }
 
 // Appends item k of n, and what stands before it.
@@ -109,8 +48,7 @@ fn put_activities(alloc: Global, out: &mut Vec<u8>, activities: &[TaskId]) -> Re
     ensures { OnOk result (out.new.items ≡ out.old.items ++ activity_list activities.now) }
 {
     put_by_number(out, activities.len(), b"activity ", b"activities ")?;
-    let runs = runs_of(alloc, activities)?;
-    let items = items_of_runs(alloc, &runs)?;
+    let items = list_items(alloc, activities)?;
     put_items(alloc, out, &items)
 }
 

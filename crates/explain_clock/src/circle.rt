@@ -7,8 +7,7 @@ ghost use Rattle.explain_clock.specs.ClockCircles.{IsClockCircle, waiting_place_
 use crate::facts::ClockFacts;
 use crate::text_facts::ClockTextFacts;
 use adaptive::dead_of;
-use armus_base::{List, NoMemory, Status, TaskId};
-use explain_facts::put_words;
+use armus_base::{List, NoMemory, Status, TaskId, put_words};
 use std::alloc::Global;
 use verdict::cycle;
 

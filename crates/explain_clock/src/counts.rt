@@ -2,9 +2,7 @@
 ghost use Rattle.std.specs.Prelude.{◌≡◌, ◌++◌, OnOk, count_by};
 ghost use Rattle.explain_clock.specs.ClockExplanations.{ended_counts, is_ended, is_unstarted, waits_there, some_activity_waits, waiting_counts};
 
-use crate::words::put_number;
-use armus_base::{NoMemory, TaskEnd};
-use explain_facts::put_words;
+use armus_base::{NoMemory, TaskEnd, put_number, put_words};
 use std::alloc::Global;
 
 // It waits.
@@ -53,9 +51,9 @@ fn put_ended(alloc: Global, out: &mut Vec<u8>, ends: &[TaskEnd]) -> Result<(), N
     ensures { OnOk result (out.new.items ≡ out.old.items ++ ended_counts ends.now) }
 {
     put_words(out, b"activities ")?;
-    put_number(alloc, out, ends.len())?;
+    put_number(alloc, out, ends.len() as u64)?;
     put_words(out, b" ended ")?;
-    put_number(alloc, out, count_ended(ends))?;
+    put_number(alloc, out, count_ended(ends) as u64)?;
     Ok(())
 }
 

@@ -2,8 +2,7 @@
 ghost use Rattle.std.specs.Prelude.{◌≡◌, ◌++◌, OnOk};
 ghost use Rattle.explain_clock.specs.ClockKeepers.{others_line};
 
-use armus_base::NoMemory;
-use explain_facts::put_words;
+use armus_base::{NoMemory, put_words};
 use std::alloc::Global;
 
 /// How many lines are written.

@@ -4,9 +4,8 @@ ghost use Rattle.explain_clock.specs.ClockMends.{mend_before_words, clock_circle
 
 use crate::facts::ClockFacts;
 use crate::text_facts::ClockTextFacts;
-use armus_base::{NoMemory, PhaserId, TaskEnd, TaskId};
+use armus_base::{NoMemory, PhaserId, TaskEnd, TaskId, put_words};
 use clock_source_map::ClockThing;
-use explain_facts::put_words;
 use explain_tasks::put_kept;
 
 // Appends how one may signal on a clock that is pending there or not.

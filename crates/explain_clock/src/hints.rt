@@ -1,51 +1,13 @@
 // A hint below the line of a syntax fault.
-ghost use Rattle.std.specs.Prelude.{◌≡◌, ◌≤◌, ◌++◌, OnOk, length, option_map};
-ghost use Rattle.std.specs.List.{prefix_len};
+ghost use Rattle.std.specs.Prelude.{◌≡◌, ◌++◌, OnOk, option_map};
 ghost use Rattle.std.specs.Str.{bytes_eq};
-ghost use Rattle.pl_syntax.specs.Tokens.{word_of};
-ghost use Rattle.pl_syntax.specs.Words.{is_word_byte};
-ghost use Rattle.explain_syntax.specs.QuotedWords.{spelled};
 ghost use Rattle.explain_syntax.specs.SyntaxRefusals.{hint_line};
 ghost use Rattle.explain_syntax.specs.Hints.{first_fit};
 ghost use Rattle.explain_clock.specs.ClockHints.{clock_hint, is_async_open, is_body, clock_stand_hints, clock_token_hints};
 
 use crate::stand::ClockStand;
-use armus_base::NoMemory;
-use explain_facts::put_words;
+use armus_base::{NoMemory, put_words};
 use pl_syntax::{CANNOT_STAND, NO_TOKEN};
-
-// A letter, a digit or `_`.
-fn is_word_byte(b: u8) -> bool
-    ensures { result ≡ is_word_byte b }
-{
-    matches!(b, b'a'..=b'z' | b'A'..=b'Z' | b'0'..=b'9' | b'_')
-}
-
-// How long the run of letters, digits and _ at the front is.
-fn word_len(text: &[u8]) -> usize
-    ensures len { result ≡ prefix_len is_word_byte text.now }
-    ensures within { result ≤ length text.now }
-{
-    text.iter().take_while(|b| is_word_byte(**b)).count()
-}
-
-// The longest run of letters, digits and _ at the front.
-fn word_of(text: &[u8]) -> &[u8]
-    ensures { result.now ≡ word_of text.now }
-{
-    &text[..word_len(text)]
-}
-
-/// The word at the front of a text, or its first byte where that is none of a word.
-pub(crate) fn spelled(text: &[u8]) -> &[u8]
-    ensures { result.now ≡ spelled text.now }
-{
-    match text {
-        [] => text,
-        [b, ..] if is_word_byte(*b) => word_of(text),
-        [_, ..] => &text[..1],
-    }
-}
 
 // Whether both are one word.
 fn is_word(word: &[u8], other: &[u8]) -> bool

@@ -10,8 +10,8 @@ use crate::facts::{ClockFacts, NextMove};
 use crate::few_lines::{FEW_LINES, put_more};
 use crate::text_facts::ClockTextFacts;
 use crate::together::{ActivityTold, add_sayings, count_others, those_said};
-use armus_base::{Event, Member, NoMemory, PhaserId, Status, TaskId};
-use explain_facts::{Doing, put_words};
+use armus_base::{Event, Member, NoMemory, PhaserId, Status, TaskId, put_words};
+use explain_facts::Doing;
 use explain_tasks::{push_if, put_by_number};
 
 // Whether this is a phase of that clock or finish, and below the phase that is waited for.

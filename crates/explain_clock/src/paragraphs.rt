@@ -10,10 +10,8 @@ use crate::facts::ClockFacts;
 use crate::kept_lines::Kept;
 use crate::text_facts::ClockTextFacts;
 use crate::together::{ActivityTold, add_sayings, those_said};
-use crate::words::put_number;
-use armus_base::{Event, NoMemory, TaskEnd, TaskId};
+use armus_base::{Event, NoMemory, TaskEnd, TaskId, put_number, put_words};
 use clock_source_map::{ClockBegun, ClockThing};
-use explain_facts::put_words;
 use explain_tasks::{passing_below, put_by_number};
 
 // The statement that starts an activity, if there is one.
@@ -44,7 +42,7 @@ impl<'a> ClockTextFacts<'a> {
             b" waits at its advance for phase ",
             b" wait at their advance for phase ",
         )?;
-        put_number(self.alloc, out, event.n as usize)?;
+        put_number(self.alloc, out, event.n as u64)?;
         put_words(out, b" of ")?;
         self.put_clock(out, x, s)
     }

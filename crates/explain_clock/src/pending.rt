@@ -9,9 +9,8 @@ ghost use Rattle.explain_clock.specs.inside.FewLines.{AddsLines};
 use crate::facts::ClockFacts;
 use crate::few_lines::{FEW_LINES, put_more};
 use crate::text_facts::ClockTextFacts;
-use armus_base::{Event, NoMemory, PhaserId};
+use armus_base::{Event, NoMemory, PhaserId, put_words};
 use clock_source_map::ClockThing;
-use explain_facts::put_words;
 
 impl<'a> ClockTextFacts<'a> {
     // Appends the line of a clock of this name, made at statement `n`.

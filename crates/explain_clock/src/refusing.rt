@@ -9,14 +9,13 @@ ghost use Rattle.clock_syntax.specs.Grammar.{IsClockText};
 ghost use Rattle.clock_source_map.specs.ClockOffsets.{clock_offsets};
 ghost use Rattle.explain_clock.specs.ClockRefusals.{cannot_stand_words, clock_fault_lines, clock_numbers, clock_syntax_lines, fault_lines, fault_words, rest_at, syntax_words, wanted_tokens};
 
-use crate::hints::{hint_of, put_hint, spelled};
+use crate::hints::{hint_of, put_hint};
 use crate::stand::{ClockStand, stand_in_front};
 use crate::words::offset_of;
-use armus_base::{List, NoMemory};
+use armus_base::{List, NoMemory, put_words};
 use clock_source_map::clock_offsets;
 use clock_syntax::ClockProgram;
-use explain_facts::put_words;
-use explain_syntax::{put_line_and_caret, put_quoted};
+use explain_syntax::{put_line_and_caret, put_quoted, spelled};
 use pl_syntax::{CANNOT_STAND, NO_NUMBER, NO_TOKEN, SyntaxFault, TOO_DEEP};
 use source_map::TextPlaces;
 use std::alloc::Global;

@@ -3,20 +3,10 @@ ghost use Rattle.std.specs.Prelude.{◌≡◌, ◌++◌, ℕ, List, OnOk, decima
 ghost use Rattle.explain_clock.specs.ClockWords.{activity_words, async_words, front_of, made_clock_words, made_finish_words, offset_of, statement_place_words, started_at_words, started_words, clock_statement_place};
 
 use crate::text_facts::ClockTextFacts;
-use armus_base::NoMemory;
+use armus_base::{NoMemory, put_number, put_words};
 use clock_source_map::ClockBegun;
-use explain_facts::put_words;
 use source_map::TextPlace;
 use std::alloc::Global;
-
-// Appends a number.
-pub(crate) fn put_number(alloc: Global, out: &mut Vec<u8>, number: usize) -> Result<(), NoMemory>
-    ensures { OnOk result (out.new.items ≡ out.old.items ++ decimal number) }
-{
-    let text = format!(in alloc; "{number}")?;
-    out.extend_from_slice(text.as_bytes())?;
-    Ok(())
-}
 
 // The offset of statement `n`, or that of the end of a text of so many bytes.
 pub(crate) fn offset_of(offsets: &[u32], end: u32, n: u32) -> u32
@@ -94,7 +84,7 @@ impl<'a> ClockTextFacts<'a> {
         ensures { OnOk result (out.new.items ≡ out.old.items ++ activity_words self.now t) }
     {
         put_words(out, b"activity ")?;
-        put_number(self.alloc, out, t as usize)?;
+        put_number(self.alloc, out, t as u64)?;
         self.put_started_at(out, t)
     }
 

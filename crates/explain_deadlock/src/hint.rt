@@ -7,8 +7,8 @@ ghost use Rattle.explain_deadlock.specs.Hints.{awaited_phaser_words, before_fork
 ghost use Rattle.pl_core.specs.calls.Worlds.{state_of};
 
 use crate::outcome::WaitVerdict;
-use armus_base::{NoMemory, Phase, PhaserId, TaskId};
-use explain_facts::{Account, Drawn, Forked, NextOp, Waiting, put_number, put_words};
+use armus_base::{NoMemory, Phase, PhaserId, TaskId, put_number, put_words};
+use explain_facts::{Account, Drawn, Forked, NextOp, Waiting};
 use explain_tasks::{Facts, Impeder, Situation, is_waiting};
 use pl_core::World;
 use source_map::TextPlace;
@@ -88,7 +88,7 @@ fn put_more(alloc: Global, out: &mut Vec<u8>, n: u32) -> Result<(), NoMemory>
     if n == 1 {
         return put_words(out, b"once more");
     }
-    put_number(alloc, out, n)?;
+    put_number(alloc, out, u64::from(n))?;
     put_words(out, b" more times")
 }
 
@@ -293,7 +293,7 @@ fn put_for_event(facts: &Facts, out: &mut Vec<u8>, wait: &Waiting) -> Result<(),
     ensures { OnOk result (out.new.items ≡ out.old.items ++ for_event_words facts.now wait.now) }
 {
     put_words(out, b" for phase ")?;
-    put_number(facts.alloc(), out, wait.event.n)?;
+    put_number(facts.alloc(), out, u64::from(wait.event.n))?;
     put_words(out, b" of ")?;
     facts.put_named_phaser(out, wait.event.p)
 }
@@ -303,7 +303,7 @@ fn put_own_phase(alloc: Global, out: &mut Vec<u8>, wait: &Waiting) -> Result<(),
     ensures { OnOk result (out.new.items ≡ out.old.items ++ own_phase_words wait.now) }
 {
     put_words(out, b", and has phase ")?;
-    put_number(alloc, out, wait.phase)?;
+    put_number(alloc, out, u64::from(wait.phase))?;
     put_words(out, b" itself: let it arrive first, or look less far ahead")
 }
 

@@ -9,8 +9,8 @@ ghost use Rattle.explain_tasks.specs.Places.{said_of};
 ghost use Rattle.pl_core.specs.calls.Worlds.{state_of};
 ghost use Rattle.explain_tasks.specs.calls.SayingValues.{forking_said, said_by};
 
-use armus_base::{NoMemory, TaskId};
-use explain_facts::{Forked, put_number, put_words};
+use armus_base::{NoMemory, TaskId, put_number, put_words};
+use explain_facts::Forked;
 use explain_tasks::{Facts, ForkingWords, Impeder, Saying, put_by_number, put_kept};
 use pl_core::World;
 use std::alloc::Global;
@@ -35,7 +35,7 @@ fn put_phase_of(alloc: Global, out: &mut Vec<u8>, phase: Option<u32>) -> Result<
     ensures { OnOk result (out.new.items ≡ out.old.items ++ said_of decimal phase) }
 {
     match phase {
-        Some(phase) => put_number(alloc, out, phase),
+        Some(phase) => put_number(alloc, out, u64::from(phase)),
         None => Ok(()),
     }
 }

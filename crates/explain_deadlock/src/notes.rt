@@ -4,8 +4,8 @@ ghost use Rattle.explain_deadlock.specs.Notes.{alone_words, awaiting, is_on_phas
 ghost use Rattle.explain_deadlock.specs.inside.Fitting.{IsTextOf};
 ghost use Rattle.explain_deadlock.specs.inside.Used.{HaveMarks, AreUsed, some_op};
 
-use armus_base::{Cursor, NoMemory, Op, PhaserId, Plan, TaskId};
-use explain_facts::{Account, put_words};
+use armus_base::{Cursor, NoMemory, Op, PhaserId, Plan, TaskId, put_words};
+use explain_facts::Account;
 use explain_tasks::Facts;
 use source_map::TextPlaces;
 use std::alloc::Global;

@@ -12,8 +12,7 @@ ghost use Rattle.explain_tasks.specs.calls.SayingValues.{said_by};
 
 use crate::impeder_lines::{put_forking, put_impeders};
 use crate::numbers::numbers_of;
-use armus_base::{NoMemory, TaskId};
-use explain_facts::put_words;
+use armus_base::{NoMemory, TaskId, put_words};
 use explain_tasks::{
     Facts, Grouping, Saying, is_waiting, never_forked, passing_below, put_by_number, put_kept,
 };

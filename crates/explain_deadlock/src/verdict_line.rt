@@ -8,8 +8,7 @@ ghost use Rattle.explain_deadlock.specs.VerdictWords.{circle_words, walk_end_wor
 
 use crate::outcome::WaitVerdict;
 use crate::walk::least_dead;
-use armus_base::{NoMemory, TaskId};
-use explain_facts::put_words;
+use armus_base::{NoMemory, TaskId, put_words};
 use explain_tasks::{Facts, Situation, is_deadlocked, is_waiting};
 
 // Appends a shown task that stands so.

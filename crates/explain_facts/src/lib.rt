@@ -19,4 +19,4 @@ pub use laws::{
     account_exists, forkers_fork, one_account, statements_have_places, tasks_are_of_text,
 };
 pub use names::{GivenName, GivenNames};
-pub use words::{put_await, put_number, put_words};
+pub use words::put_await;

@@ -12,8 +12,8 @@ ghost use Rattle.explain_facts.specs.calls.Known.{AreKnownFacts};
 ghost use Rattle.explain_steps.specs.inside.SoFar.{IsNoAwait};
 
 use crate::words::{put_phaser, put_task};
-use armus_base::{Event, NoMemory, Op, Phase, PhaserId, Plan, TaskId};
-use explain_facts::{TextFacts, put_number, put_words};
+use armus_base::{Event, NoMemory, Op, Phase, PhaserId, Plan, TaskId, put_number, put_words};
+use explain_facts::TextFacts;
 use pl_core::{Stand, World};
 use std::alloc::Global;
 
@@ -54,7 +54,7 @@ pub fn put_with_phase(
     match phase {
         Some(n) => {
             put_words(out, b" with phase ")?;
-            put_number(alloc, out, n)?;
+            put_number(alloc, out, u64::from(n))?;
             Ok(())
         }
         None => Ok(()),
@@ -73,9 +73,9 @@ pub fn put_phase_change(
     match phase {
         Some(n) => {
             put_words(out, b"phase ")?;
-            put_number(alloc, out, n)?;
+            put_number(alloc, out, u64::from(n))?;
             put_words(out, b" to ")?;
-            put_number(alloc, out, n + 1)
+            put_number(alloc, out, u64::from(n + 1))
         }
         None => Ok(()),
     }
@@ -87,7 +87,7 @@ fn put_waits(facts: &TextFacts<'_>, out: &mut Vec<u8>, event: Event) -> Result<(
     ensures { OnOk result (out.new.items ≡ out.old.items ++ waits_words facts.now.program.now (Some event)) }
 {
     put_words(out, b"waits for phase ")?;
-    put_number(facts.alloc, out, event.n)?;
+    put_number(facts.alloc, out, u64::from(event.n))?;
     put_words(out, b" of ")?;
     put_phaser(facts, out, event.p)?;
     Ok(())

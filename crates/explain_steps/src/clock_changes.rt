@@ -13,9 +13,8 @@ ghost use Rattle.explain_steps.specs.ClockStepWords.{awaited_event_words, clock_
 
 use crate::changes::{put_phase_change, put_with_phase, ready_op};
 use crate::clock_facts::ClockOpFacts;
-use armus_base::{Event, NoMemory, Op, Phase, TaskId};
+use armus_base::{Event, NoMemory, Op, Phase, TaskId, put_number, put_words};
 use clock_source_map::ClockThing;
-use explain_facts::{put_number, put_words};
 use pl_core::{Stand, World};
 
 // The words with which an activity leaves a finish, by an op of this origin.
@@ -188,7 +187,7 @@ impl<'a> ClockOpFacts<'a> {
         ensures { OnOk result (out.new.items ≡ out.old.items ++ (codes "waits for phase " ++ decimal phase ++ codes " of " ++ made_clock_words self.now.of_text x.now n)) }
     {
         put_words(out, b"waits for phase ")?;
-        put_number(self.alloc, out, phase)?;
+        put_number(self.alloc, out, u64::from(phase))?;
         put_words(out, b" of ")?;
         self.of_text.put_clock(out, x, n)?;
         Ok(())

@@ -5,9 +5,8 @@ ghost use Rattle.explain_steps.specs.ClockStepWords.{behind_comma, clock_stateme
 ghost use Rattle.explain_steps.specs.calls.Known.{clock_part_of, known_ops};
 
 use crate::clock_facts::ClockOpFacts;
-use armus_base::{NoMemory, Op};
+use armus_base::{NoMemory, Op, put_words};
 use clock_syntax::{ClockName, ClockStmt};
-use explain_facts::put_words;
 
 // Appends a name behind others in a list.
 fn put_behind_comma(out: &mut Vec<u8>, x: &ClockName) -> Result<(), NoMemory>

@@ -14,8 +14,8 @@ ghost use Rattle.explain_steps.specs.inside.LeastEnabled.{IsLeastEnabled};
 ghost use Rattle.explain_steps.specs.inside.SoFar.{IsSoFar};
 
 use crate::telling::TellsSteps;
-use armus_base::{Final, List, NoMemory, Plan, TaskId};
-use explain_facts::{TextFacts, put_number, put_words};
+use armus_base::{Final, List, NoMemory, Plan, TaskId, put_number, put_words};
+use explain_facts::TextFacts;
 use pl_core::World;
 use pl_syntax::Program;
 use run_queue::{RunQueue, step_kind};
@@ -105,7 +105,7 @@ fn put_rest(alloc: Global, out: &mut Vec<u8>, rest: u32) -> Result<(), NoMemory>
         return Ok(());
     }
     put_words(out, b"and ")?;
-    put_number(alloc, out, rest)?;
+    put_number(alloc, out, u64::from(rest))?;
     put_words(out, b" more\n")
 }
 

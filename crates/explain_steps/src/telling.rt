@@ -5,8 +5,8 @@ ghost use Rattle.explain_steps.specs.calls.SteppedRuns.{HasNextLine};
 
 use crate::changes::put_change;
 use crate::words::{put_task, put_whence};
-use armus_base::{NoMemory, TaskId};
-use explain_facts::{TextFacts, put_number, put_words};
+use armus_base::{NoMemory, TaskId, put_number, put_words};
+use explain_facts::TextFacts;
 use pl_core::World;
 
 /// What is known of a text, by which each step of its run has a line.
@@ -49,7 +49,7 @@ impl<'a> TellsSteps for TextFacts<'a> {
         number: u32,
     ) -> Result<(), NoMemory> {
         let i = world.op(t);
-        put_number(self.alloc, out, number)?;
+        put_number(self.alloc, out, u64::from(number))?;
         put_words(out, b": ")?;
         put_task(self, out, t)?;
         put_words(out, b" at ")?;

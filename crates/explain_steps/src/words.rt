@@ -8,8 +8,8 @@ ghost use Rattle.explain_tasks.specs.Places.{said_of};
 ghost use Rattle.explain_steps.specs.StepWords.{made_phaser_words, statement_words, drawn_task_words, whence_words};
 ghost use Rattle.explain_facts.specs.calls.Known.{AreKnownFacts, kept_layout};
 
-use armus_base::{NoMemory, PhaserId, TaskId};
-use explain_facts::{TextFacts, put_await, put_words};
+use armus_base::{NoMemory, PhaserId, TaskId, put_words};
+use explain_facts::{TextFacts, put_await};
 use explain_tasks::{put_phaser_words, put_task_words};
 use pl_syntax::{Name, Stmt};
 use std::alloc::Global;

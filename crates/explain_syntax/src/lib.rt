@@ -22,4 +22,4 @@ pub use length::length_refusal;
 pub use stand::{Behind, GrammarStand};
 pub use syntax::syntax_refusal;
 pub use wanted::WantedTokens;
-pub use word::put_quoted;
+pub use word::{put_quoted, spelled};

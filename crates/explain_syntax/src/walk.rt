@@ -15,24 +15,10 @@ use crate::stand::{Behind, GrammarStand};
 use crate::wanted::WantedTokens;
 use armus_base::NoMemory;
 use pl_syntax::SyntaxFault;
-use pl_syntax::lexer::{next, place};
+use pl_syntax::lexer::{next, place, token_at};
 use pl_syntax::scan::{Language, Scan};
 use pl_syntax::token::{Sign, Token};
 use std::alloc::Global;
-
-// The next token, where there is one, and the bytes after it.
-fn token_at(scan: Scan, text: &[u8]) -> (Token, &[u8])
-    requires within { length text.now ≤ scan.total }
-    requires small { scan.total < 2 ^ 32 }
-    requires some { (token : TokenValue) × (rest : Seq ℕ) × (front scan text.now ≡ Ok (token, rest)) }
-    ensures exact { front scan text.now ≡ Ok (token_of result.0, result.1.now) }
-    ensures no_longer { length result.1.now ≤ length text.now }
-{
-    match next(scan, text) {
-        Ok(found) => found,
-        Err(_) => unreachable!(),
-    }
-}
 
 // Which name this token is.
 fn behind_of(token: &Token) -> Behind

@@ -33,7 +33,7 @@ fn word_of(text: &[u8]) -> &[u8]
 }
 
 /// The word at the front of a text, or its first byte where that is none of a word.
-pub(crate) fn spelled(text: &[u8]) -> &[u8]
+pub fn spelled(text: &[u8]) -> &[u8]
     ensures { result.now ≡ spelled text.now }
 {
     match text {

@@ -27,5 +27,5 @@ pub use parts::put_tasks_words;
 pub use passing::{least_below, passing_below, push_if};
 pub use saying::{ForkingWords, Saying};
 pub use situation::Situation;
-pub use task_lists::{Run, separator};
+pub use task_lists::{Run, list_items, separator};
 pub use words::{put_by_number, put_kept};

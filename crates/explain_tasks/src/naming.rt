@@ -5,8 +5,8 @@ ghost use Rattle.pl_syntax.specs.Words.{is_digit};
 ghost use Rattle.report.specs.Words.{task_word};
 ghost use Rattle.explain_tasks.specs.Names.{are_digits_alone, is_like_number, means_one, named_words, named_phaser_words, task_name, named_task_words};
 
-use armus_base::{NoMemory, PhaserId, TaskId};
-use explain_facts::{GivenName, GivenNames, put_words};
+use armus_base::{NoMemory, PhaserId, TaskId, put_words};
+use explain_facts::{GivenName, GivenNames};
 use std::alloc::Global;
 
 // Whether a byte is a digit.

@@ -4,8 +4,8 @@ ghost use Rattle.std.specs.Prelude.{◌≡◌, ◌++◌, IfOk, OnOk, codes};
 use crate::facts::Facts;
 use crate::impeders::Impeder;
 use crate::situation::Situation;
-use armus_base::{NoMemory, PhaserId};
-use explain_facts::{Doing, NextOp, put_words};
+use armus_base::{NoMemory, PhaserId, put_words};
+use explain_facts::{Doing, NextOp};
 
 impl<'a> Facts<'a> {
     ghost use Rattle.std.specs.Str.{bytes_eq};

@@ -5,8 +5,8 @@ ghost use Rattle.explain_tasks.specs.Names.{task_name};
 
 use crate::naming::{put_named_words, task_name};
 use crate::task_lists::{put_list, separator};
-use armus_base::{NoMemory, TaskId};
-use explain_facts::{GivenName, GivenNames, put_words};
+use armus_base::{NoMemory, TaskId, put_words};
+use explain_facts::{GivenName, GivenNames};
 use std::alloc::Global;
 
 // Whether both have a name, and the same one.

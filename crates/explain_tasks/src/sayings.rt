@@ -7,8 +7,8 @@ use crate::facts::Facts;
 use crate::impeders::Impeder;
 use crate::saying::{ForkingWords, Saying};
 use crate::situation::Situation;
-use armus_base::{NoMemory, PhaserId, TaskId};
-use explain_facts::{CodeEnd, Forked, Turn, Waiting, put_number, put_words};
+use armus_base::{NoMemory, PhaserId, TaskId, put_number, put_words};
+use explain_facts::{CodeEnd, Forked, Turn, Waiting};
 use std::alloc::Global;
 
 // Appends the own phase of a task that waits, where it is not that of the event.
@@ -19,7 +19,7 @@ fn put_phase(alloc: Global, out: &mut Vec<u8>, wait: &Waiting) -> Result<(), NoM
         return Ok(());
     }
     put_words(out, b" at phase ")?;
-    put_number(alloc, out, wait.phase)
+    put_number(alloc, out, u64::from(wait.phase))
 }
 
 impl<'a> Facts<'a> {
@@ -38,7 +38,7 @@ impl<'a> Facts<'a> {
         put_words(out, wait.words.as_slice())?;
         put_phase(self.alloc, out, wait)?;
         put_words(out, b" waits for phase ")?;
-        put_number(self.alloc, out, wait.event.n)?;
+        put_number(self.alloc, out, u64::from(wait.event.n))?;
         put_words(out, b" of ")?;
         self.put_named_phaser(out, wait.event.p)
     }
@@ -48,7 +48,7 @@ impl<'a> Facts<'a> {
         ensures { OnOk result (out.new.items ≡ out.old.items ++ turn_words self.now turn) }
     {
         put_words(out, b"; turn ")?;
-        put_number(self.alloc, out, turn.turn)?;
+        put_number(self.alloc, out, u64::from(turn.turn))?;
         put_words(out, b" of the loop at ")?;
         self.put_place(out, turn.at)
     }

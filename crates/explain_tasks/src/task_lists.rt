@@ -3,8 +3,7 @@ ghost use Rattle.std.specs.Prelude.{◌≡◌, ◌==◌, ◌+◌, ◌++◌, IfOk
 ghost use Rattle.explain_tasks.specs.TaskLists.{item_words, items_of, joined_items, list_words, runs_of, separator};
 
 use crate::naming::put_task_number;
-use armus_base::{NoMemory, TaskId};
-use explain_facts::put_words;
+use armus_base::{NoMemory, TaskId, put_words};
 use std::alloc::Global;
 
 /// Consecutive numbers of tasks, from the first to the last.
@@ -75,6 +74,15 @@ fn items_of_runs(alloc: Global, runs: &[Run]) -> Result<Vec<Run>, NoMemory>
     Ok(items)
 }
 
+/// The items by which a list of tasks in order of number is written: three and more that follow each other are one.
+/// `NoMemory` where there is no memory for them.
+pub fn list_items(alloc: Global, tasks: &[TaskId]) -> Result<Vec<Run>, NoMemory>
+    ensures { IfOk result (λ v. v.items ≡ flat_map items_of (runs_of tasks.now)) }
+{
+    let runs = runs_of(alloc, tasks)?;
+    items_of_runs(alloc, &runs)
+}
+
 // Appends an item.
 fn put_item(alloc: Global, out: &mut Vec<u8>, run: Run) -> Result<(), NoMemory>
     ensures { OnOk result (out.new.items ≡ out.old.items ++ item_words run) }
@@ -128,7 +136,6 @@ fn put_items(alloc: Global, out: &mut Vec<u8>, items: &[Run]) -> Result<(), NoMe
 pub(crate) fn put_list(alloc: Global, out: &mut Vec<u8>, tasks: &[TaskId]) -> Result<(), NoMemory>
     ensures { OnOk result (out.new.items ≡ out.old.items ++ list_words tasks.now) }
 {
-    let runs = runs_of(alloc, tasks)?;
-    let items = items_of_runs(alloc, &runs)?;
+    let items = list_items(alloc, tasks)?;
     put_items(alloc, out, &items)
 }

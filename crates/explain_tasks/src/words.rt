@@ -5,8 +5,7 @@ ghost use Rattle.explain_tasks.specs.TaskLists.{by_number};
 use crate::facts::Facts;
 use crate::naming::{put_phaser_words, put_task_words};
 use crate::parts::put_tasks_words;
-use armus_base::{NoMemory, PhaserId, TaskId};
-use explain_facts::put_words;
+use armus_base::{NoMemory, PhaserId, TaskId, put_words};
 use source_map::TextPlace;
 
 /// Appends words that are kept.

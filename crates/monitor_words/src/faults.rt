@@ -3,8 +3,7 @@ ghost use Rattle.std.specs.Prelude.{◌≡◌, ◌++◌, OnOk, codes, decimal};
 ghost use Rattle.monitor_words.specs.Faults.{fault_line, line_fault_words};
 ghost use Rattle.monitor_words.specs.inside.FaultValues.{fault_value};
 
-use crate::words::{put_number, put_words};
-use armus_base::NoMemory;
+use armus_base::{NoMemory, put_number, put_words};
 use std::alloc::Global;
 
 /// A fault of a line, with the names as they stand in the line.

@@ -4,8 +4,8 @@ ghost use Rattle.std.specs.List.{join_by};
 ghost use Rattle.monitor_words.specs.inside.ValueWords.{group_end, group_front, is_one, keeper_condition_words, seen_words, shown_group_words, shown_names_words};
 
 use crate::names::ShownNames;
-use crate::words::{put_at, put_counted, put_words};
-use armus_base::{List, NoMemory};
+use crate::words::{put_at, put_counted};
+use armus_base::{List, NoMemory, put_words};
 use std::alloc::Global;
 
 /// In which condition somebody is who keeps tasks waiting.

@@ -6,8 +6,7 @@ ghost use Rattle.monitor_words.specs.inside.ValueMessages.{shown_refusal_words, 
 use crate::names::ShownNames;
 use crate::rows::ShownRows;
 use crate::sentences::{StuckReason, StuckSentence};
-use crate::words::put_words;
-use armus_base::NoMemory;
+use armus_base::{NoMemory, put_words};
 use std::alloc::Global;
 
 impl StuckReason {

@@ -3,8 +3,8 @@ ghost use Rattle.std.specs.Prelude.{◌≡◌, ◌++◌, OnOk, codes, flat_map};
 ghost use Rattle.std.specs.List.{join_by};
 ghost use Rattle.monitor_words.specs.inside.ValueWords.{is_one, shown_names_words};
 
-use crate::words::{put_left, put_words};
-use armus_base::{List, NoMemory};
+use crate::words::put_left;
+use armus_base::{List, NoMemory, put_words};
 use std::alloc::Global;
 
 /// Names of which the first three at most are shown.

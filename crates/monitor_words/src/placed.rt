@@ -2,8 +2,8 @@
 ghost use Rattle.std.specs.Prelude.{◌≡◌, ◌++◌, OnOk};
 ghost use Rattle.monitor_words.specs.inside.ValueWords.{placed_words};
 
-use crate::words::{put_at, put_words};
-use armus_base::{List, NoMemory};
+use crate::words::put_at;
+use armus_base::{List, NoMemory, put_words};
 
 /// A task and its place.
 #[derive(Drop)]

@@ -4,8 +4,8 @@ ghost use Rattle.monitor_words.specs.Words.{message_line};
 ghost use Rattle.monitor_words.specs.inside.ValueMessages.{shown_listed_line, shown_report_words, shown_tasks_line, standing_word};
 
 use crate::rows::ShownRows;
-use crate::words::{put_counted, put_numbered, put_words};
-use armus_base::NoMemory;
+use crate::words::{put_counted, put_numbered};
+use armus_base::{NoMemory, put_words};
 use std::alloc::Global;
 
 /// How many tasks of a state are in which condition; wildcards are not counted.

@@ -5,8 +5,8 @@ ghost use Rattle.monitor_words.specs.inside.ValueWords.{row_end, row_tasks, row_
 
 use crate::keepers::{KeeperGroup, put_groups};
 use crate::names::ShownNames;
-use crate::words::{put_at, put_counted, put_event, put_left, put_words};
-use armus_base::{List, NoMemory};
+use crate::words::{put_at, put_counted, put_event, put_left};
+use armus_base::{List, NoMemory, put_words};
 use std::alloc::Global;
 
 /// Tasks that wait for the same phase of the same phaser at the same place, and who keeps them waiting.

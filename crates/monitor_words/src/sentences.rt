@@ -4,8 +4,8 @@ ghost use Rattle.monitor_words.specs.Words.{waited_words};
 ghost use Rattle.monitor_words.specs.inside.ValueWords.{circle_end, circle_left, next_words, placed_words, shown_reason_words, shown_sentence_words, told_circle};
 
 use crate::placed::PlacedTask;
-use crate::words::{put_event, put_number_and, put_words};
-use armus_base::{List, NoMemory};
+use crate::words::{put_event, put_number_and};
+use armus_base::{List, NoMemory, put_words};
 use std::alloc::Global;
 
 /// Why a task is stuck.

@@ -2,25 +2,8 @@
 ghost use Rattle.std.specs.Prelude.{◌≡◌, ◌++◌, OnOk, decimal};
 ghost use Rattle.monitor_words.specs.Words.{at_words, waited_words, more_words};
 
-use armus_base::{List, NoMemory};
+use armus_base::{List, NoMemory, put_number, put_words};
 use std::alloc::Global;
-
-/// Appends words.
-pub(crate) fn put_words(out: &mut Vec<u8>, words: &[u8]) -> Result<(), NoMemory>
-    ensures { OnOk result (out.new.items ≡ out.old.items ++ words.now) }
-{
-    out.extend_from_slice(words)?;
-    Ok(())
-}
-
-/// Appends a number.
-pub(crate) fn put_number(alloc: Global, out: &mut Vec<u8>, number: u64) -> Result<(), NoMemory>
-    ensures { OnOk result (out.new.items ≡ out.old.items ++ decimal number) }
-{
-    let text = format!(in alloc; "{number}")?;
-    out.extend_from_slice(text.as_bytes())?;
-    Ok(())
-}
 
 /// Appends a number behind words.
 pub(crate) fn put_numbered(

@@ -10,8 +10,8 @@ ghost use Rattle.pl_syntax.specs.Tree.{done};
 ghost use Rattle.pl_syntax.specs.inside.Closings.{bodies, brace_tokens, closes, ends_by};
 ghost use Rattle.pl_syntax.specs.inside.Seen.{token_of};
 
-use crate::lexer::place;
-use crate::offsets::{body_of, is_end, push_if, token_at};
+use crate::lexer::{place, token_at};
+use crate::offsets::{body_of, is_end, push_if};
 use crate::scan::{Language, Scan};
 use crate::token::{Sign, Token};
 use crate::tree::{Body, Program, Stmt};

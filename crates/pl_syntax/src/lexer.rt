@@ -1,10 +1,10 @@
 // From bytes to tokens. A text is passed on as what is left of it, beside how it is read.
 
-ghost use Rattle.std.specs.Prelude.{◌≡◌, ◌+◌, ◌-◌, ◌<◌, ◌≤◌, ◌^◌, length, Ok, Err, IfOk};
+ghost use Rattle.std.specs.Prelude.{◌≡◌, ◌+◌, ◌-◌, ◌<◌, ◌≤◌, ◌^◌, ℕ, List as Seq, length, Ok, Err, IfOk};
 ghost use Rattle.std.specs.List.{prefix_len};
 ghost use Rattle.pl_syntax.specs.Words.{is_word_byte};
-ghost use Rattle.pl_syntax.specs.Tokens.{token_here, front, is_blank, after_gap, after_comment, sign_of, sign_token, place};
-ghost use Rattle.pl_syntax.specs.inside.Seen.{token_seen, front_seen, HasForm};
+ghost use Rattle.pl_syntax.specs.Tokens.{Token as TokenValue, token_here, front, is_blank, after_gap, after_comment, sign_of, sign_token, place};
+ghost use Rattle.pl_syntax.specs.inside.Seen.{token_of, token_seen, front_seen, HasForm};
 
 use crate::fault::{NO_TOKEN, SyntaxFault};
 use crate::scan::Scan;
@@ -122,6 +122,20 @@ pub fn next(scan: Scan, text: &[u8]) -> Result<(Token, &[u8]), SyntaxFault>
     ensures name { IfOk result (λ x. HasForm scan.language x.0) }
 {
     token_here(scan, after_gap(text))
+}
+
+/// The next token of a text in which there is one, and the bytes after it.
+pub fn token_at(scan: Scan, text: &[u8]) -> (Token, &[u8])
+    requires within { length text.now ≤ scan.total }
+    requires small { scan.total < 2 ^ 32 }
+    requires some { (token : TokenValue) × (rest : Seq ℕ) × (front scan text.now ≡ Ok (token, rest)) }
+    ensures exact { front scan text.now ≡ Ok (token_of result.0, result.1.now) }
+    ensures no_longer { length result.1.now ≤ length text.now }
+{
+    match next(scan, text) {
+        Ok(found) => found,
+        Err(_) => unreachable!(),
+    }
 }
 
 /// Where the next token begins.

@@ -7,26 +7,12 @@ ghost use Rattle.pl_syntax.specs.inside.Beginnings.{begins_statement, is_boundar
 ghost use Rattle.pl_syntax.specs.inside.Seen.{token_of};
 
 use crate::expect::ends_list;
-use crate::lexer::{next, place};
+use crate::lexer::{place, token_at};
 use crate::scan::{Language, Scan};
 use crate::token::{Sign, Token};
 use crate::tree::Program;
 use armus_base::{List, NoMemory};
 use std::alloc::Global;
-
-// The next token, where there is one, and the bytes after it.
-pub(crate) fn token_at(scan: Scan, text: &[u8]) -> (Token, &[u8])
-    requires within { length text.now ≤ scan.total }
-    requires small { scan.total < 2 ^ 32 }
-    requires some { (token : TokenValue) × (rest : Seq ℕ) × (front scan text.now ≡ Ok (token, rest)) }
-    ensures exact { front scan text.now ≡ Ok (token_of result.0, result.1.now) }
-    ensures no_longer { length result.1.now ≤ length text.now }
-{
-    match next(scan, text) {
-        Ok(found) => found,
-        Err(_) => unreachable!(),
-    }
-}
 
 // Whether a statement may begin behind this token.
 fn is_boundary(token: &Token) -> bool
