@@ -1,6 +1,8 @@
 pub mod Pieces
-pub mod Marks
+pub mod NotesTold
 pub mod NobodyThere
+pub mod MakersAlone
+pub mod HeldUpNowhere
 pub mod VerdictWalks
 pub mod NextInside
 pub mod Starts

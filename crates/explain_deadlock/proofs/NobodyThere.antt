@@ -13,9 +13,8 @@ use Rattle.armus_base.proofs.Fixed.{some_before_from}
 use Rattle.armus_base.proofs.Published.{published_after_is}
 use Rattle.armus_base.proofs.Stepping.{places_fix}
 use Rattle.explain_deadlock.specs.Laws.{NobodyWaitsThere}
-use Rattle.explain_deadlock.specs.Notes.{is_used_so}
-use Rattle.explain_deadlock.specs.declared.notes.PhaserUse.TheVariants.{Awaits}
-use Rattle.explain_deadlock.specs.inside.Used.{some_op}
+use Rattle.explain_facts.specs.PhaserUses.{is_used_so, some_op}
+use Rattle.explain_facts.specs.declared.uses.PhaserUse.TheVariants.{Awaits}
 
 or_right : (a b : Bool) → b ≡ true → (a || b) ≡ true
 or_right true b e = refl

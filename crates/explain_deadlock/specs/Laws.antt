@@ -6,13 +6,17 @@ use Rattle.armus_base.specs.CheckedPlans.{IsCheckedPlan}
 use Rattle.armus_base.specs.Counts.{IsDistinct}
 use Rattle.armus_base.specs.Finals.{final_of}
 use Rattle.armus_base.specs.Places.{state_at}
-use Rattle.armus_base.specs.Plans.{Plan}
-use Rattle.armus_base.specs.Runs.{IsPlainRun, Place, state_after}
-use Rattle.armus_base.specs.States.{Phases, Step}
+use Rattle.armus_base.specs.Plans.{IsMakerOf, Plan, code_of}
+use Rattle.armus_base.specs.Runs.{IsLegalRun, IsPlainRun, Place, places, state_after}
+use Rattle.armus_base.specs.States.{IsMember, IsReached, Phases, Step}
+use Rattle.pl_core.specs.Tasks.{IsAtOp}
+use Rattle.pl_syntax.specs.declared.tree.Program.{Program}
+use Rattle.source_map.specs.Origins.{op_origin}
+use Rattle.explain_facts.specs.ImmediateAwaits.{is_immediate}
+use Rattle.explain_facts.specs.PhaserUses.{is_used_so}
 use Rattle.explain_facts.specs.declared.account.Waiting.{Waiting}
+use Rattle.explain_facts.specs.declared.uses.PhaserUse.TheVariants.{Awaits, Registers}
 use Rattle.report.specs.Reports.{IsReportedCycle, IsSomeDead}
-use Rattle.explain_deadlock.specs.Notes.{is_used_so}
-use Rattle.explain_deadlock.specs.declared.notes.PhaserUse.TheVariants.{Awaits}
 use Rattle.explain_deadlock.specs.declared.outcome.WaitVerdict.{WaitVerdict}
 use Rattle.explain_deadlock.specs.declared.outcome.WaitVerdict.TheVariants.{Circle}
 use Rattle.explain_tasks.specs.Facts.{FactsValue, is_waiting, situation_of, wait_of}
@@ -79,3 +83,15 @@ abbrev pub NobodyWaitsThere : Type 0
 NobodyWaitsThere =
     (plan : Plan) (steps : List Step) (q t : ℕ) (e : Event) → IsCheckedPlan plan → IsPlainRun plan steps → is_used_so Awaits plan q ≡ false →
     (state_after steps).published t ≡ Some e → e.p.0 ≡ q → ⊥
+
+-- where no op of a plan registers a task on phaser q, its maker alone is a member of it in any state to which a run leads
+abbrev pub OnlyMakersAreMembers : Type 0
+OnlyMakersAreMembers =
+    (plan : Plan) (steps : List Step) (q t : ℕ) → IsCheckedPlan plan → IsLegalRun plan steps → is_used_so Registers plan q ≡ false → IsMember (state_after steps) t q →
+    IsMakerOf plan t q
+
+-- where nobody ever has to wait at statement n of a text, the event of each task that stands there and waits is reached, in any state to which a run leads
+abbrev pub NobodyIsHeldUpThere : Type 0
+NobodyIsHeldUpThere =
+    (p : Program) (plan : Plan) (steps : List Step) (n t i : ℕ) (e : Event) → IsCheckedPlan plan → IsLegalRun plan steps → is_immediate p plan n ≡ true →
+    op_origin p t i ≡ Some n → IsAtOp (code_of plan t) (places steps t).done i → (state_after steps).published t ≡ Some e → IsReached (state_after steps) e

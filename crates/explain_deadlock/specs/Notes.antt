@@ -1,49 +1,21 @@
--- The notes, where nobody waits for ever: on phasers for which nobody ever has to wait.
-use Rattle.std.specs.Prelude.{ℕ, zero, suc, ◌==◌, Bool, true, false, List, [], ◌++◌, Option, Some, None, codes, if◌then◌else◌, length, slice_get}
-use Rattle.std.specs.List.{list_any}
-use Rattle.armus_base.specs.declared.ids.PhaserId.{PhaserId}
+-- The notes, where nobody waits for ever: on phasers for which nobody ever has to wait, and on awaits at which nobody ever has to.
+use Rattle.std.specs.Prelude.{ℕ, zero, suc, ◌==◌, Bool, List, [], ◌++◌, codes, flat_map, if◌then◌else◌, length, slice_get}
 use Rattle.armus_base.specs.declared.ids.TaskId.{TaskId}
-use Rattle.armus_base.specs.declared.op.Op.{Op}
-use Rattle.armus_base.specs.declared.op.Op.TheVariants.{Await, Reg}
-use Rattle.armus_base.specs.Places.{some_before}
-use Rattle.armus_base.specs.Plans.{Plan, code_of}
+use Rattle.armus_base.specs.declared.offset.Offset.{Offset}
+use Rattle.armus_base.specs.declared.offset.Offset.TheVariants.{Ahead, Back, Here}
+use Rattle.armus_base.specs.Plans.{Plan}
 use Rattle.armus_base.specs.States.{Phases}
 use Rattle.pl_syntax.specs.Printed.{line}
+use Rattle.explain_facts.specs.PhaserUses.{is_used_so}
+use Rattle.explain_facts.specs.declared.account.ImmediateAwait.{ImmediateAwait}
+use Rattle.explain_facts.specs.declared.uses.PhaserUse.TheVariants.{Awaits, Registers}
 use Rattle.explain_tasks.specs.Facts.{FactsValue}
 use Rattle.explain_tasks.specs.Places.{front_in, named_phaser, named_task, said_of}
 use Rattle.explain_deadlock.specs.Hints.{verdict_hint}
-use Rattle.explain_deadlock.specs.declared.notes.PhaserUse.{PhaserUse}
-use Rattle.explain_deadlock.specs.declared.notes.PhaserUse.TheVariants.{Awaits, Registers}
 use Rattle.explain_deadlock.specs.declared.outcome.WaitVerdict.{WaitVerdict}
 use Rattle.explain_deadlock.specs.declared.outcome.WaitVerdict.TheVariants.{Nobody, Circle, Chain}
 
--- ---- what the ops of a plan do to a phaser
-
--- the phaser that an op awaits
-abbrev pub awaiting : Op → Option PhaserId
-awaiting (Await p off) = Some p
-awaiting op = None
-
--- the phaser on which an op registers a task
-abbrev pub registering : Op → Option PhaserId
-registering (Reg c p) = Some p
-registering op = None
-
--- the phaser that an op uses so
-abbrev pub used_by : PhaserUse → Op → Option PhaserId
-used_by Awaits op = awaiting op
-used_by Registers op = registering op
-
--- it is phaser q
-abbrev pub is_on_phaser : ℕ → Option PhaserId → Bool
-is_on_phaser q None = false
-is_on_phaser q (Some p) = p.0 == q
-
--- an op of the plan uses phaser q so
-abbrev pub is_used_so : PhaserUse → Plan → ℕ → Bool
-is_used_so use_so plan q = some_before (λ t. list_any (λ op. is_on_phaser q (used_by use_so op)) (code_of plan t)) (length plan.parents)
-
--- ---- the notes
+-- ---- the notes on phasers
 
 -- the place of the `newPhaser` of phaser q, with which its note begins
 abbrev pub made_front : FactsValue → ℕ → List ℕ
@@ -75,8 +47,30 @@ notes_below f plan zero = []
 notes_below f plan (suc n) = notes_below f plan n ++ note_of f plan n
 
 -- the notes on all phasers
+abbrev pub phaser_notes : FactsValue → Plan → List ℕ
+phaser_notes f plan = notes_below f plan (length plan.makers)
+
+-- ---- the notes on awaits
+
+-- why nobody ever has to wait at an await that looks so far back or ahead
+abbrev pub why_immediate : Offset → List ℕ
+why_immediate Here = codes "its task has not arrived there yet"
+why_immediate (Ahead k) = codes "its task has not arrived there yet"
+why_immediate (Back k) = if k == 0 then codes "its task has not arrived there yet" else codes "it looks back to phase 0"
+
+-- 3:3: note: await(b) never has to wait: its task has not arrived there yet
+abbrev pub immediate_note : FactsValue → ImmediateAwait → List ℕ
+immediate_note f told = line (front_in f told.at ++ codes ": note: " ++ told.words ++ codes " never has to wait: " ++ why_immediate told.off)
+
+-- the notes on these awaits
+abbrev pub immediate_notes : FactsValue → List ImmediateAwait → List ℕ
+immediate_notes f told = flat_map (immediate_note f) told
+
+-- ---- the end
+
+-- the notes on all phasers, and on the awaits at which nobody ever has to wait
 abbrev pub notes : FactsValue → Plan → List ℕ
-notes f plan = notes_below f plan (length plan.makers)
+notes f plan = phaser_notes f plan ++ immediate_notes f f.account.immediate
 
 -- what stands behind the paragraphs: the hint, if one fits, and where nobody waits the notes
 abbrev pub verdict_end : FactsValue → Plan → (ℕ → Phases) → WaitVerdict → List ℕ

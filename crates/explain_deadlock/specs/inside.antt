@@ -3,4 +3,3 @@ pub mod WalkEnds
 pub mod Grouped
 pub mod GroupTexts
 pub mod Numbered
-pub mod Used

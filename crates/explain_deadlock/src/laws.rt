@@ -1,6 +1,6 @@
 // Laws of explanations.
 ghost use Rattle.explain_deadlock.specs.calls.Laws.{ChainsEnd, DeadlockStandsFirst, ExplanationExists, ForkersAreToCome, HeldAreNotImpededByDead, NothingIsSaidTwice, OneExplanation, ShownAreDead, WaitingIsTold};
-ghost use Rattle.explain_deadlock.specs.Laws.{DeadlockIsReported, EachHasAParagraph, EachImpederIsTold, NobodyWaitsThere, SaysWhatIsSo, WaitAlike};
+ghost use Rattle.explain_deadlock.specs.Laws.{DeadlockIsReported, EachHasAParagraph, EachImpederIsTold, NobodyIsHeldUpThere, NobodyWaitsThere, OnlyMakersAreMembers, SaysWhatIsSo, WaitAlike};
 
 /// The places of a text's plan have one explanation at most.
 pub fn one_explanation()
@@ -68,4 +68,14 @@ pub fn walks_end()
 /// In no state of a run anybody waits at a phaser that no op of the plan awaits.
 pub fn nobody_waits_there()
     ensures { NobodyWaitsThere }
+{}
+
+/// In each state of a run its maker alone is a member of a phaser on which no op of the plan registers a task.
+pub fn only_makers_are_members()
+    ensures { OnlyMakersAreMembers }
+{}
+
+/// In each state of a run whoever waits at an await at which nobody ever has to wait may go on.
+pub fn nobody_is_held_up_there()
+    ensures { NobodyIsHeldUpThere }
 {}

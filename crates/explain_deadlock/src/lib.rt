@@ -17,9 +17,9 @@ mod walk;
 pub use explaining::{Explanation, explanation_of};
 pub use laws::{
     deadlock_is_shown, deadlock_stands_first, each_has_a_paragraph, each_impeder_is_told,
-    explanation_exists, held_are_not_impeded_by_dead, nobody_waits_there, nothing_is_said_twice,
-    one_explanation, says_what_is_so, somebody_waits, walks_end,
+    explanation_exists, held_are_not_impeded_by_dead, nobody_is_held_up_there, nobody_waits_there,
+    nothing_is_said_twice, one_explanation, only_makers_are_members, says_what_is_so,
+    somebody_waits, walks_end,
 };
-pub use notes::PhaserUse;
 pub use outcome::WaitVerdict;
 pub use paragraphs::put_paragraphs;

@@ -1,23 +1,12 @@
-// The notes on phasers for which nobody ever has to wait.
-ghost use Rattle.std.specs.Prelude.{◌≡◌, ◌==◌, ◌++◌, ◌<◌, IfOk, OnOk, false, length, replicate};
-ghost use Rattle.explain_deadlock.specs.Notes.{alone_words, awaiting, is_on_phaser, made_front, note_by, notes, registering, unawaited_note, used_by};
+// The notes, where nobody waits for ever: on phasers for which nobody ever has to wait, and on awaits at which nobody ever has to.
+ghost use Rattle.std.specs.Prelude.{◌≡◌, ◌++◌, ◌<◌, OnOk, codes, length};
+ghost use Rattle.explain_deadlock.specs.Notes.{alone_words, immediate_note, immediate_notes, made_front, note_by, notes, phaser_notes, why_immediate};
 ghost use Rattle.explain_deadlock.specs.inside.Fitting.{IsTextOf};
-ghost use Rattle.explain_deadlock.specs.inside.Used.{HaveMarks, AreUsed, some_op};
 
-use armus_base::{Cursor, NoMemory, Op, PhaserId, Plan, TaskId, put_words};
-use explain_facts::Account;
+use armus_base::{NoMemory, Offset, PhaserId, Plan, TaskId, put_words};
+use explain_facts::{Account, ImmediateAwait, PhaserUse, used_phasers};
 use explain_tasks::Facts;
 use source_map::TextPlaces;
-use std::alloc::Global;
-
-/// What an op may do to a phaser that lets somebody wait there.
-#[derive(Clone, Copy, Debug, PartialEq, Eq)]
-pub enum PhaserUse {
-    /// It awaits an event of it.
-    Awaits,
-    /// It registers a task on it.
-    Registers,
-}
 
 /// A text with its account.
 #[derive(Clone, Copy, Drop)]
@@ -30,96 +19,6 @@ pub(crate) struct NotedText<'a> {
     pub(crate) account: &'a Account,
     /// Its plan.
     pub(crate) plan: &'a Plan,
-}
-
-// The phaser that an op awaits.
-fn awaiting(op: Op) -> Option<PhaserId>
-    ensures { result ≡ awaiting op }
-{
-    match op {
-        Op::Await { p, off: _ } => Some(p),
-        Op::Make { p: _ } => None,
-        Op::Reg { c: _, p: _ } => None,
-        Op::Fork { c: _ } => None,
-        Op::Adv { p: _ } => None,
-        Op::Drop { p: _ } => None,
-    }
-}
-
-// The phaser on which an op registers a task.
-fn registering(op: Op) -> Option<PhaserId>
-    ensures { result ≡ registering op }
-{
-    match op {
-        Op::Reg { c: _, p } => Some(p),
-        Op::Make { p: _ } => None,
-        Op::Fork { c: _ } => None,
-        Op::Adv { p: _ } => None,
-        Op::Drop { p: _ } => None,
-        Op::Await { p: _, off: _ } => None,
-    }
-}
-
-// The phaser that an op uses so.
-fn used_by(use_so: PhaserUse, op: Op) -> Option<PhaserId>
-    ensures { result ≡ used_by use_so op }
-{
-    match use_so {
-        PhaserUse::Awaits => awaiting(op),
-        PhaserUse::Registers => registering(op),
-    }
-}
-
-// Marks a phaser.
-fn mark_at(marks: &mut [bool], p: PhaserId)
-    ensures marked { HaveMarks (λ q. p.0 == q) marks.old marks.new }
-{
-    let at = p.0 as usize;
-    if at < marks.len() {
-        marks[at] = true;
-    }
-}
-
-// Marks a phaser, if there is one.
-fn mark(marks: &mut [bool], p: Option<PhaserId>)
-    ensures marked { HaveMarks (λ q. is_on_phaser q p) marks.old marks.new }
-{
-    match p {
-        Some(p) => mark_at(marks, p),
-        None => {}
-    }
-}
-
-// Marks each phaser that one of these ops uses so.
-fn mark_ops(marks: &mut [bool], use_so: PhaserUse, ops: Cursor<'_>)
-    ensures marked { HaveMarks (some_op use_so ops.entry) marks.old marks.new }
-{
-    let mut left = ops;
-    'ops: while let Some(op) = left.next() {
-        mark(marks, used_by(use_so, op));
-    }
-}
-
-// So many marks, of which none is set.
-fn no_marks(alloc: Global, count: u32) -> Result<Vec<bool>, NoMemory>
-    ensures { IfOk result (λ v. v.items ≡ replicate count false) }
-{
-    let mut marks = Vec::with_capacity(alloc, count as usize)?;
-    for _ in 0..count {
-        marks.push(false)?;
-    }
-    Ok(marks)
-}
-
-// Of each phaser of a plan whether an op uses it so.
-fn used_phasers(alloc: Global, plan: &Plan, use_so: PhaserUse) -> Result<Vec<bool>, NoMemory>
-    ensures used { IfOk result (λ v. AreUsed use_so plan.now v.items) }
-{
-    let mut marks = no_marks(alloc, plan.phasers())?;
-    for t in 0..plan.tasks() {
-        mark_ops(&mut marks, use_so, plan.cursor(TaskId(t)));
-    }
-    Ok(marks)
 }
 
 // Appends the place at which a phaser is made.
@@ -195,7 +94,55 @@ fn put_note(
     put_unawaited(facts, text, out, p)
 }
 
-/// Appends the notes on the phasers of a text.
+// Appends the notes on the phasers of a text.
+fn put_phaser_notes(
+    facts: &Facts,
+    text: NotedText<'_>,
+    out: &mut Vec<u8>,
+) -> Result<(), NoMemory>
+    requires text { IsTextOf facts.now text }
+    ensures { OnOk result (out.new.items ≡ out.old.items ++ phaser_notes facts.now text.entry.plan.now) }
+{
+    let awaited = used_phasers(facts.alloc(), text.plan, PhaserUse::Awaits)?;
+    let registered = used_phasers(facts.alloc(), text.plan, PhaserUse::Registers)?;
+    for q in 0..text.plan.phasers() {
+        let at = q as usize;
+        put_note(facts, text, out, PhaserId(q), awaited[at], registered[at])?;
+    }
+    Ok(())
+}
+
+// Appends why nobody ever has to wait at an await that looks so far back or ahead.
+fn put_why_immediate(out: &mut Vec<u8>, off: Offset) -> Result<(), NoMemory>
+    ensures { OnOk result (out.new.items ≡ out.old.items ++ why_immediate off) }
+{
+    match off {
+        Offset::Here | Offset::Ahead(_) | Offset::Back(0) => {
+            put_words(out, b"its task has not arrived there yet")
+        }
+        Offset::Back(_) => put_words(out, b"it looks back to phase 0"),
+    }
+}
+
+// Appends the note on an await at which nobody ever has to wait.
+fn put_immediate(
+    facts: &Facts,
+    text: NotedText<'_>,
+    out: &mut Vec<u8>,
+    told: &ImmediateAwait,
+) -> Result<(), NoMemory>
+    requires text { IsTextOf facts.now text }
+    ensures { OnOk result (out.new.items ≡ out.old.items ++ immediate_note facts.now told.now) }
+{
+    text.places.put_front(facts.alloc(), out, text.file, told.at)?;
+    put_words(out, b": note: ")?;
+    put_words(out, told.words.as_slice())?;
+    put_words(out, b" never has to wait: ")?;
+    put_why_immediate(out, told.off)?;
+    put_words(out, b"\n")
+}
+
+/// Appends the notes on the phasers and the awaits of a text.
 pub(crate) fn put_notes(
     facts: &Facts,
     text: NotedText<'_>,
@@ -204,11 +151,9 @@ pub(crate) fn put_notes(
     requires text { IsTextOf facts.now text }
     ensures { OnOk result (out.new.items ≡ out.old.items ++ notes facts.now text.entry.plan.now) }
 {
-    let awaited = used_phasers(facts.alloc(), text.plan, PhaserUse::Awaits)?;
-    let registered = used_phasers(facts.alloc(), text.plan, PhaserUse::Registers)?;
-    for q in 0..text.plan.phasers() {
-        let at = q as usize;
-        put_note(facts, text, out, PhaserId(q), awaited[at], registered[at])?;
+    put_phaser_notes(facts, text, out)?;
+    for told in text.account.immediate.as_slice() {
+        put_immediate(facts, text, out, told)?;
     }
     Ok(())
 }

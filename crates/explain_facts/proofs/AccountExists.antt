@@ -13,7 +13,7 @@ use Rattle.pl_plan.specs.Unfolding.{plan_of}
 use Rattle.pl_syntax.specs.declared.tree.Program.{Program}
 use Rattle.source_map.specs.Origins.{phaser_origins, statement_in, written_statements}
 use Rattle.source_map.specs.Turns.{op_turns}
-use Rattle.explain_facts.specs.Accounts.{IsTaskAccount, HasWait, Layout, drawn_of, ended_of, first_on, forked_of, next_op, placed_turns, statement_place, words_of}
+use Rattle.explain_facts.specs.Accounts.{IsTaskAccount, HasWait, Layout, drawn_of, ended_of, first_on, forked_of, immediate_awaits, next_op, placed_turns, statement_place, words_of}
 use Rattle.explain_facts.specs.Names.{program_names}
 use Rattle.explain_facts.specs.calls.Laws.{AccountExists}
 use Rattle.explain_facts.specs.declared.account.NextOp.{NextOp}
@@ -73,6 +73,6 @@ account_exists text p plan a is unfolds reach =
     let n = length plan.parents in
     let each : (t : ℕ) (d : TaskAccount) → t < n → IsTaskAccount l p plan a t (slice_index_or (list_below task n) t d) =
     λ t d lt. subst (IsTaskAccount l p plan a t) (sym (list_at task n t (list_below task n) d refl lt)) (task_is l p plan a unfolds checked reach t) in (
-      record { tasks = list_below task n; phasers = map (statement_place l) (phaser_origins p); names = program_names p },
-      record { reads = is; layout = l; of_text = of_text; is_layout = is_layout; all_told = length-list_below task n; each = each; phasers = refl; names = refl },
+      record { tasks = list_below task n; phasers = map (statement_place l) (phaser_origins p); names = program_names p; immediate = immediate_awaits l p plan },
+      record { reads = is; layout = l; of_text = of_text; is_layout = is_layout; all_told = length-list_below task n; each = each; phasers = refl; names = refl; immediate = refl },
     )

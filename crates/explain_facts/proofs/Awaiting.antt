@@ -48,11 +48,11 @@ module _ (o : Op) (ops : List Op) (one : (j : ℕ) → actions_before (o ∷ ops
       let none : actions_before ops zero ≡ zero = refl in
       omega (arith, under, first, none)
 
-abbrev IsAwaitAt : List Op → ℕ → Type 0
+abbrev pub IsAwaitAt : List Op → ℕ → Type 0
 IsAwaitAt ops n = (q : PhaserId) × (off : Offset) × (slice_get ops n ≡ Some (Await q off))
 
 -- the op at which a task stands that has just published is an await
-at_await : (ops : List Op) (k n : ℕ) (aim : Aim) → slice_get (actions_of ops) k ≡ Some (Blocks aim) → IsAtOp ops (suc k) n → IsAwaitAt ops n
+pub at_await : (ops : List Op) (k n : ℕ) (aim : Aim) → slice_get (actions_of ops) k ≡ Some (Blocks aim) → IsAtOp ops (suc k) n → IsAwaitAt ops n
 at_await [] k n aim e at = absurd (cc)
 at_await (Make p ∷ ops) zero n aim e at = absurd (cc)
 at_await (Make p ∷ ops) (suc k) zero aim e at = absurd (not_first (Make p) ops (λ j. refl) (suc k) at)

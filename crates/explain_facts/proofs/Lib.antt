@@ -3,6 +3,9 @@ pub mod NamesSeen
 pub mod Awaiting
 pub mod Told
 pub mod Firsts
+pub mod Marks
+pub mod PhasesInRows
+pub mod Noting
 pub mod OneAccount
 pub mod Witnesses
 pub mod Forkers

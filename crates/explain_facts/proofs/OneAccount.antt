@@ -19,12 +19,13 @@ use Rattle.pl_syntax.proofs.OneListOfOffsets.{one_list_of_offsets}
 use Rattle.source_map.specs.Origins.{op_origin, phaser_origins, statement_in, written_statements}
 use Rattle.source_map.specs.Turns.{op_turns}
 use Rattle.source_map.specs.declared.place.TextPlace.{TextPlace}
-use Rattle.explain_facts.specs.Accounts.{AreNextOps, IsLayout, IsTaskAccount, HasWait, IsWaiting, Layout, first_on, next_op, placed_turns, statement_place, words_of}
+use Rattle.explain_facts.specs.Accounts.{AreNextOps, IsLayout, IsTaskAccount, HasWait, IsWaiting, Layout, first_on, immediate_awaits, next_op, placed_turns, statement_place, words_of}
 use Rattle.explain_facts.specs.calls.Laws.{OneAccount}
 use Rattle.explain_facts.specs.declared.account.Account.{Account}
 use Rattle.explain_facts.specs.declared.account.Drawn.{Drawn}
 use Rattle.explain_facts.specs.declared.account.CodeEnd.{CodeEnd}
 use Rattle.explain_facts.specs.declared.account.Forked.{Forked}
+use Rattle.explain_facts.specs.declared.account.ImmediateAwait.{ImmediateAwait}
 use Rattle.explain_facts.specs.declared.account.NextOp.{NextOp}
 use Rattle.explain_facts.specs.declared.account.TaskAccount.{TaskAccount}
 use Rattle.explain_facts.specs.declared.account.Turn.{Turn}
@@ -123,19 +124,21 @@ module _ (l : Layout) (p : Program) (plan : Plan) (a : ℕ → Place) (t : ℕ) 
 -- ---- accounts
 
 same_account :
-    (tasks tasks' : List TaskAccount) (phasers phasers' : List TextPlace) (names names' : GivenNames) → tasks ≡ tasks' → phasers ≡ phasers' → names ≡ names' →
-    let v : Account = record { tasks = tasks; phasers = phasers; names = names } in
-    let w : Account = record { tasks = tasks'; phasers = phasers'; names = names' } in v ≡ w
-same_account tasks tasks' phasers phasers' names names' a b c = cc
+    (tasks tasks' : List TaskAccount) (phasers phasers' : List TextPlace) (names names' : GivenNames) (immediate immediate' : List ImmediateAwait) →
+    tasks ≡ tasks' → phasers ≡ phasers' → names ≡ names' → immediate ≡ immediate' →
+    let v : Account = record { tasks = tasks; phasers = phasers; names = names; immediate = immediate } in
+    let w : Account = record { tasks = tasks'; phasers = phasers'; names = names'; immediate = immediate' } in v ≡ w
+same_account tasks tasks' phasers phasers' names names' immediate immediate' a b c d = cc
 
 pub one_account : OneAccount
 one_account text p plan a account other x y =
     let layout : x.layout ≡ y.layout = one_layout p x.layout y.layout x.is_layout y.is_layout (x.of_text ∙ sym y.of_text) in
     let long : length account.tasks ≡ length other.tasks = x.all_told ∙ sym y.all_told in
-    same_account account.tasks other.tasks account.phasers other.phasers account.names other.names
+    same_account account.tasks other.tasks account.phasers other.phasers account.names other.names account.immediate other.immediate
     (same_lists account.tasks other.tasks long
     (λ k d lt. one_task y.layout p plan a k (slice_index_or account.tasks k d) (slice_index_or other.tasks k d)
     (subst (λ (l : Layout). IsTaskAccount l p plan a k (slice_index_or account.tasks k d)) layout (x.each k d (omega (arith, lt, x.all_told))))
     (y.each k d (omega (arith, lt, x.all_told)))))
     (x.phasers ∙ (ap (λ (l : Layout). map (statement_place l) (phaser_origins p)) layout ∙ sym y.phasers))
     (x.names ∙ sym y.names)
+    (x.immediate ∙ (ap (λ (l : Layout). immediate_awaits l p plan) layout ∙ sym y.immediate))

@@ -5,6 +5,8 @@ use Rattle.armus_base.specs.declared.ending.TaskEnd.{TaskEnd}
 use Rattle.armus_base.specs.declared.ending.TaskEnd.TheVariants.{Blocked, Done, Refused, Unforked}
 use Rattle.armus_base.specs.declared.event.Event.{Event}
 use Rattle.armus_base.specs.declared.ids.TaskId.{TaskId}
+use Rattle.armus_base.specs.declared.offset.Offset.{Offset}
+use Rattle.armus_base.specs.declared.offset.Offset.TheVariants.{Here}
 use Rattle.armus_base.specs.declared.op.Op.{Op}
 use Rattle.armus_base.specs.declared.op.Op.TheVariants.{Make, Reg, Fork, Adv, Drop, Await}
 use Rattle.armus_base.specs.Finals.{end_of, given_below}
@@ -16,7 +18,7 @@ use Rattle.pl_plan.specs.Unfolding.{Coming, a_plain}
 use Rattle.pl_syntax.specs.BodyEnds.{AreEnds}
 use Rattle.pl_syntax.specs.Grammar.{IsText}
 use Rattle.pl_syntax.specs.StatementOffsets.{AreOffsets}
-use Rattle.pl_syntax.specs.Tree.{await}
+use Rattle.pl_syntax.specs.Tree.{await, count}
 use Rattle.pl_syntax.specs.declared.tree.Program.{Program}
 use Rattle.source_map.specs.Origins.{fork_origin, last_origin, op_origin, phaser_origins, statement_in, task_origin, written_statements}
 use Rattle.source_map.specs.Turns.{op_turns}
@@ -24,6 +26,7 @@ use Rattle.source_map.specs.declared.turns.LoopTurn.{LoopTurn}
 use Rattle.source_map.specs.TextPlaces.{text_place}
 use Rattle.source_map.specs.declared.place.TextPlace.{TextPlace}
 use Rattle.explain_facts.specs.AwaitWords.{await_text}
+use Rattle.explain_facts.specs.ImmediateAwaits.{is_immediate}
 use Rattle.explain_facts.specs.Names.{given_name, program_names}
 use Rattle.explain_facts.specs.declared.account.Account.{Account}
 use Rattle.explain_facts.specs.declared.account.Doing.{Doing}
@@ -32,6 +35,7 @@ use Rattle.explain_facts.specs.declared.account.NextOp.{NextOp}
 use Rattle.explain_facts.specs.declared.account.Drawn.{Drawn}
 use Rattle.explain_facts.specs.declared.account.CodeEnd.{CodeEnd}
 use Rattle.explain_facts.specs.declared.account.Forked.{Forked}
+use Rattle.explain_facts.specs.declared.account.ImmediateAwait.{ImmediateAwait}
 use Rattle.explain_facts.specs.declared.account.TaskAccount.{TaskAccount}
 use Rattle.explain_facts.specs.declared.account.Turn.{Turn}
 use Rattle.explain_facts.specs.declared.account.Waiting.{Waiting}
@@ -160,6 +164,29 @@ pub record AreNextOps (l : Layout) (p : Program) (plan : Plan) (a : ℕ → Plac
   pub stands : IsAtOp (code_of plan t) (a t).done op
   pub are : nexts ≡ given_below (λ q. next_op l p t q (first_on q op (drop op (code_of plan t)))) (length plan.makers)
 
+-- ---- awaits at which nobody ever has to wait
+
+-- how far a statement looks back or ahead, if it is an await
+abbrev pub offset_of : Option Coming → Offset
+offset_of (Some (a_plain (await x off))) = off
+offset_of _ = Here
+
+-- what is told of statement n
+abbrev pub told_await : Layout → Program → ℕ → ImmediateAwait
+told_await l p n = record {
+  at = statement_place l n;
+  words = words_of (statement_in (written_statements p.body) n);
+  off = offset_of (statement_in (written_statements p.body) n);
+}
+
+-- the same, if nobody ever has to wait there
+abbrev pub immediate_await : Layout → Program → Plan → ℕ → Option ImmediateAwait
+immediate_await l p plan n = if is_immediate p plan n then Some (told_await l p n) else None
+
+-- all of them, in order of their places
+abbrev pub immediate_awaits : Layout → Program → Plan → List ImmediateAwait
+immediate_awaits l p plan = given_below (λ i. immediate_await l p plan (suc i)) (count p.body)
+
 -- ---- the account
 
 -- what is known of task t
@@ -180,3 +207,4 @@ pub record IsAccount (text : List ℕ) (p : Program) (plan : Plan) (a : ℕ → 
   pub each : (t : ℕ) (d : TaskAccount) → t < length plan.parents → IsTaskAccount layout p plan a t (slice_index_or account.tasks t d)
   pub phasers : account.phasers ≡ map (statement_place layout) (phaser_origins p)
   pub names : account.names ≡ program_names p
+  pub immediate : account.immediate ≡ immediate_awaits layout p plan

@@ -1,5 +1,7 @@
 pub mod AwaitWords
 pub mod Names
+pub mod PhaserUses
+pub mod ImmediateAwaits
 pub mod Accounts
 -- How the program does it: private contracts alone cite these.
 pub mod inside

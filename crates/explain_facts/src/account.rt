@@ -1,7 +1,7 @@
 // What is known of the tasks of a text.
 
 use crate::names::GivenNames;
-use armus_base::{Event, List, PhaserId, TaskId};
+use armus_base::{Event, List, Offset, PhaserId, TaskId};
 use source_map::TextPlace;
 
 /// What is known of the tasks and the phasers of a text.
@@ -13,6 +13,8 @@ pub struct Account {
     pub phasers: List<TextPlace>,
     /// Their names.
     pub names: GivenNames,
+    /// The awaits at which nobody ever has to wait, in order of their places.
+    pub immediate: List<ImmediateAwait>,
 }
 
 /// What is known of a task.
@@ -70,6 +72,17 @@ pub struct Waiting {
     pub phase: u32,
     /// In which turn of each loop around the await it came to it, from outside in.
     pub turns: List<Turn>,
+}
+
+/// An await at which nobody ever has to wait, whatever the order.
+#[derive(Drop)]
+pub struct ImmediateAwait {
+    /// Its place.
+    pub at: TextPlace,
+    /// The await as it is printed, without the semicolon.
+    pub words: List<u8>,
+    /// How far it looks back or ahead.
+    pub off: Offset,
 }
 
 /// A turn of a loop.

@@ -15,6 +15,7 @@ ghost use Rattle.explain_facts.specs.inside.Facts.{AreTold};
 
 use crate::account::{Account, TaskAccount, Waiting};
 use crate::facts::TextFacts;
+use crate::immediate::immediate_awaits;
 use crate::nexts::nexts_of;
 use crate::waiting::waiting_of;
 use armus_base::{List, NoMemory, TaskEnd, TaskId};
@@ -116,10 +117,12 @@ fn account_with(
 {
     let tasks = task_accounts(&facts, world, ends)?;
     let phasers = phaser_places(&facts)?;
+    let immediate = immediate_awaits(&facts, world.plan())?;
     Ok(Account {
         tasks,
         phasers,
         names: facts.names,
+        immediate,
     })
 }
 

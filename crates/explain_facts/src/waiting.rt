@@ -30,8 +30,8 @@ fn await_text(alloc: Global, x: &Name, off: Offset) -> Result<List<u8>, NoMemory
     Ok(List::from_vec(out))
 }
 
-// The words of a statement, if it is an await.
-fn words_of(alloc: Global, stmt: Option<&Stmt>) -> Result<List<u8>, NoMemory>
+/// The words of a statement, if it is an await.
+pub(crate) fn words_of(alloc: Global, stmt: Option<&Stmt>) -> Result<List<u8>, NoMemory>
     ensures { IfOk result (λ words. words ≡ words_of (option_map (λ s. coming_of s.now) stmt.entry)) }
 {
     match stmt {

@@ -1,6 +1,6 @@
 use Rattle.std.proofs.Common.{◌≡◌, ◌∙◌, ◌<◌, arith, length, subst, sym}
-use Rattle.explain_deadlock.proofs.Marks.{mark_read, notes_more}
-use Rattle.explain_deadlock.proofs.notes.put_notes.Goals as goal
+use Rattle.explain_deadlock.proofs.NotesTold.{mark_read, notes_more}
+use Rattle.explain_deadlock.proofs.notes.put_phaser_notes.Goals as goal
 
 pub loop-q-preserved : goal.loop-q-preserved
 loop-q-preserved c =

@@ -1,15 +1,14 @@
 -- Which phasers the ops use, found op by op.
-use Rattle.std.proofs.Common.{◌≡◌, ◌∙◌, ◌+◌, ◌++◌, ◌<◌, ◌||◌, ℕ, suc, Bool, true, false, List, [], ◌∷◌, ap, append_assoc, arith, length, refl, replicate, slice_index_or, sym}
-use Rattle.std.proofs.lemmas.List.{get_or-replicate, get_or_default, length-replicate}
+use Rattle.std.proofs.Common.{◌≡◌, ◌∙◌, ◌+◌, ◌<◌, ◌||◌, ℕ, suc, Bool, true, false, List, [], ◌∷◌, ap, arith, length, refl, replicate, slice_index_or, sym}
+use Rattle.std.proofs.lemmas.List.{get_or-replicate, length-replicate}
 use Rattle.std.specs.List.{list_any}
 use Rattle.armus_base.specs.declared.op.Op.{Op}
 use Rattle.armus_base.specs.Places.{some_before}
 use Rattle.armus_base.specs.Plans.{Plan, code_of}
-use Rattle.explain_tasks.specs.Facts.{FactsValue}
-use Rattle.explain_deadlock.specs.Notes.{is_on_phaser, is_used_so, note_by, notes_below, used_by}
-use Rattle.explain_deadlock.specs.declared.notes.PhaserUse.TheVariants.{Awaits, Registers}
-use Rattle.explain_deadlock.specs.declared.notes.PhaserUse.{PhaserUse}
-use Rattle.explain_deadlock.specs.inside.Used.{HaveMarks, AreUsed, some_op}
+use Rattle.explain_facts.specs.PhaserUses.{is_on_phaser, is_used_so, some_op, used_by}
+use Rattle.explain_facts.specs.calls.Used.{AreUsed}
+use Rattle.explain_facts.specs.declared.uses.PhaserUse.{PhaserUse}
+use Rattle.explain_facts.specs.inside.Marked.{HaveMarks}
 
 -- ---- the ops of a task
 
@@ -80,21 +79,3 @@ used_end use_so plan n marks are all = record {
   sized = are.sized;
   each = λ q within. are.each q within ∙ ap (some_before (λ t. some_op use_so (code_of plan t) q)) all;
 }
-
--- ---- the notes
-
--- a mark, as it is read from a list that is long enough
-pub mark_read : (marks : List Bool) (q : ℕ) (mark is : Bool) → q < length marks → mark ≡ slice_index_or marks q mark → slice_index_or marks q false ≡ is → mark ≡ is
-mark_read marks q mark is inside read known = read ∙ get_or_default marks q mark false inside ∙ known
-
--- one note more
-pub notes_more : (f : FactsValue) (plan : Plan) (q : ℕ) (out now next : List ℕ) (a b : Bool) → now ≡ out ++ notes_below f plan q → next ≡ now ++ note_by f plan q a b
-    → a ≡ is_used_so Awaits plan q → b ≡ is_used_so Registers plan q → next ≡ out ++ notes_below f plan (q + 1)
-notes_more f plan q out now next a b so is awaited registered =
-    let one : suc q ≡ q + 1 = omega arith in
-    is
-    ∙ ap (λ z. z ++ note_by f plan q a b) so
-    ∙ append_assoc out (notes_below f plan q) (note_by f plan q a b)
-    ∙ ap (λ x. out ++ (notes_below f plan q ++ note_by f plan q x b)) awaited
-    ∙ ap (λ x. out ++ (notes_below f plan q ++ note_by f plan q (is_used_so Awaits plan q) x)) registered
-    ∙ ap (λ n. out ++ notes_below f plan n) one

@@ -1,6 +1,6 @@
 use Rattle.std.proofs.Common.{length}
-use Rattle.explain_deadlock.proofs.Marks.{HaveMarksSoFar}
-use Rattle.explain_deadlock.proofs.notes.mark_ops.Given as goal
+use Rattle.explain_facts.proofs.Marks.{HaveMarksSoFar}
+use Rattle.explain_facts.proofs.uses.mark_ops.Given as goal
 
 abbrev pub invariant-ops : goal.invariant-ops
 invariant-ops l = HaveMarksSoFar l.use_so l.fn.ops l.left l.initial.marks l.marks

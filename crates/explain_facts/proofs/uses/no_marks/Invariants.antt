@@ -1,5 +1,5 @@
 use Rattle.std.proofs.Common.{◌≡◌, false, replicate}
-use Rattle.explain_deadlock.proofs.notes.no_marks.Given as goal
+use Rattle.explain_facts.proofs.uses.no_marks.Given as goal
 
 abbrev pub invariant-loop : goal.invariant-loop
 invariant-loop l = l.marks.items ≡ replicate l.counter false
