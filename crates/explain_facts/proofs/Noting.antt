@@ -191,7 +191,7 @@ module _ (plan : Plan) (checked : IsCheckedPlan plan) (t i : ℕ) (op : Op) (is 
 event_within : (plan : Plan) (checked : IsCheckedPlan plan) (t i : ℕ) (e : Event) (o : Option Action) → action_at plan t (actions_before (code_of plan t) i) ≡ o →
     awaited o (phases_after plan t (actions_before (code_of plan t) i)) ≡ Some e → e.p.0 < length plan.makers
 event_within plan checked t i e (Some (Blocks aim)) at is =
-    let (same, n, member, far) = awaited_is aim (phases_after plan t (actions_before (code_of plan t) i)) e is in
+    let (same, (n, member, far)) = awaited_is aim (phases_after plan t (actions_before (code_of plan t) i)) e is in
     let here = phaser_of_member plan checked t (actions_before (code_of plan t) i) aim.phaser n member in
     omega (arith, same, here)
 event_within plan checked t i e (Some (Makes q)) at is = absurd (cc)

@@ -1,6 +1,6 @@
 -- The phases of all tasks, as rows: before any op, and behind a write.
 use mathlib.Core.Path.{fun_ext}
-use Rattle.std.proofs.Common.{◌≡◌, ◌∙◌, ◌+◌, ◌++◌, ◌<◌, ◌×◌, ℕ, zero, suc, List, [], ◌∷◌, Option, Some, None, Vec, ap, arith, get_or-set_other, get_or-set_same, inl, inr, length, length-append, refl, replicate, set, slice_index_or, subst, sym}
+use Rattle.std.proofs.Common.{◌≡◌, ◌∙◌, ◌+◌, ◌++◌, ◌<◌, ℕ, zero, suc, List, [], ◌∷◌, Option, Some, None, Vec, ap, arith, get_or-set_other, get_or-set_same, inl, inr, length, length-append, refl, replicate, set, slice_index_or, subst, sym}
 use Rattle.std.specs.Global.{Global}
 use Rattle.std.specs.Prelude.{◌==◌, ◌&&◌, false, true, if◌then◌else◌, slice_get}
 use Rattle.std.proofs.lemmas.Bool.{cases_eq, eq-eqb, ne_eqb}
@@ -62,7 +62,7 @@ module _ (rows : List (Vec (Option ℕ) Global)) (t q : ℕ) (v : Option ℕ) (r
 
 -- ---- before any op
 
-none_at : (n q : ℕ) → slice_index_or (replicate n None) q None ≡ None
+none_at : (n q : ℕ) → slice_index_or {A = Option ℕ} (replicate n None) q None ≡ None
 none_at zero q = refl
 none_at (suc n) zero = refl
 none_at (suc n) (suc q) = none_at n q

@@ -1,5 +1,5 @@
 // The awaits of a text at which nobody ever has to wait.
-ghost use Rattle.std.specs.Prelude.{◌≡◌, ℕ, ◌==◌, ◌+◌, ◌<◌, ◌≤◌, IfOk, OnOk, Ok, length, nat_lt, option_map, slice_index_or};
+ghost use Rattle.std.specs.Prelude.{◌≡◌, ℕ, ◌==◌, ◌+◌, ◌<◌, ◌≤◌, IfOk, OnOk, Ok, false, length, nat_lt, option_map, slice_index_or};
 ghost use Rattle.armus_base.specs.CheckedPlans.{IsCheckedPlan};
 ghost use Rattle.armus_base.specs.Offsets.{target};
 ghost use Rattle.armus_base.specs.declared.event.Event.{Event};

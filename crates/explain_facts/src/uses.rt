@@ -1,8 +1,8 @@
 // Which phasers the ops of a plan use, and how.
 ghost use Rattle.std.specs.Prelude.{◌≡◌, ◌==◌, IfOk, false, replicate};
-ghost use Rattle.explain_facts.specs.PhaserUses.{awaiting, is_on_phaser, registering, used_by};
+ghost use Rattle.explain_facts.specs.PhaserUses.{awaiting, is_on_phaser, registering, some_op, used_by};
 ghost use Rattle.explain_facts.specs.calls.Used.{AreUsed};
-ghost use Rattle.explain_facts.specs.inside.Marked.{HaveMarks, some_op};
+ghost use Rattle.explain_facts.specs.inside.Marked.{HaveMarks};
 
 use armus_base::{Cursor, NoMemory, Op, PhaserId, Plan, TaskId};
 use std::alloc::Global;
