@@ -5,7 +5,9 @@ pub mod Told
 pub mod Firsts
 pub mod Marks
 pub mod PhasesInRows
+pub mod CodeLeft
 pub mod Noting
+pub mod ImmediateTold
 pub mod OneAccount
 pub mod Witnesses
 pub mod Forkers

@@ -1,6 +1,7 @@
 // The awaits of a text at which nobody ever has to wait.
-ghost use Rattle.std.specs.Prelude.{◌≡◌, ℕ, ◌==◌, ◌+◌, ◌<◌, ◌≤◌, IfOk, OnOk, Ok, false, length, nat_lt, option_map, slice_index_or};
+ghost use Rattle.std.specs.Prelude.{◌≡◌, ℕ, ◌==◌, ◌+◌, ◌<◌, ◌≤◌, IfOk, OnOk, Ok, false, length, nat_lt, option_map, slice_get, slice_index_or, suc};
 ghost use Rattle.armus_base.specs.CheckedPlans.{IsCheckedPlan};
+ghost use Rattle.armus_base.specs.Finals.{given_below};
 ghost use Rattle.armus_base.specs.Offsets.{target};
 ghost use Rattle.armus_base.specs.declared.event.Event.{Event};
 ghost use Rattle.pl_core.specs.inside.Ops.{action_of, phases_moved};
@@ -73,6 +74,21 @@ fn mark_number(marks: &mut Vec<bool>, n: Option<u32>, is_marked: bool)
     }
 }
 
+// The statement from which an op comes, by those of all ops of its task.
+fn origin_at(origins: &[u32], at: usize) -> Option<u32>
+    ensures { result ≡ slice_get origins.now at }
+{
+    origins.get(at).copied()
+}
+
+// How many statements the text has.
+fn statements(facts: &TextFacts<'_>) -> u32
+    requires { AreKnownFacts facts.now }
+    ensures { result ≡ count facts.now.program.now.body }
+{
+    facts.offsets.as_slice().len() as u32
+}
+
 // What is kept of a walk along the codes of the tasks, in order of number.
 #[derive(Drop)]
 struct AwaitWalk {
@@ -91,10 +107,10 @@ impl AwaitWalk {
         requires checked { IsCheckedPlan plan.now }
         ensures { IfOk result (HasWalkedTo facts.now.program.now plan.now 0 0) }
     {
-        let statements = facts.offsets.as_slice().len() as u32 + 1;
+        let marks = statements(facts) + 1;
         let phases = PhaseRows::none(facts.alloc, plan)?;
-        let shared = no_marks(facts.alloc, statements)?;
-        let late = no_marks(facts.alloc, statements)?;
+        let shared = no_marks(facts.alloc, marks)?;
+        let late = no_marks(facts.alloc, marks)?;
         Ok(AwaitWalk {
             phases,
             shared,
@@ -169,7 +185,7 @@ impl AwaitWalk {
         let mut left = plan.cursor(t);
         let mut at = 0;
         'ops: while let Some(op) = left.next() {
-            self.go_on(registered, t, op, origins.get(at).copied());
+            self.go_on(registered, t, op, origin_at(&origins, at));
             at += 1;
         }
         Ok(())
@@ -234,6 +250,28 @@ fn immediate_await(
     Ok(None)
 }
 
+// What is told of the first statements, so many, at which by this walk nobody ever has to wait.
+fn immediate_among(
+    facts: &TextFacts<'_>,
+    plan: &Plan,
+    walk: &AwaitWalk,
+    statements: u32,
+) -> Result<Vec<ImmediateAwait>, NoMemory>
+    requires known { AreKnownFacts facts.now }
+    requires walked { HasWalkedTo facts.now.program.now plan.now (length plan.now.parents) 0 walk.now }
+    requires statements { statements ≤ count facts.now.program.now.body }
+    ensures { IfOk result (λ told. told.items ≡ given_below (λ i. immediate_await (kept_layout facts.now) facts.now.program.now plan.now (suc i)) statements) }
+{
+    let mut all = Vec::new(facts.alloc);
+    for i in 0..statements {
+        match immediate_await(facts, plan, walk, i + 1)? {
+            Some(told) => all.push(told)?,
+            None => {}
+        }
+    }
+    Ok(all)
+}
+
 // The awaits of a text at which nobody ever has to wait, in order of their places. The time is linear in the visits of the unfolding, and in the phasers times the
 // tasks.
 pub(crate) fn immediate_awaits(
@@ -245,12 +283,6 @@ pub(crate) fn immediate_awaits(
     ensures { IfOk result (λ told. told ≡ immediate_awaits (kept_layout facts.now) facts.now.program.now plan.now) }
 {
     let walk = walk(facts, plan)?;
-    let mut all = Vec::new(facts.alloc);
-    for i in 0..facts.offsets.as_slice().len() {
-        match immediate_await(facts, plan, &walk, i as u32 + 1)? {
-            Some(told) => all.push(told)?,
-            None => {}
-        }
-    }
-    Ok(List::from_vec(all))
+    let told = immediate_among(facts, plan, &walk, statements(facts))?;
+    Ok(List::from_vec(told))
 }
