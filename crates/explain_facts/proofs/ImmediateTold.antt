@@ -1,7 +1,8 @@
 -- Whether nobody ever has to wait at a statement, by the marks of the whole walk.
-use Rattle.std.proofs.Common.{◌≡◌, ◌∙◌, ◌+◌, ◌<◌, ◌≤◌, ◌&&◌, ℕ, List, Bool, true, false, Option, Some, None, ap, arith, length, refl, slice_index_or, sym}
-use Rattle.std.specs.Prelude.{if◌then◌else◌, not}
+use Rattle.std.proofs.Common.{◌≡◌, ◌∙◌, ◌+◌, ◌++◌, ◌<◌, ◌≤◌, ◌&&◌, ℕ, suc, List, Bool, true, false, Option, Some, None, ap, arith, length, refl, slice_index_or, sym}
+use Rattle.std.specs.Prelude.{if◌then◌else◌, not, option_to_list}
 use Rattle.armus_base.specs.declared.event.Event.{Event}
+use Rattle.armus_base.specs.Finals.{given_below}
 use Rattle.armus_base.specs.Plans.{Plan}
 use Rattle.pl_syntax.specs.Tree.{count}
 use Rattle.pl_syntax.specs.declared.tree.Program.{Program}
@@ -47,3 +48,10 @@ module _ (l : Layout) (p : Program) (plan : Plan) (w : AwaitWalk) (walked : HasW
 
   pub not_told_alone : slice_index_or w.late.items n false ≡ false → slice_index_or w.shared.items n false ≡ false → immediate_await l p plan n ≡ None
   not_told_alone early alone = told_by_shared false early alone
+
+-- what is told of one statement more
+pub told_more : (f : ℕ → Option ImmediateAwait) (n : ℕ) (now next : List ImmediateAwait) (o : Option ImmediateAwait) → now ≡ given_below f n →
+    next ≡ now ++ option_to_list o → o ≡ f n → next ≡ given_below f (n + 1)
+told_more f n now next o so is from =
+    let one : suc n ≡ n + 1 = omega arith in
+    is ∙ ap (λ xs. xs ++ option_to_list o) so ∙ ap (λ x. given_below f n ++ option_to_list x) from ∙ ap (given_below f) one

@@ -1,5 +1,5 @@
 // The awaits of a text at which nobody ever has to wait.
-ghost use Rattle.std.specs.Prelude.{◌≡◌, ℕ, ◌==◌, ◌+◌, ◌<◌, ◌≤◌, IfOk, OnOk, Ok, false, length, nat_lt, option_map, slice_get, slice_index_or, suc};
+ghost use Rattle.std.specs.Prelude.{◌≡◌, ◌+◌, ◌++◌, ◌<◌, ◌≤◌, IfOk, OnOk, false, length, nat_lt, option_map, option_to_list, slice_get, slice_index_or, suc};
 ghost use Rattle.armus_base.specs.CheckedPlans.{IsCheckedPlan};
 ghost use Rattle.armus_base.specs.Finals.{given_below};
 ghost use Rattle.armus_base.specs.Offsets.{target};
@@ -250,6 +250,22 @@ fn immediate_await(
     Ok(None)
 }
 
+// Appends what is told, if something is.
+fn push_told(
+    all: &mut Vec<ImmediateAwait>,
+    told: Option<ImmediateAwait>,
+) -> Result<(), NoMemory>
+    ensures { OnOk result (all.new.items ≡ all.old.items ++ option_to_list told) }
+{
+    match told {
+        Some(told) => {
+            all.push(told)?;
+            Ok(())
+        }
+        None => Ok(()),
+    }
+}
+
 // What is told of the first statements, so many, at which by this walk nobody ever has to wait.
 fn immediate_among(
     facts: &TextFacts<'_>,
@@ -264,10 +280,8 @@ fn immediate_among(
 {
     let mut all = Vec::new(facts.alloc);
     for i in 0..statements {
-        match immediate_await(facts, plan, walk, i + 1)? {
-            Some(told) => all.push(told)?,
-            None => {}
-        }
+        let told = immediate_await(facts, plan, walk, i + 1)?;
+        push_told(&mut all, told)?;
     }
     Ok(all)
 }

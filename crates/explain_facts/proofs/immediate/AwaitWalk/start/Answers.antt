@@ -5,12 +5,12 @@ use Rattle.explain_facts.proofs.Noting.{marks_first, phases_first}
 use Rattle.explain_facts.proofs.immediate.AwaitWalk.start.Goals as goal
 
 pub overflow_add-marks : goal.overflow_add-marks
-overflow_add-marks c = omega (arith, c.statements.ensures, c.requires.known.few)
+overflow_add-marks c = omega (arith, c.statements-marks.ensures, c.requires.known.few)
 
 pub returns : goal.returns
 returns c =
     let p = c.args.facts.now.program.now in
-    let many : c.statements.result + 1 ≡ count p.body + 1 = omega (arith, c.statements.ensures) in
+    let many : c.statements-marks.result + 1 ≡ count p.body + 1 = omega (arith, c.statements-marks.ensures) in
     record {
       cells = c.in_ok-phases.ensures.cells;
       phases = c.in_ok-phases.ensures.none ∙ phases_first c.args.plan.now c.requires.checked;
