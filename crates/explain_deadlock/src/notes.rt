@@ -1,12 +1,13 @@
 // The notes, where nobody waits for ever: on phasers for which nobody ever has to wait, and on awaits at which nobody ever has to.
-ghost use Rattle.std.specs.Prelude.{◌≡◌, ◌++◌, ◌<◌, OnOk, codes, length};
+ghost use Rattle.std.specs.Prelude.{◌≡◌, ◌++◌, ◌<◌, OnOk, length};
 ghost use Rattle.explain_deadlock.specs.Notes.{alone_words, immediate_note, immediate_notes, made_front, note_by, notes, phaser_notes, why_immediate};
 ghost use Rattle.explain_deadlock.specs.inside.Fitting.{IsTextOf};
+ghost use Rattle.explain_tasks.specs.Places.{front_in};
 
 use armus_base::{NoMemory, Offset, PhaserId, Plan, TaskId, put_words};
 use explain_facts::{Account, ImmediateAwait, PhaserUse, used_phasers};
 use explain_tasks::Facts;
-use source_map::TextPlaces;
+use source_map::{TextPlace, TextPlaces};
 
 /// A text with its account.
 #[derive(Clone, Copy, Drop)]
@@ -124,6 +125,26 @@ fn put_why_immediate(out: &mut Vec<u8>, off: Offset) -> Result<(), NoMemory>
     }
 }
 
+// Appends the place with which the note on an await begins.
+fn put_await_front(
+    facts: &Facts,
+    text: NotedText<'_>,
+    out: &mut Vec<u8>,
+    at: TextPlace,
+) -> Result<(), NoMemory>
+    requires text { IsTextOf facts.now text }
+    ensures { OnOk result (out.new.items ≡ out.old.items ++ front_in facts.now at) }
+{
+    text.places.put_front(facts.alloc(), out, text.file, at)
+}
+
+// Appends an await, as it is printed.
+fn put_await_words(out: &mut Vec<u8>, told: &ImmediateAwait) -> Result<(), NoMemory>
+    ensures { OnOk result (out.new.items ≡ out.old.items ++ told.now.words) }
+{
+    put_words(out, told.words.as_slice())
+}
+
 // Appends the note on an await at which nobody ever has to wait.
 fn put_immediate(
     facts: &Facts,
@@ -134,12 +155,28 @@ fn put_immediate(
     requires text { IsTextOf facts.now text }
     ensures { OnOk result (out.new.items ≡ out.old.items ++ immediate_note facts.now told.now) }
 {
-    text.places.put_front(facts.alloc(), out, text.file, told.at)?;
+    put_await_front(facts, text, out, told.at)?;
     put_words(out, b": note: ")?;
-    put_words(out, told.words.as_slice())?;
+    put_await_words(out, told)?;
     put_words(out, b" never has to wait: ")?;
     put_why_immediate(out, told.off)?;
     put_words(out, b"\n")
+}
+
+// Appends the notes on these awaits, at which nobody ever has to wait.
+fn put_immediate_notes(
+    facts: &Facts,
+    text: NotedText<'_>,
+    out: &mut Vec<u8>,
+    awaits: &[ImmediateAwait],
+) -> Result<(), NoMemory>
+    requires text { IsTextOf facts.now text }
+    ensures { OnOk result (out.new.items ≡ out.old.items ++ immediate_notes facts.now awaits.now) }
+{
+    for told in awaits {
+        put_immediate(facts, text, out, told)?;
+    }
+    Ok(())
 }
 
 /// Appends the notes on the phasers and the awaits of a text.
@@ -152,8 +189,5 @@ pub(crate) fn put_notes(
     ensures { OnOk result (out.new.items ≡ out.old.items ++ notes facts.now text.entry.plan.now) }
 {
     put_phaser_notes(facts, text, out)?;
-    for told in text.account.immediate.as_slice() {
-        put_immediate(facts, text, out, told)?;
-    }
-    Ok(())
+    put_immediate_notes(facts, text, out, text.account.immediate.as_slice())
 }
