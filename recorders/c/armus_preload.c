@@ -87,6 +87,11 @@ static int out = -1;
 static char address[256];
 static struct stat out_stat;
 static pid_t process, watcher_tid;
+static pthread_t watcher;
+static _Atomic(int) stopping;                                  /* 1 where the watcher is to end: a futex */
+static _Atomic(bool) is_watched;                               /* there is a watcher that nobody has joined */
+static _Atomic(bool) main_has_left;                            /* by pthread_exit, so that the last thread ends the process */
+static _Atomic(int) living;                                    /* threads that were made here and have not ended */
 
 /* ---- the functions of the libraries behind this one */
 #define UNBRACKETED(...) __VA_ARGS__
@@ -355,7 +360,7 @@ static void place_of(char *to, size_t size, const void *from, const void *frame,
     Dl_info info;
     unsigned n = from != NULL ? own_calls(from, frame, searches && frame != NULL, calls, &info) : 0;
     if (program[0] == 0) {
-        ssize_t length_of_name = readlink("/proc/self/exe", program, sizeof program - 1);
+        ssize_t length_of_name = readlink("/proc/thread-self/exe", program, sizeof program - 1);
         program[length_of_name > 0 ? length_of_name : 0] = 0;
     }
     if (n == 0) {
@@ -404,7 +409,7 @@ static bool is_shared(unsigned long address) {
     if (*known == address) {
         return false;
     }
-    FILE *maps = fopen("/proc/self/maps", "re");
+    FILE *maps = fopen("/proc/thread-self/maps", "re");
     bool shared = true;
     while (maps != NULL && fgets(line, sizeof line, maps) != NULL) {
         unsigned long from, to;
@@ -925,7 +930,7 @@ static void *watch(void *nothing) {
         out = -1;
     }
     say("# process %d/", process);
-    while (out >= 0) {
+    while (out >= 0 && !atomic_load(&stopping)) {
         clock_gettime(CLOCK_THREAD_CPUTIME_ID, &begun);
         look();
         clock_gettime(CLOCK_THREAD_CPUTIME_ID, &done);
@@ -933,7 +938,7 @@ static void *watch(void *nothing) {
         long pause = took * 25 > PERIOD * (long)MILLISECOND ? took * 25 : PERIOD * (long)MILLISECOND;
         pause = pause < LONGEST * (long)MILLISECOND ? pause : LONGEST * (long)MILLISECOND;
         struct timespec t = {pause / 1000000000L, pause % 1000000000L};
-        nanosleep(&t, NULL);
+        syscall(SYS_futex, &stopping, FUTEX_WAIT_PRIVATE, 0, &t, NULL, 0);
     }
     atomic_store(&active, 0);
     return nothing;
@@ -942,7 +947,7 @@ static void *watch(void *nothing) {
 /* ---- begin */
 static bool has_another_recorder(void) {
     char exe[512];
-    ssize_t n = readlink("/proc/self/exe", exe, sizeof exe - 1);
+    ssize_t n = readlink("/proc/thread-self/exe", exe, sizeof exe - 1);
     exe[n > 0 ? n : 0] = 0;
     const char *base = base_name(exe);
     return dlsym(RTLD_DEFAULT, "JNI_CreateJavaVM") != NULL || dlsym(RTLD_DEFAULT, "Py_IsInitialized") != NULL || strcmp(base, "java") == 0
@@ -951,6 +956,7 @@ static bool has_another_recorder(void) {
 
 /* The child begins anew. The socket is one of the watcher's own files, which a child has not; where the watcher has none of its own, nobody writes to it. */
 static void forked(void) {
+    bool is_made_here = mine != NULL && atomic_load(&mine->tid) != process;   /* not main: the child ends with this thread */
     out = -1;
     length = 0;
     for (unsigned c = 0; c < CHUNKS; c++) {
@@ -969,6 +975,10 @@ static void forked(void) {
     for (unsigned i = 0; i < OWNED; i++) {
         atomic_store(&owned[i], 0);
     }
+    atomic_store(&is_watched, false);
+    atomic_store(&stopping, 0);
+    atomic_store(&main_has_left, is_made_here);
+    atomic_store(&living, is_made_here);
     atomic_store(&active, -1);
 }
 
@@ -982,7 +992,6 @@ static void begin_watching(void) {
     int saved = errno;
     sigset_t every, own;
     pthread_attr_t kept;
-    pthread_t watcher;
     process = getpid();
     snprintf(address, sizeof address, "%s", path);
     atomic_store(&thread_numbers, 0);
@@ -994,9 +1003,10 @@ static void begin_watching(void) {
     sigfillset(&every);
     pthread_sigmask(SIG_SETMASK, &every, &own);
     pthread_attr_init(&kept);
-    pthread_attr_setdetachstate(&kept, PTHREAD_CREATE_DETACHED);
     pthread_attr_setstacksize(&kept, 256 * 1024);
-    if (real_pthread_create()(&watcher, &kept, watch, NULL) != 0) {
+    if (real_pthread_create()(&watcher, &kept, watch, NULL) == 0) {
+        atomic_store(&is_watched, true);
+    } else {
         atomic_store(&active, 0);
     }
     pthread_attr_destroy(&kept);
@@ -1007,10 +1017,25 @@ static void begin_watching(void) {
 /* ---- threads */
 struct start { void *(*function)(void *); void *word; struct slot *slot; };
 
+/* Where main has left by pthread_exit, glibc ends the process with its last thread. That must not be the watcher, so it ends before. */
+static void end_watcher_before_last(void) {
+    int not_yet = 0, kept;
+    if (!atomic_load(&main_has_left) || atomic_load(&living) != 0 || !atomic_load(&is_watched)
+        || !atomic_compare_exchange_strong(&stopping, &not_yet, 1)) {
+        return;
+    }
+    pthread_setcancelstate(PTHREAD_CANCEL_DISABLE, &kept);     /* a join is a cancellation point, and the end of a thread is none */
+    syscall(SYS_futex, &stopping, FUTEX_WAKE_PRIVATE, 1, NULL, NULL, 0);
+    real_pthread_join()(watcher, NULL);
+    pthread_setcancelstate(kept, NULL);
+}
+
 static void thread_ends(void *slot) {
     struct slot *s = slot;
     wait_ends(s);
     atomic_store(&s->state, ENDING);
+    atomic_fetch_sub(&living, 1);
+    end_watcher_before_last();
 }
 
 static void *run(void *word) {
@@ -1036,8 +1061,10 @@ int pthread_create(pthread_t *to, const pthread_attr_t *kept, void *(*function)(
     }
     s->begins = (const void *)(uintptr_t)function;
     *start = (struct start){function, word, s};
+    atomic_fetch_add(&living, 1);
     int result = real_pthread_create()(to, kept, run, start);
     if (result != 0) {
+        atomic_fetch_sub(&living, 1);
         atomic_store(&s->state, FREE);
         free(start);
     }
@@ -1047,6 +1074,8 @@ int pthread_create(pthread_t *to, const pthread_attr_t *kept, void *(*function)(
 static void main_ends(void) {
     if (mine != NULL && atomic_load(&mine->tid) == process) {
         atomic_store(&mine->state, ENDING);
+        atomic_store(&main_has_left, true);
+        end_watcher_before_last();
     }
 }
 
@@ -1082,8 +1111,10 @@ int thrd_create(thrd_t *to, thrd_start_t function, void *word) {
     }
     s->begins = (const void *)(uintptr_t)function;
     *start = (struct start_c11){function, word, s};
+    atomic_fetch_add(&living, 1);
     int result = real_thrd_create()(to, run_c11, start);
     if (result != thrd_success) {
+        atomic_fetch_sub(&living, 1);
         atomic_store(&s->state, FREE);
         free(start);
     }
