@@ -29,6 +29,7 @@
 #include <sys/syscall.h>
 #include <sys/uio.h>
 #include <sys/un.h>
+#include <sys/vfs.h>
 #include <threads.h>
 #include <time.h>
 #include <unistd.h>
@@ -36,6 +37,7 @@
 enum kind { BARRIER, JOIN, MUTEX, RWLOCK, CONDITION, SEMAPHORE, CRITICAL, OMP_LOCK, TEAM, TEAM_END, TASKS, ORDERED, IDLE, ADDRESS, KINDS };
 static const char *const kind_names[KINDS] = {"barrier", "end-of", "mutex", "rwlock", "condition", "semaphore", "critical", "lock", "team", "team-end", "tasks", "ordered", "idle", "address"};
 enum state { FREE, LIVE, ENDING };
+enum { MQUEUE_MAGIC = 0x19800202 };       /* the file system of message queues */
 enum { CHUNK = 256, CHUNKS = 256, OBJECTS = 4096, LINE = 512, NAME = 40, MILLISECOND = 1000000, PERIOD = 50, LONGEST = 1000 };
 
 /* What a waiting thread says. The counter is odd while it waits; all else is written before the counter. */
@@ -882,16 +884,30 @@ static void look(void) {
     hand_over();
 }
 
+/* A message queue tells the process no more of what comes where one of its files is closed. */
+static bool is_message_queue(int file) {
+    struct statfs found;
+    return fstatfs(file, &found) == 0 && found.f_type == MQUEUE_MAGIC;
+}
+
 /* The watcher's files are its own: what it opens takes no number from the program, and what the program closes is none of them. Where the system does not let it, its
  * socket has a high number among those of the program. */
 static void take_own_files(void) {
-    if (unshare(CLONE_FILES) == 0 && syscall(SYS_close_range, 0u, ~0u, 0u) != 0) {
-        struct rlimit most;
-        long end = getrlimit(RLIMIT_NOFILE, &most) == 0 && most.rlim_cur < 1048576 ? (long)most.rlim_cur : 1048576;
-        for (long f = 0; f < end; f++) {
-            close((int)f);
+    if (unshare(CLONE_FILES) != 0) {
+        return;
+    }
+    DIR *files = opendir("/proc/thread-self/fd");
+    if (files == NULL) {
+        syscall(SYS_close_range, 0u, ~0u, 0u);
+        return;
+    }
+    for (struct dirent *entry; (entry = readdir(files)) != NULL;) {
+        int file = atoi(entry->d_name);
+        if (entry->d_name[0] != '.' && file != dirfd(files) && !is_message_queue(file)) {
+            close(file);
         }
     }
+    closedir(files);
 }
 
 static int connected(const char *path) {
