@@ -16,5 +16,7 @@ pub mod OpTurns
 pub mod MovesMade
 pub mod ClocksTold
 pub mod WaitsTold
+pub mod PendingTold
+pub mod OriginsOfScenes
 -- Words of contracts further down, which no promise of a program needs.
 pub mod calls

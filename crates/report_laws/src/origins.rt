@@ -1,4 +1,5 @@
 // Laws of the statements and turns that explanations tell.
+ghost use Rattle.report_laws.specs.OriginsOfScenes.{OriginsAreThoseOfScenes};
 ghost use Rattle.report_laws.specs.OpOrigins.{ForksAreToldByTheirOps, PhasersAreToldByTheirOps};
 ghost use Rattle.report_laws.specs.OpTurns.{TurnsAreCounted};
 
@@ -13,4 +14,10 @@ pub fn ops_come_from_what_is_told()
 /// since the task came to it.
 pub fn turns_are_counted()
     ensures { TurnsAreCounted }
+{}
+
+/// The statements that are told of where tasks are drawn and forked and phasers made, and the names that are given there, are those of the stages of the unfolding that
+/// do so, as they would be told at a fault.
+pub fn origins_are_those_of_scenes()
+    ensures { OriginsAreThoseOfScenes }
 {}
