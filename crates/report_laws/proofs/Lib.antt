@@ -32,3 +32,4 @@ pub mod StagesOfVisits
 pub mod StagesThatFork
 pub mod StagesUnfold
 pub mod OriginsOfScenes
+pub mod OpsOfStages

@@ -18,5 +18,6 @@ pub mod ClocksTold
 pub mod WaitsTold
 pub mod PendingTold
 pub mod OriginsOfScenes
+pub mod OpsOfStages
 -- Words of contracts further down, which no promise of a program needs.
 pub mod calls

@@ -22,6 +22,6 @@ pub use clock_origins::{
 };
 pub use explanations::{each_task_is_told, refusals_are_so};
 pub use origins::{
-    ops_come_from_what_is_told, origins_are_those_of_scenes, turns_are_counted,
+    ops_come_from_what_is_told, origins_are_those_of_stages, turns_are_counted,
 };
 pub use reports::{cycle_is_proof, held_tasks_have_end, stand_as_reported};
