@@ -181,8 +181,8 @@ module _ (clock : ℕ → Bool) (moves : List Move) where
           | inr none ↦
               gone s s v (ends f) ms h
               (λ q is.
-                updated_other (stood no_standing h.made).pending f q false (λ same. false≢true (sym h.kinds.0 ∙ ap clock (sym same) ∙ is))
-                ∙ agree_before (λ r. s.remembered r t) (ends f) ms h (λ p. λ z. absurd (cc)) q is)
+              updated_other (stood no_standing h.made).pending f q false (λ same. false≢true (sym h.kinds.0 ∙ ap clock (sym same) ∙ is))
+              ∙ agree_before (λ r. s.remembered r t) (ends f) ms h (λ p. λ z. absurd (cc)) q is)
               (sym (ap (λ b. if b then None else Some (going t ms s)) none) ∙ e)
         ]
 

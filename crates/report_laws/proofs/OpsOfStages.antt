@@ -1,9 +1,10 @@
 -- The statement that is told of an op is that of the stage that adds it.
 use Rattle.std.proofs.Common.{◌≡◌, ◌≢◌, ◌⊎◌, ℕ, zero, suc, ◌+◌, ◌<◌, ◌≤◌, Bool, true, false, if◌then◌else◌, Option, Some, None, List, [], ◌∷◌, ◌++◌, append-nil, length, map, arith, sym, ◌∙◌, ap, subst, refl, inl, inr}
-use Rattle.std.specs.Prelude.{◌==◌, ◌&&◌, cond, slice_index_or, slice_set}
+use Rattle.std.specs.Prelude.{◌==◌, ◌&&◌, cond, option_map, slice_index_or, slice_set}
 use Rattle.std.specs.List.{slice_get}
 use Rattle.std.proofs.lemmas.Bool.{cases_eq, cases_lt, eq-eqb, ne_eqb}
 use Rattle.std.proofs.lemmas.List.{get_or-set_other, get_or-set_same, length-append, length-set}
+use Rattle.std.proofs.lemmas.Option.{slice_get-map}
 use Rattle.armus_base.specs.Numbers.{phaser, task}
 use Rattle.armus_base.specs.declared.op.Op.{Op}
 use Rattle.armus_base.specs.declared.op.Op.TheVariants as op
@@ -330,11 +331,6 @@ module _ (two : Bool) (t : ℕ) where
 
 -- ---- the law
 
-get_map : {A B : Type 0} (f : A → B) (xs : List A) (i : ℕ) (x : A) → slice_get xs i ≡ Some x → slice_get (map f xs) i ≡ Some (f x)
-get_map f [] i x e = absurd (cc)
-get_map f (y ∷ xs) zero x e = let same : y ≡ x = cc in ap (λ z. Some (f z)) same
-get_map f (y ∷ xs) (suc i) x e = get_map f xs i x e
-
 pub ops_are_told_by_their_stages : OpsAreToldByTheirStages
 ops_are_told_by_their_stages program stages before after end s t m leads all split before_leads makes =
     let two = program.two in
@@ -351,8 +347,8 @@ ops_are_told_by_their_stages program stages before after end s t m leads all spl
     let number : many t s ≡ length (own t before) + 0 = omega (arith, grown, none t) in
     ap (λ k. op_origin program t k) number
     ∙ ap (λ ms. slice_get (map (λ (n : Visit). n.statement) ms) (length (own t before) + 0)) visits
-    ∙ get_map (λ (n : Visit). n.statement) (own t before ++ own t (comes t m ∷ after)) (length (own t before) + 0) m
-    (slice_get-behind (own t before) (own t (comes t m ∷ after)) 0 ∙ ap (λ z. slice_get z 0) here)
+    ∙ slice_get-map (λ (n : Visit). n.statement) (own t before ++ own t (comes t m ∷ after)) (length (own t before) + 0)
+    ∙ ap (option_map (λ (n : Visit). n.statement)) (slice_get-behind (own t before) (own t (comes t m ∷ after)) 0 ∙ ap (λ z. slice_get z 0) here)
   where
     none : (k : ℕ) → many k (opening_state program.body) ≡ 0
     none zero = refl

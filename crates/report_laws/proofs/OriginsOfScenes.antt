@@ -1,7 +1,8 @@
 -- The statements and names that are told of a program without a fault are those that its stages give.
-use Rattle.std.proofs.Common.{◌≡◌, ℕ, zero, suc, ◌+◌, ◌-◌, ◌<◌, ◌≤◌, Bool, if◌then◌else◌, Option, Some, None, List, [], ◌∷◌, length, map, arith, sym, ◌∙◌, ap, subst, refl}
-use Rattle.std.specs.Prelude.{Contains, is_some, slice_index_or}
+use Rattle.std.proofs.Common.{◌≡◌, ℕ, zero, suc, ◌+◌, ◌-◌, ◌<◌, ◌≤◌, Bool, if◌then◌else◌, Option, Some, None, List, [], length, map, arith, sym, ◌∙◌, ap, subst, refl}
+use Rattle.std.specs.Prelude.{Contains, is_some, option_map, slice_index_or}
 use Rattle.std.specs.List.{flat_map, slice_get}
+use Rattle.std.proofs.lemmas.Option.{slice_get-map}
 use Rattle.armus_base.proofs.Lists.{some_at}
 use Rattle.pl_syntax.specs.declared.tree.Program.{Program}
 use Rattle.pl_syntax.specs.Tree.{adv, await, dereg, new_phaser, new_task, reg, skip}
@@ -39,11 +40,6 @@ numbered : (statements : List Coming) (n : ℕ) → 1 ≤ n → statement_in sta
 numbered statements zero l = absurd (omega (arith, l))
 numbered statements (suc n) l = ap (slice_get statements) (let z : n ≡ suc n - 1 = omega arith in z)
 
-get_map : {A B : Type 0} (f : A → B) (xs : List A) (i : ℕ) (x : A) → slice_get xs i ≡ Some x → slice_get (map f xs) i ≡ Some (f x)
-get_map f [] i x e = absurd (cc)
-get_map f (y ∷ xs) zero x e = let same : y ≡ x = cc in ap (λ z. Some (f z)) same
-get_map f (y ∷ xs) (suc i) x e = get_map f xs i x e
-
 module _ (program : Program) (stages : List Stage) (end : UnfoldingState) (leads : StagesLead program.two [] stages (opening_state program.body) end)
     (all : all_stages program.two end ≡ stages) where
   even : length end.starts ≡ length end.plan.parents
@@ -68,7 +64,8 @@ module _ (program : Program) (stages : List Stage) (end : UnfoldingState) (leads
       ∙ statements_all test program.two (length end.plan.parents) end (omega (arith, even))
       ∙ ap (flat_map (λ o. statements_where test (visits_by o))) (sym starts) in
       record {
-        statement = ap (λ z. slice_get z i) (sym statements) ∙ get_map (λ w. stage_statement (Some w)) (stages_where test stages) i v there
+        statement = ap (λ z. slice_get z i) (sym statements) ∙ slice_get-map (λ w. stage_statement (Some w)) (stages_where test stages) i
+            ∙ ap (option_map (λ w. stage_statement (Some w))) there
             ∙ ap (λ o. Some (stage_statement o)) (sym there ∙ sym is);
         name = ap (λ o. given_name (statement_in (written_statements program.body) (stage_statement o))) last_is
             ∙ ap given_name (numbered (written_statements program.body) by.by.statement text.0 ∙ text.1) ∙ name_so by.task by.by.statement by.by.coming ∙ ap name_given (sym last_is);

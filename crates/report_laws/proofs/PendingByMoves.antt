@@ -83,10 +83,10 @@ move_pending s (ends f) xs q no_stop is =
     ∙ one_op_more second (op.Drop (phaser f)) q
     ∙ none_on f q s.pending (is_pending second q)
     (λ other.
-      one_op_more first (op.Await (phaser f) Here) q
-      ∙ ap (λ b. not b && is_pending first q) (ne_eqb f q (λ e. other (sym e)))
-      ∙ one_op_more xs (op.Adv (phaser f)) q
-      ∙ ap (λ b. b || is_signalled q (reverse xs)) (ne_eqb f q (λ e. other (sym e))) ∙ is)
+    one_op_more first (op.Await (phaser f) Here) q
+    ∙ ap (λ b. not b && is_pending first q) (ne_eqb f q (λ e. other (sym e)))
+    ∙ one_op_more xs (op.Adv (phaser f)) q
+    ∙ ap (λ b. b || is_signalled q (reverse xs)) (ne_eqb f q (λ e. other (sym e))) ∙ is)
 move_pending s (stops ps) xs q no_stop is = absurd (no_stop ps refl)
 
 -- no move of these is a stop

@@ -33,7 +33,7 @@ forks_more a b c first rest (forks_once t m start free is last at) (forks_once t
 abbrev pub IsEven : UnfoldingState → Type 0
 IsEven s = length s.starts ≡ length s.plan.parents
 
-not_false : (b : Bool) → not b ≡ false → b ≡ true
+pub not_false : (b : Bool) → not b ≡ false → b ≡ true
 not_false true e = refl
 not_false false e = absurd (false≢true (sym e))
 

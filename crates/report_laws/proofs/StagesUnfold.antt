@@ -1,7 +1,7 @@
 -- The stages of a program's unfolding, where none is at fault, lead to the end of its computation.
-use Rattle.std.proofs.Common.{◌≡◌, ◌≢◌, ℕ, zero, suc, ◌+◌, ◌-◌, ◌≤◌, Bool, true, false, if◌then◌else◌, not, Option, Some, None, Ok, List, [], ◌∷◌, ◌++◌, append_assoc, append-nil, length, map, arith, sym, ◌∙◌, ap, subst, refl}
+use Rattle.std.proofs.Common.{◌≡◌, ◌≢◌, ℕ, zero, suc, ◌+◌, ◌-◌, ◌≤◌, Bool, true, false, if◌then◌else◌, Option, Some, None, Ok, List, [], ◌∷◌, ◌++◌, append_assoc, append-nil, length, map, arith, sym, ◌∙◌, ap, subst, refl}
 use Rattle.std.specs.Prelude.{nat_lt, slice_index_or}
-use Rattle.std.proofs.lemmas.Bool.{false≢true, ltb-true}
+use Rattle.std.proofs.lemmas.Bool.{ltb-true}
 use Rattle.std.proofs.lemmas.List.{get_or_past, length-append}
 use Rattle.armus_base.specs.Numbers.{phaser, task}
 use Rattle.armus_base.specs.declared.op.Op.TheVariants as op
@@ -13,13 +13,9 @@ use Rattle.pl_plan.specs.Tests.{Passes}
 use Rattle.pl_plan.specs.Unfolding.{◌>>=◌, Coming, Outcome, Start, UnfoldingState, Visit, a_fork, a_loop, a_plain, a_turn, add_op, ended, fault_unless, leave, leave_below, make_visit, make_visits, opening_state, too_many_ops, unfold_task, unfold_tasks, visit, visits_of, with_member, with_members, with_names}
 use Rattle.pl_plan.proofs.ByTable.{kind_none, visit_by}
 use Rattle.pl_plan.proofs.FirstRows.{answer}
-use Rattle.report_laws.proofs.StagesThatFork.{Forks, IsEven, forks_not, forks_once, stage_even, stages_even, stages_fork, start_in}
+use Rattle.report_laws.proofs.StagesThatFork.{Forks, IsEven, forks_not, forks_once, not_false, stage_even, stages_even, stages_fork, start_in}
 
 -- ---- how many tasks there are
-
-not_false : (b : Bool) → not b ≡ false → b ≡ true
-not_false true e = refl
-not_false false e = absurd (false≢true (sym e))
 
 few_after : (t n : ℕ) (c : Coming) (s : UnfoldingState) → Passes s t c → length s.plan.parents ≤ 4096 → length (after_stage (comes t (visit n c)) s).plan.parents ≤ 4096
 few_after t n (a_plain (new_task x)) s passes few =
@@ -206,7 +202,7 @@ module _ (two : Bool) (e : UnfoldingState) where
   tasks_go (suc k) (suc n) t before s le even none leads =
       by (start_in e t) refl (stages_fork two t before (tail t (suc k)) s e leads even) (subst (λ o. StagesLead two before (stages_of two t o ++ tail (suc t) k) s e) refl leads)
       (λ b v even_v leads_v. subst (λ m. unfold_tasks two n m v ≡ Ok e) (let z : suc t ≡ t + 1 = omega arith in z)
-        (tasks_go k n (suc t) b v (omega (arith, le)) even_v (λ u l. none u (omega (arith, l))) leads_v))
+      (tasks_go k n (suc t) b v (omega (arith, le)) even_v (λ u l. none u (omega (arith, l))) leads_v))
     where
       by : {last : Option Stage} (o : Option Start) → start_in e t ≡ o → Forks (start_in s t) (start_in e t) last → StagesLead two before (stages_of two t o ++ tail (suc t) k) s e →
           ((b : List Stage) (v : UnfoldingState) → IsEven v → StagesLead two b (tail (suc t) k) v e → unfold_tasks two n (t + 1) v ≡ Ok e) →

@@ -130,9 +130,9 @@ module _ (clock : ℕ → Bool) (moves : List Move) (memory : ℕ → Option ℕ
         phaser_number = p;
         stands = subst (λ ops. IsAtOp ops done (length before)) (sym code) (at_await before p rest done (ap (λ ops. drop done (actions_of ops)) (sym code) ∙ next));
         of_move = (
-            omega (arith, low, ap (λ z. length (code_of_moves z)) fewer),
-            omega (arith, high, many, ap (λ z. length (code_of_moves z)) more),
-          );
+          omega (arith, low, ap (λ z. length (code_of_moves z)) fewer),
+          omega (arith, high, many, ap (λ z. length (code_of_moves z)) more),
+        );
         awaits = ap (λ ops. slice_get ops (length before)) code
             ∙ ap (slice_get (before ++ (await ∷ rest))) (let z : length before ≡ length before + 0 = omega arith in z) ∙ slice_get-behind before (await ∷ rest) 0;
         pending = λ q is. ap (λ ops. is_pending (take (length before) ops) q) code ∙ ap (λ z. is_pending z q) (take_front before (await ∷ rest)) ∙ agree q is;

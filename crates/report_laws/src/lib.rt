@@ -21,7 +21,5 @@ pub use clock_origins::{
     waits_come_from_what_is_told,
 };
 pub use explanations::{each_task_is_told, refusals_are_so};
-pub use origins::{
-    ops_come_from_what_is_told, origins_are_those_of_stages, turns_are_counted,
-};
+pub use origins::{ops_come_from_what_is_told, origins_are_those_of_stages, turns_are_counted};
 pub use reports::{cycle_is_proof, held_tasks_have_end, stand_as_reported};
