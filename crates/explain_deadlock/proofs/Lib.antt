@@ -1,6 +1,7 @@
 pub mod Pieces
 pub mod Marks
 pub mod NobodyThere
+pub mod MakersAlone
 pub mod VerdictWalks
 pub mod NextInside
 pub mod Starts

@@ -6,13 +6,13 @@ use Rattle.armus_base.specs.CheckedPlans.{IsCheckedPlan}
 use Rattle.armus_base.specs.Counts.{IsDistinct}
 use Rattle.armus_base.specs.Finals.{final_of}
 use Rattle.armus_base.specs.Places.{state_at}
-use Rattle.armus_base.specs.Plans.{Plan}
-use Rattle.armus_base.specs.Runs.{IsPlainRun, Place, state_after}
-use Rattle.armus_base.specs.States.{Phases, Step}
+use Rattle.armus_base.specs.Plans.{IsMakerOf, Plan}
+use Rattle.armus_base.specs.Runs.{IsLegalRun, IsPlainRun, Place, state_after}
+use Rattle.armus_base.specs.States.{IsMember, Phases, Step}
 use Rattle.explain_facts.specs.declared.account.Waiting.{Waiting}
 use Rattle.report.specs.Reports.{IsReportedCycle, IsSomeDead}
 use Rattle.explain_deadlock.specs.Notes.{is_used_so}
-use Rattle.explain_deadlock.specs.declared.notes.PhaserUse.TheVariants.{Awaits}
+use Rattle.explain_deadlock.specs.declared.notes.PhaserUse.TheVariants.{Awaits, Registers}
 use Rattle.explain_deadlock.specs.declared.outcome.WaitVerdict.{WaitVerdict}
 use Rattle.explain_deadlock.specs.declared.outcome.WaitVerdict.TheVariants.{Circle}
 use Rattle.explain_tasks.specs.Facts.{FactsValue, is_waiting, situation_of, wait_of}
@@ -79,3 +79,9 @@ abbrev pub NobodyWaitsThere : Type 0
 NobodyWaitsThere =
     (plan : Plan) (steps : List Step) (q t : ℕ) (e : Event) → IsCheckedPlan plan → IsPlainRun plan steps → is_used_so Awaits plan q ≡ false →
     (state_after steps).published t ≡ Some e → e.p.0 ≡ q → ⊥
+
+-- where no op of a plan registers a task on phaser q, its maker alone is a member of it in any state to which a run leads
+abbrev pub OnlyMakersAreMembers : Type 0
+OnlyMakersAreMembers =
+    (plan : Plan) (steps : List Step) (q t : ℕ) → IsCheckedPlan plan → IsLegalRun plan steps → is_used_so Registers plan q ≡ false →
+    IsMember (state_after steps) t q → IsMakerOf plan t q

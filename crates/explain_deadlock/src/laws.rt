@@ -1,6 +1,6 @@
 // Laws of explanations.
 ghost use Rattle.explain_deadlock.specs.calls.Laws.{ChainsEnd, DeadlockStandsFirst, ExplanationExists, ForkersAreToCome, HeldAreNotImpededByDead, NothingIsSaidTwice, OneExplanation, ShownAreDead, WaitingIsTold};
-ghost use Rattle.explain_deadlock.specs.Laws.{DeadlockIsReported, EachHasAParagraph, EachImpederIsTold, NobodyWaitsThere, SaysWhatIsSo, WaitAlike};
+ghost use Rattle.explain_deadlock.specs.Laws.{DeadlockIsReported, EachHasAParagraph, EachImpederIsTold, NobodyWaitsThere, OnlyMakersAreMembers, SaysWhatIsSo, WaitAlike};
 
 /// The places of a text's plan have one explanation at most.
 pub fn one_explanation()
@@ -68,4 +68,9 @@ pub fn walks_end()
 /// In no state of a run anybody waits at a phaser that no op of the plan awaits.
 pub fn nobody_waits_there()
     ensures { NobodyWaitsThere }
+{}
+
+/// In each state of a run its maker alone is a member of a phaser on which no op of the plan registers a task.
+pub fn only_makers_are_members()
+    ensures { OnlyMakersAreMembers }
 {}

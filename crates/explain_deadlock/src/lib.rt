@@ -18,7 +18,7 @@ pub use explaining::{Explanation, explanation_of};
 pub use laws::{
     deadlock_is_shown, deadlock_stands_first, each_has_a_paragraph, each_impeder_is_told,
     explanation_exists, held_are_not_impeded_by_dead, nobody_waits_there, nothing_is_said_twice,
-    one_explanation, says_what_is_so, somebody_waits, walks_end,
+    one_explanation, only_makers_are_members, says_what_is_so, somebody_waits, walks_end,
 };
 pub use notes::PhaserUse;
 pub use outcome::WaitVerdict;
