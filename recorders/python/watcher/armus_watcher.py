@@ -787,12 +787,14 @@ class Watcher:
 
 # ---- begin and end
 class Life:
-    """The watcher's thread, which stops before a fork and goes on behind it."""
+    """The watcher's thread, which stops before a fork and goes on behind it. There is one at a time, and none while a thread forks."""
     current = None
+    beginning = _thread.allocate_lock()             # who begins one; never waited for
+    forking = set()                                 # the threads that are in a fork
 
     def __init__(self, hook):
-        self.hook, self.wake = hook, _thread.allocate_lock()
-        self.done, self.native = _thread.allocate_lock(), None
+        self.hook, self.wake, self.process = hook, _thread.allocate_lock(), os.getpid()
+        self.done, self.native, self.ending = _thread.allocate_lock(), None, False
         self.wake.acquire()
 
     def connect(self):
@@ -813,7 +815,7 @@ class Life:
         try:
             self.done.acquire()
             self.native = _thread.get_native_id()
-            if self.connect():
+            if not self.ending and self.connect():
                 watcher = Watcher(self.lines)
                 pause = PERIOD
                 while not self.wake.acquire(timeout=pause):
@@ -834,6 +836,7 @@ class Life:
 
     def end(self):
         """Tells the thread to end."""
+        self.ending = True
         try:
             self.wake.release()
         except RuntimeError:
@@ -843,7 +846,7 @@ class Life:
         """Ends the thread, and waits until the kernel knows it no more."""
         self.end()
         end = time.monotonic() + 0.5
-        while self.native and os.path.exists(f'/proc/self/task/{self.native}') and time.monotonic() < end:
+        while (self.native is None or os.path.exists(f'/proc/self/task/{self.native}')) and time.monotonic() < end:
             time.sleep(0.0005)
 
 
@@ -861,40 +864,66 @@ def moved_file(number):
     return other
 
 
-def start(run):
+class Started:
     """A thread that Python did not start: it is none of the program's threads, and is not counted as one. It blocks all signals."""
-    import ctypes
-    import signal
-    made = ctypes.CFUNCTYPE(ctypes.c_void_p, ctypes.c_void_p)(lambda _: run())
-    own = signal.pthread_sigmask(signal.SIG_BLOCK, signal.valid_signals())
-    try:
-        library, thread = ctypes.CDLL(None), ctypes.c_ulong()
-        if library.pthread_create(ctypes.byref(thread), None, made, None) == 0:
-            library.pthread_detach(thread)
-    finally:
-        signal.pthread_sigmask(signal.SIG_SETMASK, own)
-    return made
+    lives = {}                                      # what the threads run that have not begun yet, by number
+    made = None                                     # the function of C that they all run; it stays, since a thread is in it until it is gone
+
+    @classmethod
+    def start(cls, life):
+        import ctypes
+        import signal
+        if cls.made is None:
+            cls.made = ctypes.CFUNCTYPE(ctypes.c_void_p, ctypes.c_void_p)(lambda number: cls.lives.pop(number).run())
+        number = id(life)
+        cls.lives[number] = life
+        own = signal.pthread_sigmask(signal.SIG_BLOCK, signal.valid_signals())
+        try:
+            library, thread = ctypes.CDLL(None), ctypes.c_ulong()
+            if library.pthread_create(ctypes.byref(thread), None, cls.made, ctypes.c_void_p(number)) == 0:
+                library.pthread_detach(thread)
+            else:
+                life.native = 0                     # there is no thread
+                del cls.lives[number]
+        finally:
+            signal.pthread_sigmask(signal.SIG_SETMASK, own)
 
 
 def begin(hook):
-    first = Life.current is None
-    Life.current = life = Life(hook)
-    life.kept = start(life.run)
-    if first:
-        os.register_at_fork(before=before_fork, after_in_parent=behind_fork)
-        import atexit
-        atexit.register(lambda: Life.current and Life.current.end())
+    """Begins the watcher, unless there is one, or another thread begins it or will do so behind its fork."""
+    life = Life.current
+    if Life.forking or life is not None and life.process == os.getpid() and not life.ending or not Life.beginning.acquire(False):
+        return
+    try:
+        first = life is None
+        Life.current = life = Life(hook)
+        Started.start(life)
+        if first:
+            os.register_at_fork(before=before_fork, after_in_parent=behind_fork)
+            import atexit
+            atexit.register(lambda: Life.current and Life.current.end())
+    finally:
+        Life.beginning.release()
 
 
 def before_fork():
-    if Life.current is not None:
+    Life.forking.add(_thread.get_ident())
+    if Life.current.process == os.getpid():
         Life.current.stop()
 
 
 def behind_fork():
-    """In the parent: goes on where there are other threads, and else with the next one."""
+    """In the parent, behind the last fork: goes on where there are other threads, and else with the next one."""
     life = Life.current
-    if life is not None:
-        life.hook()
+    Life.forking.discard(_thread.get_ident())
+    if not Life.forking:
         if len(sys._current_frames()) > 1 or 'multiprocessing' in sys.modules or 'asyncio' in sys.modules:
             begin(life.hook)
+        else:
+            life.hook()
+
+
+def in_child():
+    """No other thread is there. This comes before a watcher begins in the child."""
+    Life.forking.clear()
+    Life.beginning = _thread.allocate_lock()
