@@ -1073,13 +1073,14 @@ static void made(MPI_Comm parent, MPI_Comm handle, const char *how) {
     }
 }
 
-/* An inter-communicator is named by the ranks of both sides, and as which one of these. */
+/* An inter-communicator is named by the ranks of both sides, and as which one of these; not where two threads may make one at once, which may have the other order in the
+ * other rank. */
 static void made_between(MPI_Comm handle) {
     struct communicator *c = known(handle);
     enum { KNOWN = 256 };
     static struct { uint32_t ranks; unsigned made; } pairs[KNOWN];
     uint32_t h = 2166136261u;
-    if (c == NULL || least_of(c->world, c->size) < 0 || least_of(c->peer, c->peers) < 0) {
+    if (c == NULL || concurrent || least_of(c->world, c->size) < 0 || least_of(c->peer, c->peers) < 0) {
         return;
     }
     for (int side = 0; side < 2; side++) {
