@@ -890,20 +890,23 @@ class Started:
 
 
 def begin(hook):
-    """Begins the watcher, unless there is one, or another thread begins it or will do so behind its fork."""
+    """Begins the watcher, unless there is one, or one will begin behind a fork. Who is here while another thread is leaves it to that one, which looks again."""
+    while not Life.forking and not is_watched() and Life.beginning.acquire(False):
+        try:
+            first = Life.current is None
+            Life.current = Life(hook)
+            Started.start(Life.current)
+            if first:
+                os.register_at_fork(before=before_fork, after_in_parent=behind_fork)
+                import atexit
+                atexit.register(lambda: Life.current and Life.current.end())
+        finally:
+            Life.beginning.release()
+
+
+def is_watched():
     life = Life.current
-    if Life.forking or life is not None and life.process == os.getpid() and not life.ending or not Life.beginning.acquire(False):
-        return
-    try:
-        first = life is None
-        Life.current = life = Life(hook)
-        Started.start(life)
-        if first:
-            os.register_at_fork(before=before_fork, after_in_parent=behind_fork)
-            import atexit
-            atexit.register(lambda: Life.current and Life.current.end())
-    finally:
-        Life.beginning.release()
+    return life is not None and life.process == os.getpid() and not life.ending
 
 
 def before_fork():
