@@ -471,11 +471,20 @@ class Watcher:
         """What the announcer knows a thread by. Tasks and others have a key of their own."""
         return ('thread', ident, self.began.get(ident, (None, 0))[1]) if isinstance(ident, int) else ident
 
-    def name(self, ident):
-        threading, thread = sys.modules.get('threading'), self.thread(ident)
+    def name(self, ident, frame):
+        threading, thread = sys.modules.get('threading'), self.thread(ident) or self.thread_of(frame)
         if thread is not None:
             return 'main' if thread is threading._main_thread else thread._name
         return f'thread-{len(self.announcer.names)}'
+
+    @classmethod
+    def thread_of(cls, frame):
+        """The thread that has this frame, by its first one: where threading does not know it yet."""
+        while frame.f_back is not None:
+            frame = frame.f_back
+        code, threading = frame.f_code, sys.modules.get('threading')
+        is_first = threading is not None and code.co_name == '_bootstrap' and code.co_filename == threading.__file__
+        return dict(cls.library_values(frame)).get('self') if is_first else None
 
     @classmethod
     def place(cls, frame):
@@ -505,7 +514,7 @@ class Watcher:
         self.earlier, self.beginning = self.beginning, {}
         self.know(frames)
         for ident, frame in frames.items():
-            present[ident] = self.name(ident), self.place(frame)
+            present[ident] = self.name(ident, frame), self.place(frame)
             if natives[ident] is not None:
                 at = self.slept_since(ident, natives[ident], (id(frame), frame.f_lasti))
                 if at is not None:
@@ -522,7 +531,7 @@ class Watcher:
         self.add_others(present, standing, {n for n in natives.values() if n})
         for ident, frame in sys._current_frames().items():       # who began meanwhile
             if ident not in present and ident != self.own:
-                present[ident] = self.name(ident), self.place(frame)
+                present[ident] = self.name(ident, frame), self.place(frame)
         self.end_main(present, standing, frames)
         if standing and self.has_handlers():
             present['signals'] = 'signal-handlers', 'signal.py'
