@@ -66,6 +66,10 @@ static struct keeper keepers[KEEPERS];
 static struct barrier *barriers[BARRIERS];
 static unsigned task_numbers, keeper_numbers, barrier_numbers;
 static _Atomic(unsigned) contended;
+static pthread_t reader;
+static _Atomic(bool) reads;             /* there is a reader that nobody has joined */
+static _Atomic(bool) main_has_left;     /* by pthread_exit, so that the last thread ends the process */
+static _Atomic(int) living;             /* tasks that have not ended */
 static _Atomic(int) state = -1;         /* -1 not begun, 0 off, 1 on */
 static _Atomic(unsigned) order;         /* 0 free, 1 taken, 2 taken and somebody waits */
 static __thread struct task *mine __attribute__((tls_model("initial-exec")));
@@ -525,6 +529,18 @@ static void *read_answers(void *nothing) {
     return nothing;
 }
 
+/* Where main has left by pthread_exit, glibc ends the process with its last thread. That must not be the one that reads, so it ends before. */
+static void ends_reader_before_last(void) {
+    if (!atomic_load(&main_has_left) || atomic_load(&living) != 0 || !atomic_exchange(&reads, false)) {
+        return;
+    }
+    turns_off(NULL);
+    if (is_own_file()) {
+        shutdown(out, SHUT_RDWR);
+    }
+    real_pthread_join()(reader, NULL);
+}
+
 /* ---- begin */
 static bool has_another_recorder(void) {
     char exe[512];
@@ -576,6 +592,9 @@ static void in_child(void) {
     memset(&first_task, 0, sizeof first_task);
     free_tasks = NULL;
     task_numbers = 0;
+    atomic_store(&reads, false);
+    atomic_store(&main_has_left, false);
+    atomic_store(&living, 0);
     atomic_store(&contended, 0);
     mine = NULL;
     atomic_store(&state, -1);
@@ -585,6 +604,7 @@ static void in_child(void) {
 static void names_main(void) {
     if (syscall(SYS_gettid) == process) {
         mine = tasks[0] = &first_task;
+        atomic_fetch_add(&living, 1);
         atomic_store(&mine->tid, process);
         mine->handle = pthread_self();
         mine->has_handle = true;
@@ -598,17 +618,16 @@ static bool reaches(void) {
     return path != NULL && getenv("ARMUS_GUARD") != NULL && !has_another_recorder() && (out = connected(path)) >= 0 && fstat(out, &out_stat) == 0;
 }
 
-/* The thread that reads: it takes no signal of the program's. */
+/* It takes no signal of the program's. */
 static bool begins_reader(void) {
     sigset_t every, own;
     pthread_attr_t kept;
-    pthread_t reader;
     sigfillset(&every);
     pthread_sigmask(SIG_SETMASK, &every, &own);
     pthread_attr_init(&kept);
-    pthread_attr_setdetachstate(&kept, PTHREAD_CREATE_DETACHED);
     pthread_attr_setstacksize(&kept, 256 * 1024);
     bool begun = real_pthread_create()(&reader, &kept, read_answers, NULL) == 0;
+    atomic_store(&reads, begun);
     pthread_attr_destroy(&kept);
     pthread_sigmask(SIG_SETMASK, &own, NULL);
     return begun;
@@ -920,15 +939,7 @@ int pthread_barrier_wait(pthread_barrier_t *key) {
 struct start { void *(*function)(void *); thrd_start_t function_c11; void *word; struct task *task; };
 
 /* As late as it can be: behind the destructors of the program's own values, of which there are some turns. */
-static void thread_ends(void *task) {
-    struct task *t = task;
-    if (t != mine || t->ended || atomic_load(&state) != 1) {
-        return;
-    }
-    if (++t->iteration < PTHREAD_DESTRUCTOR_ITERATIONS) {
-        pthread_setspecific(end_key, t);
-        return;
-    }
+static void tell_end(struct task *t) {
     signals own = order_begins();
     for (unsigned i = 0; i < OF_TASK; i++) {
         struct barrier *b = t->barriers[i];
@@ -955,6 +966,26 @@ static void thread_ends(void *task) {
     }
     mine = NULL;
     ends_order(own);
+}
+
+static void thread_ends(void *task) {
+    struct task *t = task;
+    if (t != mine || t->ended) {
+        return;
+    }
+    if (++t->iteration < PTHREAD_DESTRUCTOR_ITERATIONS) {
+        pthread_setspecific(end_key, t);
+        return;
+    }
+    bool is_main = t == &first_task;
+    if (atomic_load(&state) == 1) {
+        tell_end(t);
+    }
+    if (is_main) {
+        atomic_store(&main_has_left, true);
+    }
+    atomic_fetch_sub(&living, 1);
+    ends_reader_before_last();
 }
 
 static void takes_place(struct start *start) {
@@ -990,6 +1021,7 @@ static struct start *named_start(struct task *own_task, const void *from, const 
         signals own = order_begins();
         start->task = new_task();
         if (start->task != NULL) {
+            atomic_fetch_add(&living, 1);
             say("%d/%s%s join %d/end-of-%s%s 0 @%s", NAMED(start->task), NAMED(start->task), place);
         }
         ends_order(own);
@@ -1009,6 +1041,7 @@ static void begins_not(struct start *start) {
     tasks[t->number % TASKS] = NULL;
     t->next = free_tasks;
     free_tasks = t;
+    atomic_fetch_sub(&living, 1);
     ends_order(own);
     free(start);
 }

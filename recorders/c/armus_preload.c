@@ -29,6 +29,7 @@
 #include <sys/syscall.h>
 #include <sys/uio.h>
 #include <sys/un.h>
+#include <sys/vfs.h>
 #include <threads.h>
 #include <time.h>
 #include <unistd.h>
@@ -36,6 +37,7 @@
 enum kind { BARRIER, JOIN, MUTEX, RWLOCK, CONDITION, SEMAPHORE, CRITICAL, OMP_LOCK, TEAM, TEAM_END, TASKS, ORDERED, IDLE, ADDRESS, KINDS };
 static const char *const kind_names[KINDS] = {"barrier", "end-of", "mutex", "rwlock", "condition", "semaphore", "critical", "lock", "team", "team-end", "tasks", "ordered", "idle", "address"};
 enum state { FREE, LIVE, ENDING };
+enum { MQUEUE_MAGIC = 0x19800202 };       /* the file system of message queues */
 enum { CHUNK = 256, CHUNKS = 256, OBJECTS = 4096, LINE = 512, NAME = 40, MILLISECOND = 1000000, PERIOD = 50, LONGEST = 1000 };
 
 /* What a waiting thread says. The counter is odd while it waits; all else is written before the counter. */
@@ -87,6 +89,11 @@ static int out = -1;
 static char address[256];
 static struct stat out_stat;
 static pid_t process, watcher_tid;
+static pthread_t watcher;
+static _Atomic(int) stopping;                                  /* 1 where the watcher is to end: a futex */
+static _Atomic(bool) is_watched;                               /* there is a watcher that nobody has joined */
+static _Atomic(bool) main_has_left;                            /* by pthread_exit, so that the last thread ends the process */
+static _Atomic(int) living;                                    /* threads that were made here and have not ended */
 
 /* ---- the functions of the libraries behind this one */
 #define UNBRACKETED(...) __VA_ARGS__
@@ -355,7 +362,7 @@ static void place_of(char *to, size_t size, const void *from, const void *frame,
     Dl_info info;
     unsigned n = from != NULL ? own_calls(from, frame, searches && frame != NULL, calls, &info) : 0;
     if (program[0] == 0) {
-        ssize_t length_of_name = readlink("/proc/self/exe", program, sizeof program - 1);
+        ssize_t length_of_name = readlink("/proc/thread-self/exe", program, sizeof program - 1);
         program[length_of_name > 0 ? length_of_name : 0] = 0;
     }
     if (n == 0) {
@@ -404,7 +411,7 @@ static bool is_shared(unsigned long address) {
     if (*known == address) {
         return false;
     }
-    FILE *maps = fopen("/proc/self/maps", "re");
+    FILE *maps = fopen("/proc/thread-self/maps", "re");
     bool shared = true;
     while (maps != NULL && fgets(line, sizeof line, maps) != NULL) {
         unsigned long from, to;
@@ -877,16 +884,30 @@ static void look(void) {
     hand_over();
 }
 
+/* A message queue tells the process no more of what comes where one of its files is closed. */
+static bool is_message_queue(int file) {
+    struct statfs found;
+    return fstatfs(file, &found) == 0 && found.f_type == MQUEUE_MAGIC;
+}
+
 /* The watcher's files are its own: what it opens takes no number from the program, and what the program closes is none of them. Where the system does not let it, its
  * socket has a high number among those of the program. */
 static void take_own_files(void) {
-    if (unshare(CLONE_FILES) == 0 && syscall(SYS_close_range, 0u, ~0u, 0u) != 0) {
-        struct rlimit most;
-        long end = getrlimit(RLIMIT_NOFILE, &most) == 0 && most.rlim_cur < 1048576 ? (long)most.rlim_cur : 1048576;
-        for (long f = 0; f < end; f++) {
-            close((int)f);
+    if (unshare(CLONE_FILES) != 0) {
+        return;
+    }
+    DIR *files = opendir("/proc/thread-self/fd");
+    if (files == NULL) {
+        syscall(SYS_close_range, 0u, ~0u, 0u);
+        return;
+    }
+    for (struct dirent *entry; (entry = readdir(files)) != NULL;) {
+        int file = atoi(entry->d_name);
+        if (entry->d_name[0] != '.' && file != dirfd(files) && !is_message_queue(file)) {
+            close(file);
         }
     }
+    closedir(files);
 }
 
 static int connected(const char *path) {
@@ -925,7 +946,7 @@ static void *watch(void *nothing) {
         out = -1;
     }
     say("# process %d/", process);
-    while (out >= 0) {
+    while (out >= 0 && !atomic_load(&stopping)) {
         clock_gettime(CLOCK_THREAD_CPUTIME_ID, &begun);
         look();
         clock_gettime(CLOCK_THREAD_CPUTIME_ID, &done);
@@ -933,7 +954,7 @@ static void *watch(void *nothing) {
         long pause = took * 25 > PERIOD * (long)MILLISECOND ? took * 25 : PERIOD * (long)MILLISECOND;
         pause = pause < LONGEST * (long)MILLISECOND ? pause : LONGEST * (long)MILLISECOND;
         struct timespec t = {pause / 1000000000L, pause % 1000000000L};
-        nanosleep(&t, NULL);
+        syscall(SYS_futex, &stopping, FUTEX_WAIT_PRIVATE, 0, &t, NULL, 0);
     }
     atomic_store(&active, 0);
     return nothing;
@@ -942,7 +963,7 @@ static void *watch(void *nothing) {
 /* ---- begin */
 static bool has_another_recorder(void) {
     char exe[512];
-    ssize_t n = readlink("/proc/self/exe", exe, sizeof exe - 1);
+    ssize_t n = readlink("/proc/thread-self/exe", exe, sizeof exe - 1);
     exe[n > 0 ? n : 0] = 0;
     const char *base = base_name(exe);
     return dlsym(RTLD_DEFAULT, "JNI_CreateJavaVM") != NULL || dlsym(RTLD_DEFAULT, "Py_IsInitialized") != NULL || strcmp(base, "java") == 0
@@ -951,6 +972,7 @@ static bool has_another_recorder(void) {
 
 /* The child begins anew. The socket is one of the watcher's own files, which a child has not; where the watcher has none of its own, nobody writes to it. */
 static void forked(void) {
+    bool is_made_here = mine != NULL && atomic_load(&mine->tid) != process;   /* not main: the child ends with this thread */
     out = -1;
     length = 0;
     for (unsigned c = 0; c < CHUNKS; c++) {
@@ -969,6 +991,10 @@ static void forked(void) {
     for (unsigned i = 0; i < OWNED; i++) {
         atomic_store(&owned[i], 0);
     }
+    atomic_store(&is_watched, false);
+    atomic_store(&stopping, 0);
+    atomic_store(&main_has_left, is_made_here);
+    atomic_store(&living, is_made_here);
     atomic_store(&active, -1);
 }
 
@@ -982,7 +1008,6 @@ static void begin_watching(void) {
     int saved = errno;
     sigset_t every, own;
     pthread_attr_t kept;
-    pthread_t watcher;
     process = getpid();
     snprintf(address, sizeof address, "%s", path);
     atomic_store(&thread_numbers, 0);
@@ -994,9 +1019,10 @@ static void begin_watching(void) {
     sigfillset(&every);
     pthread_sigmask(SIG_SETMASK, &every, &own);
     pthread_attr_init(&kept);
-    pthread_attr_setdetachstate(&kept, PTHREAD_CREATE_DETACHED);
     pthread_attr_setstacksize(&kept, 256 * 1024);
-    if (real_pthread_create()(&watcher, &kept, watch, NULL) != 0) {
+    if (real_pthread_create()(&watcher, &kept, watch, NULL) == 0) {
+        atomic_store(&is_watched, true);
+    } else {
         atomic_store(&active, 0);
     }
     pthread_attr_destroy(&kept);
@@ -1007,10 +1033,25 @@ static void begin_watching(void) {
 /* ---- threads */
 struct start { void *(*function)(void *); void *word; struct slot *slot; };
 
+/* Where main has left by pthread_exit, glibc ends the process with its last thread. That must not be the watcher, so it ends before. */
+static void end_watcher_before_last(void) {
+    int not_yet = 0, kept;
+    if (!atomic_load(&main_has_left) || atomic_load(&living) != 0 || !atomic_load(&is_watched)
+        || !atomic_compare_exchange_strong(&stopping, &not_yet, 1)) {
+        return;
+    }
+    pthread_setcancelstate(PTHREAD_CANCEL_DISABLE, &kept);     /* a join is a cancellation point, and the end of a thread is none */
+    syscall(SYS_futex, &stopping, FUTEX_WAKE_PRIVATE, 1, NULL, NULL, 0);
+    real_pthread_join()(watcher, NULL);
+    pthread_setcancelstate(kept, NULL);
+}
+
 static void thread_ends(void *slot) {
     struct slot *s = slot;
     wait_ends(s);
     atomic_store(&s->state, ENDING);
+    atomic_fetch_sub(&living, 1);
+    end_watcher_before_last();
 }
 
 static void *run(void *word) {
@@ -1036,8 +1077,10 @@ int pthread_create(pthread_t *to, const pthread_attr_t *kept, void *(*function)(
     }
     s->begins = (const void *)(uintptr_t)function;
     *start = (struct start){function, word, s};
+    atomic_fetch_add(&living, 1);
     int result = real_pthread_create()(to, kept, run, start);
     if (result != 0) {
+        atomic_fetch_sub(&living, 1);
         atomic_store(&s->state, FREE);
         free(start);
     }
@@ -1047,6 +1090,8 @@ int pthread_create(pthread_t *to, const pthread_attr_t *kept, void *(*function)(
 static void main_ends(void) {
     if (mine != NULL && atomic_load(&mine->tid) == process) {
         atomic_store(&mine->state, ENDING);
+        atomic_store(&main_has_left, true);
+        end_watcher_before_last();
     }
 }
 
@@ -1082,8 +1127,10 @@ int thrd_create(thrd_t *to, thrd_start_t function, void *word) {
     }
     s->begins = (const void *)(uintptr_t)function;
     *start = (struct start_c11){function, word, s};
+    atomic_fetch_add(&living, 1);
     int result = real_thrd_create()(to, run_c11, start);
     if (result != thrd_success) {
+        atomic_fetch_sub(&living, 1);
         atomic_store(&s->state, FREE);
         free(start);
     }

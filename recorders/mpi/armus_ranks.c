@@ -47,7 +47,7 @@ static const char *const kind_names[KINDS] = {"Barrier", "Allreduce", "Allgather
 #define FIRST_OF_LAST SCAN
 #define FIRST_ROOTED REDUCE
 #define FIRST_FROM_ROOT BCAST
-enum { FROM_ROOT = KINDS - BCAST, RANKS = 128, WINDOW_RANKS = 32, THREADS = 64, REQUESTS = 1024, PARTS = 32, FEW = 8, SHORT = 65536, LINE = 512, NAME = 40, PERIOD = 50, REACHED_IN = 2000 };
+enum { FROM_ROOT = KINDS - BCAST, RANKS = 128, WINDOW_RANKS = 32, THREADS = 64, REQUESTS = 1024, PARTS = 32, FEW = 8, SHORT = 65536, LINE = 512, NAME = 40, OF_PHASER = 28, PERIOD = 50, REACHED_IN = 2000 };
 enum { EXACT_TAGS = 1024, TAG_CLASSES = 64, CHANNELS = 16384, BUCKETS = 4096, COUNTS_IN_A_LOOK = 1000, EVERY_TAG = -1, ANY_RANK = -1, NO_RANK = -2, LONG_PATIENCE = 10 };
 
 /* The messages between this rank and another one in a communicator, of one tag or of all together. Tags from EXACT_TAGS on are counted by classes. Receives that name no
@@ -66,7 +66,7 @@ struct channel {
 
 struct communicator {
     bool named, gone, between;                      /* between: an inter-communicator, whose collectives wait for the other side alone */
-    char name[NAME];
+    char name[OF_PHASER + 1];                       /* the first part of its phasers' names */
     int size, me, side;
     int *world;                                     /* the rank in world of each rank */
     int peers;                                      /* those that a message may go to: of an inter-communicator the other side */
@@ -1033,6 +1033,26 @@ static struct communicator *known(MPI_Comm handle) {
     return c;
 }
 
+/* The name of a communicator or window that was made of another one. The name of a phaser has room for 64 bytes: a long one has its hash in its place. */
+static void names(struct communicator *c, const struct communicator *parent, const char *form, ...) {
+    char own[NAME], whole[2 * NAME];
+    uint64_t h = 14695981039346656037u;
+    va_list words;
+    va_start(words, form);
+    vsnprintf(own, sizeof own, form, words);
+    va_end(words);
+    snprintf(whole, sizeof whole, "%s%s%s", parent == &world ? "" : parent->name, parent == &world ? "" : ".", own);
+    for (const char *b = whole; *b != 0; b++) {
+        h = (h ^ (unsigned char)*b) * 1099511628211u;
+    }
+    if (strlen(whole) <= OF_PHASER) {
+        memcpy(c->name, whole, strlen(whole) + 1);
+    } else {
+        snprintf(c->name, sizeof c->name, "%.*s-%016lx", (int)strcspn(own, "-"), own, (unsigned long)h);
+    }
+    c->named = true;
+}
+
 /* A communicator gets the same name in all its ranks without a word between them: how it was made, as which one of its parent, and its first rank in world. One with a
  * rank of another world has none. */
 static void made(MPI_Comm parent, MPI_Comm handle, const char *how) {
@@ -1047,18 +1067,20 @@ static void made(MPI_Comm parent, MPI_Comm handle, const char *how) {
     struct communicator *c = handle == MPI_COMM_NULL ? NULL : known(handle);
     if (c != NULL && c != &world) {
         int own = least_of(c->world, c->size), other = least_of(c->peer, c->peers);
-        int n = snprintf(c->name, sizeof c->name, p == &world ? "%.0s%s-%u=%d" : "%s.%s-%u=%d", p->name, how, p->made, own < other ? own : other);
-        c->named = n > 0 && n < NAME && own >= 0 && other >= 0;
+        if (own >= 0 && other >= 0) {
+            names(c, p, "%s-%u=%d", how, p->made, own < other ? own : other);
+        }
     }
 }
 
-/* An inter-communicator is named by the ranks of both sides, and as which one of these. */
+/* An inter-communicator is named by the ranks of both sides, and as which one of these; not where two threads may make one at once, which may have the other order in the
+ * other rank. */
 static void made_between(MPI_Comm handle) {
     struct communicator *c = known(handle);
     enum { KNOWN = 256 };
     static struct { uint32_t ranks; unsigned made; } pairs[KNOWN];
     uint32_t h = 2166136261u;
-    if (c == NULL || least_of(c->world, c->size) < 0 || least_of(c->peer, c->peers) < 0) {
+    if (c == NULL || concurrent || least_of(c->world, c->size) < 0 || least_of(c->peer, c->peers) < 0) {
         return;
     }
     for (int side = 0; side < 2; side++) {
@@ -1161,8 +1183,7 @@ static void window_made(MPI_Comm parent, MPI_Win handle) {
         return;
     }
     *c = (struct communicator){.size = p->size, .me = p->me, .world = p->world, .peers = p->size, .peer = p->world, .epochs = epochs};
-    int n = snprintf(c->name, sizeof c->name, p == &world ? "%.0swin-%u" : "%s.win-%u", p->name, p->windows);
-    c->named = n > 0 && n < NAME;
+    names(c, p, "win-%u", p->windows);
     enlist(c);
     PMPI_Win_set_attr(handle, window_key, c);
 }

@@ -150,7 +150,7 @@ fn put_phase(
         return Ok(());
     }
     put_words(out, b" at phase ")?;
-    put_number(alloc, out, u64::from(phase))
+    put_number(alloc, out, phase as u64)
 }
 
 // Appends for what a task would have waited.
@@ -159,7 +159,7 @@ fn put_event(facts: &TextFacts<'_>, out: &mut Vec<u8>, event: Event) -> Result<(
     ensures { OnOk result (out.new.items ≡ out.old.items ++ event_words facts.now.program.now event) }
 {
     put_words(out, b" would have waited for phase ")?;
-    put_number(facts.alloc, out, u64::from(event.n))?;
+    put_number(facts.alloc, out, event.n as u64)?;
     put_words(out, b" of ")?;
     put_phaser(facts, out, event.p)?;
     Ok(())
@@ -211,7 +211,7 @@ fn put_turn(facts: &TextFacts<'_>, out: &mut Vec<u8>, turn: LoopTurn) -> Result<
     ensures { OnOk result (out.new.items ≡ out.old.items ++ refused_turn_words (kept_layout facts.now) turn) }
 {
     put_words(out, b"; turn ")?;
-    put_number(facts.alloc, out, u64::from(turn.turn))?;
+    put_number(facts.alloc, out, turn.turn as u64)?;
     put_words(out, b" of the loop at ")?;
     put_place(facts, out, Some(turn.statement))
 }

@@ -293,7 +293,7 @@ fn put_for_event(facts: &Facts, out: &mut Vec<u8>, wait: &Waiting) -> Result<(),
     ensures { OnOk result (out.new.items ≡ out.old.items ++ for_event_words facts.now wait.now) }
 {
     put_words(out, b" for phase ")?;
-    put_number(facts.alloc(), out, u64::from(wait.event.n))?;
+    put_number(facts.alloc(), out, wait.event.n as u64)?;
     put_words(out, b" of ")?;
     facts.put_named_phaser(out, wait.event.p)
 }
@@ -303,7 +303,7 @@ fn put_own_phase(alloc: Global, out: &mut Vec<u8>, wait: &Waiting) -> Result<(),
     ensures { OnOk result (out.new.items ≡ out.old.items ++ own_phase_words wait.now) }
 {
     put_words(out, b", and has phase ")?;
-    put_number(alloc, out, u64::from(wait.phase))?;
+    put_number(alloc, out, wait.phase as u64)?;
     put_words(out, b" itself: let it arrive first, or look less far ahead")
 }
 

@@ -54,7 +54,7 @@ pub fn put_with_phase(
     match phase {
         Some(n) => {
             put_words(out, b" with phase ")?;
-            put_number(alloc, out, u64::from(n))?;
+            put_number(alloc, out, n as u64)?;
             Ok(())
         }
         None => Ok(()),
@@ -73,9 +73,9 @@ pub fn put_phase_change(
     match phase {
         Some(n) => {
             put_words(out, b"phase ")?;
-            put_number(alloc, out, u64::from(n))?;
+            put_number(alloc, out, n as u64)?;
             put_words(out, b" to ")?;
-            put_number(alloc, out, u64::from(n + 1))
+            put_number(alloc, out, (n + 1) as u64)
         }
         None => Ok(()),
     }
@@ -87,7 +87,7 @@ fn put_waits(facts: &TextFacts<'_>, out: &mut Vec<u8>, event: Event) -> Result<(
     ensures { OnOk result (out.new.items ≡ out.old.items ++ waits_words facts.now.program.now (Some event)) }
 {
     put_words(out, b"waits for phase ")?;
-    put_number(facts.alloc, out, u64::from(event.n))?;
+    put_number(facts.alloc, out, event.n as u64)?;
     put_words(out, b" of ")?;
     put_phaser(facts, out, event.p)?;
     Ok(())

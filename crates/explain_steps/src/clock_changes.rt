@@ -187,7 +187,7 @@ impl<'a> ClockOpFacts<'a> {
         ensures { OnOk result (out.new.items ≡ out.old.items ++ (codes "waits for phase " ++ decimal phase ++ codes " of " ++ made_clock_words self.now.of_text x.now n)) }
     {
         put_words(out, b"waits for phase ")?;
-        put_number(self.alloc, out, u64::from(phase))?;
+        put_number(self.alloc, out, phase as u64)?;
         put_words(out, b" of ")?;
         self.of_text.put_clock(out, x, n)?;
         Ok(())

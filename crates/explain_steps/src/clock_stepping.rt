@@ -38,7 +38,7 @@ impl<'a> TellsSteps for ClockOpFacts<'a> {
         let plan = world.plan();
         let op = op_at(plan, t, i);
         let origin = self.origin(t, i);
-        put_number(self.alloc, out, u64::from(number))?;
+        put_number(self.alloc, out, number as u64)?;
         put_words(out, b": ")?;
         self.of_text.put_activity(out, t.0)?;
         put_words(out, b" at ")?;

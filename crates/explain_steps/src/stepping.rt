@@ -105,7 +105,7 @@ fn put_rest(alloc: Global, out: &mut Vec<u8>, rest: u32) -> Result<(), NoMemory>
         return Ok(());
     }
     put_words(out, b"and ")?;
-    put_number(alloc, out, u64::from(rest))?;
+    put_number(alloc, out, rest as u64)?;
     put_words(out, b" more\n")
 }
 

@@ -49,7 +49,7 @@ impl<'a> TellsSteps for TextFacts<'a> {
         number: u32,
     ) -> Result<(), NoMemory> {
         let i = world.op(t);
-        put_number(self.alloc, out, u64::from(number))?;
+        put_number(self.alloc, out, number as u64)?;
         put_words(out, b": ")?;
         put_task(self, out, t)?;
         put_words(out, b" at ")?;

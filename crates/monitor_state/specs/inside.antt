@@ -1,4 +1,5 @@
 pub mod Changes
+pub mod Endings
 pub mod FirstFaults
 pub mod FirstPlaces
 pub mod Listings

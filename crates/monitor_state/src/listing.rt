@@ -84,6 +84,14 @@ fn change_listed(
     Ok(after)
 }
 
+// Where who has this number stands, if nobody behind the first one was taken out.
+fn likely_place(list: &[ListedParticipant], number: u64) -> usize {
+    match list.first() {
+        None => 0,
+        Some(first) => number.saturating_sub(first.number()) as usize,
+    }
+}
+
 // How many of so many wildcards are left without one, if it is one.
 fn without_one(wildcards: usize, is_wildcard: bool) -> usize
     requires { is_wildcard ≡ true → 0 < wildcards }
@@ -160,10 +168,15 @@ impl Listing {
         }
         match number_by_name(&self.numbers, t) {
             None => None,
-            Some(number) => self
-                .list
-                .binary_search_by_key(&number, |participant| participant.number())
-                .ok(),
+            Some(number) => {
+                let near = likely_place(&self.list, number);
+                if self.is_there_at(near, t) {
+                    return Some(near);
+                }
+                self.list
+                    .binary_search_by_key(&number, |participant| participant.number())
+                    .ok()
+            }
         }
     }
 

@@ -10,9 +10,10 @@ ghost use Rattle.monitor_state.specs.inside.PhaserLists.{are_here, is_of_phaser,
 ghost use Rattle.monitor_state.specs.inside.Reindexing.{IsNotedAnew, IsNotedWhere, IsSameNoted};
 
 use crate::PhaserMembership;
+use crate::phaser_membership::ending_of;
 use armus_base::NoMemory;
 use monitor_members::PhaserIndex;
-use std::alloc::Global;
+use std::alloc::{AllocError, Global};
 use std::marker::Model;
 
 /// The phasers of which a task or wildcard is a member, in the order in which it joined them, each with its phase there.
@@ -37,12 +38,23 @@ fn position_of(items: &[PhaserMembership], p: &[u8]) -> Option<usize>
     ensures at { IfSome result (IsFirstAt (is_of_phaser p.now) items.now) }
     ensures none { IfNone result (list_any (is_of_phaser p.now) items.now ≡ false) }
 {
+    let ending = ending_of(p);
     for (at, membership) in items.iter().enumerate() {
-        if membership.phaser() == p {
+        if membership.is_of(p, ending) {
             return Some(at);
         }
     }
     None
+}
+
+// Makes room for the first membership, and no more, since many have only one.
+fn make_room(items: &mut Vec<PhaserMembership>) -> Result<(), AllocError>
+    ensures { items.new.items ≡ items.old.items }
+{
+    if items.is_empty() {
+        items.reserve_exact(1)?;
+    }
+    Ok(())
 }
 
 // Notes number k at each of these phases.
@@ -108,8 +120,9 @@ impl Memberships {
         ensures joined { OnOk result (self.new ≡ self.old ++ (p.now, n) ∷ []) }
         ensures kept { OnErr result (self.new ≡ self.old) }
     {
-        let phaser = Vec::from_slice(alloc, p)?;
-        self.items.push(PhaserMembership { phaser, phase: n })?;
+        let membership = PhaserMembership::new(alloc, p, n)?;
+        make_room(&mut self.items)?;
+        self.items.push(membership)?;
         Ok(())
     }
 
@@ -119,8 +132,7 @@ impl Memberships {
         ensures { self.new ≡ risen_on p.now self.old }
     {
         if let Some(at) = position_of(&self.items, p) {
-            let membership = &mut self.items[at];
-            membership.phase += 1;
+            self.items[at].arrive();
         }
     }
 

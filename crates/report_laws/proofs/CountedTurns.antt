@@ -1,11 +1,10 @@
 -- The turns that are told of an op are those in which its task is, loop by loop.
-use Rattle.std.proofs.Common.{◌≡◌, ◌⊎◌, ℕ, zero, suc, ◌+◌, ◌<◌, ◌≤◌, Bool, true, false, Option, Some, None, List, [], ◌∷◌, ◌++◌, length, map, take, refl, sym, ap, subst, ◌∙◌, arith, inl, inr, append_assoc, append-nil}
+use Rattle.std.proofs.Common.{◌≡◌, ℕ, zero, suc, ◌+◌, ◌<◌, ◌≤◌, Bool, true, false, Option, Some, None, List, [], ◌∷◌, ◌++◌, map, take, refl, sym, ap, subst, ◌∙◌, arith, append_assoc, append-nil}
 use Rattle.std.specs.Prelude.{◌==◌, ◌&&◌, if◌then◌else◌, nat_le, nat_lt}
 use Rattle.std.specs.List.{slice_get}
-use Rattle.std.proofs.lemmas.Bool.{and_left, and_right, cases_lt, eq-eqb, false_from_ne_true, false≢true, leb-true, lt-ltb, le-leb, ltb-true, ne_eqb}
-use Rattle.pl_syntax.specs.declared.tree.Program.{Program}
+use Rattle.std.proofs.lemmas.Bool.{and_left, and_right, eq-eqb, false_from_ne_true, false≢true, leb-true, lt-ltb, le-leb, ltb-true, ne_eqb}
 use Rattle.pl_syntax.specs.Tree.{Tree, count, done, fork, loop, plain}
-use Rattle.pl_plan.specs.Unfolding.{Coming, Start, Visit, a_fork, a_loop, a_plain, a_turn, visit, visits_of}
+use Rattle.pl_plan.specs.Unfolding.{Start, Visit, a_fork, a_loop, a_plain, a_turn, visit, visits_of}
 use Rattle.source_map.specs.declared.turns.LoopTurn.{LoopTurn}
 use Rattle.source_map.specs.Origins.{comes_to_op, start_of, visits_by}
 use Rattle.source_map.specs.Turns.{TurnedVisit, alone, in_turns, turn_of, turned_by, turned_visits, within}

@@ -23,3 +23,13 @@ pub mod ToldByOps
 pub mod CountedTurns
 pub mod ClocksByMoves
 pub mod WaitsByMoves
+pub mod MovesOfRuns
+pub mod PendingByMoves
+pub mod WaitingMoves
+pub mod WaitingEnds
+pub mod PendingTold
+pub mod StagesOfVisits
+pub mod StagesThatFork
+pub mod StagesUnfold
+pub mod OriginsOfScenes
+pub mod OpsOfStages

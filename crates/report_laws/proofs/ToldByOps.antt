@@ -1,8 +1,8 @@
 -- What is told of a phaser, and of where a task is forked, is the statement from which the op comes that does it.
-use Rattle.std.proofs.Common.{◌≡◌, ◌⊎◌, ℕ, zero, suc, ◌+◌, ◌-◌, ◌<◌, ◌≤◌, Bool, true, false, Option, Some, None, Ok, List, [], ◌∷◌, ◌++◌, length, map, take, get_or, refl, sym, ap, subst, ◌∙◌, arith, inl, inr, append-nil, length-append}
+use Rattle.std.proofs.Common.{◌≡◌, ℕ, zero, suc, ◌+◌, ◌-◌, ◌<◌, ◌≤◌, Bool, true, false, Option, Some, None, Ok, List, [], ◌∷◌, ◌++◌, length, map, take, get_or, refl, sym, ap, subst, ◌∙◌, arith, inl, inr, append-nil, length-append}
 use Rattle.std.specs.Prelude.{cond, filter, slice_index_or}
 use Rattle.std.specs.List.{flat_map, slice_get}
-use Rattle.std.proofs.lemmas.Bool.{cases_eq, cases_lt, false≢true}
+use Rattle.std.proofs.lemmas.Bool.{cases_eq, cases_lt}
 use Rattle.std.proofs.lemmas.List.{get_or_past, length-map}
 use Rattle.armus_base.specs.Limits.{max_phasers, max_tasks}
 use Rattle.armus_base.specs.Numbers.{phaser}
@@ -12,7 +12,7 @@ use Rattle.armus_base.specs.declared.ids.TaskId.{TaskId}
 use Rattle.armus_base.specs.declared.op.Op.{Op}
 use Rattle.armus_base.specs.declared.op.Op.TheVariants as op
 use Rattle.pl_syntax.specs.declared.tree.Program.{Program}
-use Rattle.pl_syntax.specs.Tree.{Plain, Tree}
+use Rattle.pl_syntax.specs.Tree.{Tree}
 use Rattle.pl_plan.specs.calls.Folding.{drops_of}
 use Rattle.pl_plan.specs.Forks.{fork_of, starts_of}
 use Rattle.pl_plan.specs.Tests.{of_new_phaser}
@@ -24,7 +24,7 @@ use Rattle.source_map.specs.Origins.{comes_to_op, start_of, statements_where, vi
 use Rattle.source_map.specs.calls.OriginLaws.{MakesOp, op_visits, tasks_from}
 use Rattle.source_map.specs.calls.OriginLaws as law
 use Rattle.source_map.proofs.CodesOfVisits.{get_cases, get_first}
-use Rattle.source_map.proofs.Growing.{below_is, below_same, ended_grows, makers_in, tasks_below}
+use Rattle.source_map.proofs.Growing.{below_is, below_same, ended_grows, tasks_below}
 use Rattle.source_map.proofs.MadeByVisits.{get_behind}
 use Rattle.source_map.proofs.Statements.{where_not}
 use Rattle.report_laws.specs.OpOrigins.{ForksAreToldByTheirOps, PhasersAreToldByTheirOps}

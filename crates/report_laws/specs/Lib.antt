@@ -16,5 +16,8 @@ pub mod OpTurns
 pub mod MovesMade
 pub mod ClocksTold
 pub mod WaitsTold
+pub mod PendingTold
+pub mod OriginsOfScenes
+pub mod OpsOfStages
 -- Words of contracts further down, which no promise of a program needs.
 pub mod calls

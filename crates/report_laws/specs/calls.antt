@@ -6,3 +6,4 @@ pub mod Replayed
 pub mod OnePlan
 pub mod Printed
 pub mod LiveLines
+pub mod WaitsStand

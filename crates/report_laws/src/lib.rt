@@ -16,7 +16,10 @@ pub use agreement::{
     steps_end_as_explained, who_gains_and_pays,
 };
 pub use answers::{live_tells_as_run, one_answer, printing_keeps_meaning, texts_go_by_plan};
-pub use clock_origins::{clocks_come_from_what_is_told, waits_come_from_what_is_told};
+pub use clock_origins::{
+    clocks_come_from_what_is_told, pending_is_remembered, waits_are_told_where_they_stand,
+    waits_come_from_what_is_told,
+};
 pub use explanations::{each_task_is_told, refusals_are_so};
-pub use origins::{ops_come_from_what_is_told, turns_are_counted};
+pub use origins::{ops_come_from_what_is_told, origins_are_those_of_stages, turns_are_counted};
 pub use reports::{cycle_is_proof, held_tasks_have_end, stand_as_reported};

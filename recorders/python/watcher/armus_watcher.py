@@ -471,11 +471,20 @@ class Watcher:
         """What the announcer knows a thread by. Tasks and others have a key of their own."""
         return ('thread', ident, self.began.get(ident, (None, 0))[1]) if isinstance(ident, int) else ident
 
-    def name(self, ident):
-        threading, thread = sys.modules.get('threading'), self.thread(ident)
+    def name(self, ident, frame):
+        threading, thread = sys.modules.get('threading'), self.thread(ident) or self.thread_of(frame)
         if thread is not None:
             return 'main' if thread is threading._main_thread else thread._name
         return f'thread-{len(self.announcer.names)}'
+
+    @classmethod
+    def thread_of(cls, frame):
+        """The thread that has this frame, by its first one: where threading does not know it yet."""
+        while frame.f_back is not None:
+            frame = frame.f_back
+        code, threading = frame.f_code, sys.modules.get('threading')
+        is_first = threading is not None and code.co_name == '_bootstrap' and code.co_filename == threading.__file__
+        return dict(cls.library_values(frame)).get('self') if is_first else None
 
     @classmethod
     def place(cls, frame):
@@ -505,7 +514,7 @@ class Watcher:
         self.earlier, self.beginning = self.beginning, {}
         self.know(frames)
         for ident, frame in frames.items():
-            present[ident] = self.name(ident), self.place(frame)
+            present[ident] = self.name(ident, frame), self.place(frame)
             if natives[ident] is not None:
                 at = self.slept_since(ident, natives[ident], (id(frame), frame.f_lasti))
                 if at is not None:
@@ -522,7 +531,7 @@ class Watcher:
         self.add_others(present, standing, {n for n in natives.values() if n})
         for ident, frame in sys._current_frames().items():       # who began meanwhile
             if ident not in present and ident != self.own:
-                present[ident] = self.name(ident), self.place(frame)
+                present[ident] = self.name(ident, frame), self.place(frame)
         self.end_main(present, standing, frames)
         if standing and self.has_handlers():
             present['signals'] = 'signal-handlers', 'signal.py'
@@ -787,12 +796,14 @@ class Watcher:
 
 # ---- begin and end
 class Life:
-    """The watcher's thread, which stops before a fork and goes on behind it."""
+    """The watcher's thread, which stops before a fork and goes on behind it. There is one at a time, and none while a thread forks."""
     current = None
+    beginning = _thread.allocate_lock()             # who begins one; never waited for
+    forking = set()                                 # the threads that are in a fork
 
     def __init__(self, hook):
-        self.hook, self.wake = hook, _thread.allocate_lock()
-        self.done, self.native = _thread.allocate_lock(), None
+        self.hook, self.wake, self.process = hook, _thread.allocate_lock(), os.getpid()
+        self.done, self.native, self.ending = _thread.allocate_lock(), None, False
         self.wake.acquire()
 
     def connect(self):
@@ -813,7 +824,7 @@ class Life:
         try:
             self.done.acquire()
             self.native = _thread.get_native_id()
-            if self.connect():
+            if not self.ending and self.connect():
                 watcher = Watcher(self.lines)
                 pause = PERIOD
                 while not self.wake.acquire(timeout=pause):
@@ -834,6 +845,7 @@ class Life:
 
     def end(self):
         """Tells the thread to end."""
+        self.ending = True
         try:
             self.wake.release()
         except RuntimeError:
@@ -843,7 +855,7 @@ class Life:
         """Ends the thread, and waits until the kernel knows it no more."""
         self.end()
         end = time.monotonic() + 0.5
-        while self.native and os.path.exists(f'/proc/self/task/{self.native}') and time.monotonic() < end:
+        while (self.native is None or os.path.exists(f'/proc/self/task/{self.native}')) and time.monotonic() < end:
             time.sleep(0.0005)
 
 
@@ -861,40 +873,69 @@ def moved_file(number):
     return other
 
 
-def start(run):
+class Started:
     """A thread that Python did not start: it is none of the program's threads, and is not counted as one. It blocks all signals."""
-    import ctypes
-    import signal
-    made = ctypes.CFUNCTYPE(ctypes.c_void_p, ctypes.c_void_p)(lambda _: run())
-    own = signal.pthread_sigmask(signal.SIG_BLOCK, signal.valid_signals())
-    try:
-        library, thread = ctypes.CDLL(None), ctypes.c_ulong()
-        if library.pthread_create(ctypes.byref(thread), None, made, None) == 0:
-            library.pthread_detach(thread)
-    finally:
-        signal.pthread_sigmask(signal.SIG_SETMASK, own)
-    return made
+    lives = {}                                      # what the threads run that have not begun yet, by number
+    made = None                                     # the function of C that they all run; it stays, since a thread is in it until it is gone
+
+    @classmethod
+    def start(cls, life):
+        import ctypes
+        import signal
+        if cls.made is None:
+            cls.made = ctypes.CFUNCTYPE(ctypes.c_void_p, ctypes.c_void_p)(lambda number: cls.lives.pop(number).run())
+        number = id(life)
+        cls.lives[number] = life
+        own = signal.pthread_sigmask(signal.SIG_BLOCK, signal.valid_signals())
+        try:
+            library, thread = ctypes.CDLL(None), ctypes.c_ulong()
+            if library.pthread_create(ctypes.byref(thread), None, cls.made, ctypes.c_void_p(number)) == 0:
+                library.pthread_detach(thread)
+            else:
+                life.native = 0                     # there is no thread
+                del cls.lives[number]
+        finally:
+            signal.pthread_sigmask(signal.SIG_SETMASK, own)
 
 
 def begin(hook):
-    first = Life.current is None
-    Life.current = life = Life(hook)
-    life.kept = start(life.run)
-    if first:
-        os.register_at_fork(before=before_fork, after_in_parent=behind_fork)
-        import atexit
-        atexit.register(lambda: Life.current and Life.current.end())
+    """Begins the watcher, unless there is one, or one will begin behind a fork. Who is here while another thread is leaves it to that one, which looks again."""
+    while not Life.forking and not is_watched() and Life.beginning.acquire(False):
+        try:
+            first = Life.current is None
+            Life.current = Life(hook)
+            Started.start(Life.current)
+            if first:
+                os.register_at_fork(before=before_fork, after_in_parent=behind_fork)
+                import atexit
+                atexit.register(lambda: Life.current and Life.current.end())
+        finally:
+            Life.beginning.release()
+
+
+def is_watched():
+    life = Life.current
+    return life is not None and life.process == os.getpid() and not life.ending
 
 
 def before_fork():
-    if Life.current is not None:
+    Life.forking.add(_thread.get_ident())
+    if Life.current.process == os.getpid():
         Life.current.stop()
 
 
 def behind_fork():
-    """In the parent: goes on where there are other threads, and else with the next one."""
+    """In the parent, behind the last fork: goes on where there are other threads, and else with the next one."""
     life = Life.current
-    if life is not None:
-        life.hook()
+    Life.forking.discard(_thread.get_ident())
+    if not Life.forking:
         if len(sys._current_frames()) > 1 or 'multiprocessing' in sys.modules or 'asyncio' in sys.modules:
             begin(life.hook)
+        else:
+            life.hook()
+
+
+def in_child():
+    """No other thread is there. This comes before a watcher begins in the child."""
+    Life.forking.clear()
+    Life.beginning = _thread.allocate_lock()

@@ -70,15 +70,23 @@ def _begin():
                 watch()
             return None
 
-    def is_needed():
-        return 'multiprocessing' in sys.modules or 'asyncio' in sys.modules
+    def in_parent():
+        if 'multiprocessing' in sys.modules or 'asyncio' in sys.modules:
+            watch()
+
+    def in_child():
+        if 'module' in state:
+            state['module']['in_child']()
+        hook()
+        if 'multiprocessing' in sys.modules:
+            watch()
 
     sys.meta_path.insert(0, Finder)
     hook()
     if '--multiprocessing-fork' in getattr(sys, 'orig_argv', sys.argv):
         watch()
     else:
-        os.register_at_fork(after_in_parent=lambda: is_needed() and watch(), after_in_child=lambda: (hook(), 'multiprocessing' in sys.modules and watch()))
+        os.register_at_fork(after_in_parent=in_parent, after_in_child=in_child)
 
 
 def _next():
