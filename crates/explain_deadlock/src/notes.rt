@@ -1,6 +1,6 @@
 // The notes, where nobody waits for ever: on phasers for which nobody ever has to wait, and on awaits at which nobody ever has to.
 ghost use Rattle.std.specs.Prelude.{◌≡◌, ◌++◌, ◌<◌, OnOk, length};
-ghost use Rattle.explain_deadlock.specs.Notes.{alone_words, immediate_note, immediate_notes, made_front, note_by, notes, phaser_notes, why_immediate};
+ghost use Rattle.explain_deadlock.specs.Notes.{alone_words, immediate_note, immediate_notes, made_front, note_by, notes, phaser_notes, unawaited_note, why_immediate};
 ghost use Rattle.explain_deadlock.specs.inside.Fitting.{IsTextOf};
 ghost use Rattle.explain_tasks.specs.Places.{front_in};
 
