@@ -29,12 +29,16 @@ at_first known number at t up bound (k, lt, e) same =
           (inside, λ x. ap (λ (y : ℕ × List ℕ). y.0) (get_or_default known at x t inside) ∙ here))
     ]
 
-pub number_told : (known : List (ℕ × List ℕ)) (number at : ℕ) (r : Bool) → NeverFall known → IsPlaceOfNumber known number at →
-    MatchBool r (HasNumberAt known number at) (HasNumberAt known number at → ⊥) → r ≡ has_stuck_number known number
-number_told known number at true up bound here =
+-- a task that stands somewhere with a number is one of them
+pub number_seen : (known : List (ℕ × List ℕ)) (number at : ℕ) → HasNumberAt known number at → true ≡ has_stuck_number known number
+number_seen known number at here =
     let t : ℕ × List ℕ = get_or known at (0, []) in
     let is : get_or known at t ≡ t = get_or_default known at t (0, []) here.0 in
     sym (any_from (λ (x : ℕ × List ℕ). x.0 == number) known t (at, here.0, is) (eq-eqb t.0 number (here.1 (0, []))))
+
+pub number_told : (known : List (ℕ × List ℕ)) (number at : ℕ) (r : Bool) → NeverFall known → IsPlaceOfNumber known number at →
+    MatchBool r (HasNumberAt known number at) (HasNumberAt known number at → ⊥) → r ≡ has_stuck_number known number
+number_told known number at true up bound here = number_seen known number at here
 number_told known number at false up bound none = elim (cases_Bool (has_stuck_number known number)) [
   | inr off ↦ sym off
   | inl on ↦
@@ -86,6 +90,22 @@ numbers_never_fall (u ∷ us) up zero (suc j) d le lt =
     omega arith
 numbers_never_fall (u ∷ us) up (suc i) zero d le lt = absurd (omega arith)
 numbers_never_fall (u ∷ us) up (suc i) (suc j) d le lt = numbers_never_fall us up.1 i j d (omega arith) (omega arith)
+
+-- the numbers of the list ascend
+ascend : (us : List Participant) → AreAscending us → (i j : ℕ) (d : Participant) → i < j → j < length us → (get_or us i d).number < (get_or us j d).number
+ascend [] up i j d lt within = absurd (omega arith)
+ascend (u ∷ us) up zero zero d lt within = absurd (omega arith)
+ascend (u ∷ us) up zero (suc j) d lt within = up.0 (get_or us j d) (j, omega arith, get_or_default us j (get_or us j d) d (omega arith))
+ascend (u ∷ us) up (suc i) zero d lt within = absurd (omega arith)
+ascend (u ∷ us) up (suc i) (suc j) d lt within = ascend us up.1 i j d (omega arith) (omega arith)
+
+-- who stands at a place and has the number is the first from which on nobody has a lower one
+pub first_numbered : (us : List Participant) (number at : ℕ) → AreAscending us → at < length us → ((u : Participant) → (get_or us at u).number ≡ number) → IsFirstListed us number at
+first_numbered us number at up within is = record {
+  inside = omega arith;
+  ahead = λ k u lt. let less = ascend us up k at u lt within in let here = is u in omega arith;
+  from = λ k u le lt. let least = numbers_never_fall us up at k u le lt in let here = is u in omega arith;
+}
 
 -- where nobody from the first place on has the number, nobody has it
 pub none_numbered : (us : List Participant) (number at : ℕ) → IsNonDecreasingBy (λ (u : Participant). u.number) us → IsFirstListed us number at →

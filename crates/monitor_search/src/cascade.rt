@@ -294,7 +294,7 @@ pub(crate) fn numbers_out(alloc: Global, state: &MonitorState) -> Result<HashSet
     let mut out = HashSet::new(alloc);
     free_runners(alloc, state, &mut out)?;
     free_all_played(alloc, state, &mut out)?;
-    let mut phasers = waited_phasers(alloc, list)?;
+    let mut phasers = waited_phasers(alloc, &table.waiting)?;
     for _ in 0..list.len() {
         let fresh = free_at_all(alloc, state, &table, &phasers, &mut out)?;
         if fresh.is_empty() {

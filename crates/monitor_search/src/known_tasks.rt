@@ -72,6 +72,14 @@ fn first_from(tasks: &[StuckTask], number: u64) -> usize
     tasks.partition_point(|task| task.number() < number)
 }
 
+// Where the task with this number stands, if all between it and the first one are stuck.
+fn likely_place(tasks: &[StuckTask], number: u64) -> usize {
+    match tasks.first() {
+        None => 0,
+        Some(first) => number.saturating_sub(first.number()) as usize,
+    }
+}
+
 // Whether a task with this number stands at this place.
 fn is_at(tasks: &[StuckTask], number: u64, at: usize) -> bool
     ensures { MatchBool result (HasNumberAt tasks.now number at) (HasNumberAt tasks.now number at → ⊥) }
@@ -145,6 +153,10 @@ impl StuckTasks {
     pub fn has_number(&self, number: u64) -> bool
         ensures { result ≡ has_stuck_number self.now number }
     {
+        let likely = likely_place(&self.tasks, number);
+        if is_at(&self.tasks, number, likely) {
+            return true;
+        }
         is_at(&self.tasks, number, first_from(&self.tasks, number))
     }
 }

@@ -42,17 +42,14 @@ fn note_phaser<'a>(
     Ok(())
 }
 
-/// The phasers at which somebody of the list waits.
-pub(crate) fn waited_phasers(
+/// The phasers at which somebody waits, each once.
+pub(crate) fn waited_phasers<'a>(
     alloc: Global,
-    list: &[ListedParticipant],
-) -> Result<Vec<&[u8]>, NoMemory> {
-    let mut noted = HashSet::new(alloc);
+    waiting: &HashMap<&'a [u8], Vec<&'a ListedParticipant>>,
+) -> Result<Vec<&'a [u8]>, NoMemory> {
     let mut phasers = Vec::new(alloc);
-    for u in list {
-        if let ListedCondition::Waiting(p, _) = u.condition() {
-            note_phaser(&mut phasers, &mut noted, p)?;
-        }
+    for p in waiting.keys() {
+        phasers.push(*p)?;
     }
     Ok(phasers)
 }

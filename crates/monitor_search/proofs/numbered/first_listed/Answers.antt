@@ -1,8 +1,12 @@
 use Rattle.std.proofs.Common.{rules, arith, ltb, ltb-true, ltb-false}
 use Rattle.std.proofs.lemmas.List.Sorted.{IsPartitionPoint-from_clause, IsPartitionedBy-ltb}
 use Rattle.monitor_laws.specs.States.{Participant}
-use Rattle.monitor_search.proofs.NumberSearch.{numbers_never_fall}
+use Rattle.monitor_search.proofs.NumberSearch.{first_numbered, numbers_never_fall}
 use Rattle.monitor_search.proofs.numbered.first_listed.Goals as goal
+
+pub returns-then-is_numbered_at : goal.returns-then-is_numbered_at
+returns-then-is_numbered_at c =
+    first_numbered c.args.list.now c.args.number c.likely_place-likely.result c.requires (c.is_numbered_at.ensures.within c.if-is_numbered_at.true) (c.is_numbered_at.ensures.number c.if-is_numbered_at.true)
 
 pub returns : goal.returns
 returns c =
