@@ -47,14 +47,16 @@ begins_there plan t j i aim blocks at =
     let same = ap (actions_before (code_of plan t)) more in
     let under = at.below inside in
     let first : action_at plan t (actions_before (code_of plan t) i) ≡ Some (Blocks (record { phaser = q.0; off = off })) =
-    action_of_op plan t i (actions_before (code_of plan t) i) (omega (arith, inside)) refl ∙ ap (option_map action_of) here in
-    (inside, elim (either (actions_before (code_of plan t) i) j at.from (omega (arith, under, two, both, same))) [
-      | inl is ↦ is
-      | inr later ↦
-          absurd (let passes = passes_next plan t j aim blocks in
-          let again : action_at plan t (suc j) ≡ Some (Blocks (record { phaser = q.0; off = off })) =
-          subst (λ k. action_at plan t k ≡ Some (Blocks (record { phaser = q.0; off = off }))) later first in cc)
-    ])
+    action_of_op plan t i (actions_before (code_of plan t) i) (omega (arith, inside)) refl ∙ ap (option_map action_of) here in (
+      inside,
+      elim (either (actions_before (code_of plan t) i) j at.from (omega (arith, under, two, both, same))) [
+        | inl is ↦ is
+        | inr later ↦
+            absurd (let passes = passes_next plan t j aim blocks in
+            let again : action_at plan t (suc j) ≡ Some (Blocks (record { phaser = q.0; off = off })) =
+            subst (λ k. action_at plan t k ≡ Some (Blocks (record { phaser = q.0; off = off }))) later first in cc)
+      ],
+    )
 
 -- what a test of all ops does not pass, one of them does not
 not_one : (test : Option Event → Bool) (p : Program) (plan : Plan) (n t i : ℕ) → t < length plan.parents → i < length (code_of plan t) → op_origin p t i ≡ Some n →

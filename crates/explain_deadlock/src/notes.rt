@@ -96,11 +96,7 @@ fn put_note(
 }
 
 // Appends the notes on the phasers of a text.
-fn put_phaser_notes(
-    facts: &Facts,
-    text: NotedText<'_>,
-    out: &mut Vec<u8>,
-) -> Result<(), NoMemory>
+fn put_phaser_notes(facts: &Facts, text: NotedText<'_>, out: &mut Vec<u8>) -> Result<(), NoMemory>
     requires text { IsTextOf facts.now text }
     ensures { OnOk result (out.new.items ≡ out.old.items ++ phaser_notes facts.now text.entry.plan.now) }
 {

@@ -66,7 +66,7 @@ module _ (plan : Plan) (checked : IsCheckedPlan plan) where
   pub all_done_consistent : IsConsistent plan (all_done plan)
   all_done_consistent = record { begun = λ t more. forked_then t more; refused = λ t q e. absurd (cc) }
 
--- ---- before the first task, and behind one
+  -- ---- before the first task, and behind one
 
   pub phases_first : (λ _ _. None) ≡ (state_at plan (walking (all_done plan) 0 0)).phases
   phases_first =

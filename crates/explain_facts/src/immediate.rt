@@ -251,10 +251,7 @@ fn immediate_await(
 }
 
 // Appends what is told, if something is.
-fn push_told(
-    all: &mut Vec<ImmediateAwait>,
-    told: Option<ImmediateAwait>,
-) -> Result<(), NoMemory>
+fn push_told(all: &mut Vec<ImmediateAwait>, told: Option<ImmediateAwait>) -> Result<(), NoMemory>
     ensures { OnOk result (all.new.items ≡ all.old.items ++ option_to_list told) }
 {
     match told {

@@ -15,7 +15,9 @@ mod uses;
 mod waiting;
 mod words;
 
-pub use account::{Account, CodeEnd, Doing, Drawn, Forked, ImmediateAwait, NextOp, TaskAccount, Turn, Waiting};
+pub use account::{
+    Account, CodeEnd, Doing, Drawn, Forked, ImmediateAwait, NextOp, TaskAccount, Turn, Waiting,
+};
 pub use accounts::account_of;
 pub use facts::TextFacts;
 pub use laws::{
