@@ -25,8 +25,12 @@ public final class Operations {
     // ---- the recorder; what fails there does not reach the program
 
     static void debug(Throwable e) {
-        if (System.getenv("ARMUS_DEBUG") != null) {
-            e.printStackTrace();
+        try {
+            if (System.getenv("ARMUS_DEBUG") != null) {
+                e.printStackTrace();
+            }
+        } catch (SecurityException refused) {
+            return;                                            // the program lets nobody read the environment
         }
     }
 

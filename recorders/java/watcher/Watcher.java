@@ -72,8 +72,12 @@ public final class Watcher implements Runnable {
 
     /** Nothing of the recorder reaches the program. */
     private static void debug(Throwable e) {
-        if (System.getenv("ARMUS_DEBUG") != null) {
-            e.printStackTrace();
+        try {
+            if (System.getenv("ARMUS_DEBUG") != null) {
+                e.printStackTrace();
+            }
+        } catch (SecurityException refused) {
+            return;                                            // the program lets nobody read the environment
         }
     }
 
