@@ -24,20 +24,13 @@ public final class Operations {
 
     // ---- the recorder; what fails there does not reach the program
 
-    /** Asked once, before a security manager of the program's refuses the question. */
-    private static final boolean DEBUGS = debugs();
-
-    private static boolean debugs() {
-        try {
-            return System.getenv("ARMUS_DEBUG") != null;
-        } catch (SecurityException e) {
-            return false;
-        }
-    }
-
     static void debug(Throwable e) {
-        if (DEBUGS) {
-            e.printStackTrace();
+        try {
+            if (System.getenv("ARMUS_DEBUG") != null) {
+                e.printStackTrace();
+            }
+        } catch (SecurityException refused) {
+            return;                                            // the program lets nobody read the environment
         }
     }
 

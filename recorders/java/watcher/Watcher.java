@@ -70,21 +70,14 @@ public final class Watcher implements Runnable {
         premain(words, instrumentation);
     }
 
-    /** Asked once, before a security manager of the program's refuses the question. */
-    private static final boolean DEBUGS = debugs();
-
-    private static boolean debugs() {
-        try {
-            return System.getenv("ARMUS_DEBUG") != null;
-        } catch (SecurityException e) {
-            return false;
-        }
-    }
-
     /** Nothing of the recorder reaches the program. */
     private static void debug(Throwable e) {
-        if (DEBUGS) {
-            e.printStackTrace();
+        try {
+            if (System.getenv("ARMUS_DEBUG") != null) {
+                e.printStackTrace();
+            }
+        } catch (SecurityException refused) {
+            return;                                            // the program lets nobody read the environment
         }
     }
 
