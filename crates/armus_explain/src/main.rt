@@ -2,7 +2,8 @@
 #![tactic(auto)]
 
 use armus_base::{List, NoMemory, StdSink, StdSource};
-use explain::{Request, explain, request_of, written_name};
+use explain::{Request, explain, request_of};
+use program_io::written_name;
 use std::alloc::Global;
 use std::env::FillError;
 use std::fs::File;

@@ -3,10 +3,11 @@
 
 use armus_base::NoMemory;
 use monitor::{MonitorRequest, StdPort, monitor, monitor_request_of};
-use program_io::command_words;
+use program_io::{command_words, written_name};
 use std::fs::File;
 use std::io::{Eprint, ErrorKind, Read};
 use std::process::ExitCode;
+use std::str;
 
 // Monitors a trace that is read from here, and tells on standard error where reading failed.
 fn monitor_from<I: Read + Drop>(rt: &HostRuntime, words: &[String], name: &str, input: I) -> u8 {
@@ -20,7 +21,11 @@ fn monitor_from<I: Read + Drop>(rt: &HostRuntime, words: &[String], name: &str, 
 
 // Tells on standard error that this cannot be read.
 fn tell(rt: &HostRuntime, name: &str) {
-    let _ = eprintln!(rt; "armus_monitor: cannot read {name}");
+    if let Ok(name) = written_name(rt.alloc(), name.as_bytes()) {
+        if let Ok(name) = str::from_utf8(name.as_slice()) {
+            let _ = eprintln!(rt; "armus_monitor: cannot read {name}");
+        }
+    }
 }
 
 // Monitors the trace of a file.

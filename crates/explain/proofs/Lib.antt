@@ -1,5 +1,4 @@
 pub mod Fronts
-pub mod LegibleWritten
 pub mod ShownShort
 pub mod Told
 pub mod EndExplained

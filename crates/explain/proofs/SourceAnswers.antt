@@ -1,5 +1,5 @@
 -- From an explanation, steps or a refusal to the output that is wanted.
-use Rattle.std.proofs.Common.{◌≡◌, ℕ, Bool, true, false, Option, Some, inl, inr, subst, sym}
+use Rattle.std.proofs.Common.{◌≡◌, ℕ, Bool, true, false, Some, inl, inr, subst, sym}
 use Rattle.std.specs.Prelude.{IfOk, Result}
 use Rattle.std.proofs.lemmas.Result.{IfOk-weaker}
 use Rattle.armus_base.specs.declared.errors.NoMemory.{NoMemory}
@@ -24,7 +24,7 @@ use Rattle.explain.specs.Avoided.{IsAvoidedOf}
 use Rattle.explain.specs.Stepped.{AreStepsOf}
 use Rattle.explain.specs.Requests.{Form}
 use Rattle.explain.specs.inside.Ending.{AnswersSource, IsAnswerTo, IsClockAnswerTo, IsClockRefusalOf, IsPlAnswerTo, IsRefusalOf, IsWrittenAnswerTo, IsWrittenOf}
-use Rattle.explain.specs.Legible.{IsWritten, legible}
+use Rattle.program_io.specs.Legible.{IsWritten, legible}
 
 module _ (wanted : pl.PlWanted) (form : Form) (text : Text) where
   refused_so : (own : pl.PlWanted) (a : Answer) → IsRefusalOf form.file text a → IsPlAnswerTo own form text a

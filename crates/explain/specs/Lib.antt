@@ -2,7 +2,6 @@
 pub mod Requests
 pub mod Shortened
 pub mod ShownShort
-pub mod Legible
 pub mod Explained
 pub mod Stepped
 pub mod Avoided

@@ -8,7 +8,7 @@ use Rattle.program_io.specs.declared.text_limit.TheConstants.{MAX_TEXT_BYTES}
 use Rattle.explain.specs.ClockExplained.{AnswersClock, IsClockRefusedWith, IsClockStatusOf}
 use Rattle.explain.specs.ClockStepped.{AreClockStepsOf}
 use Rattle.explain.specs.Languages.{is_of_clocks}
-use Rattle.explain.specs.Legible.{IsWritten, legible}
+use Rattle.program_io.specs.Legible.{IsWritten, legible}
 use Rattle.explain.specs.Explained.{EndsSo, IsExplanationOf, IsStatusBy, SomeWaits}
 use Rattle.explain.specs.Stepped.{AreStepsOf}
 use Rattle.explain.specs.Avoided.{AvoidsSo, IsAvoidedOf, SomeStays}

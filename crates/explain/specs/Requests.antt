@@ -3,7 +3,7 @@ use Rattle.std.specs.Prelude.{Bool, true, false, not, ◌==◌, if◌then◌else
 use Rattle.std.specs.Str.{bytes_eq}
 use Rattle.pl_syntax.specs.Printed.{line}
 use Rattle.program_io.specs.Texts.{Text}
-use Rattle.explain.specs.Legible.{told_name}
+use Rattle.program_io.specs.Legible.{told_name}
 use Rattle.explain.specs.declared.extent.Extent.{Extent}
 use Rattle.explain.specs.declared.extent.Extent.TheVariants.{Whole, Usual, Short}
 

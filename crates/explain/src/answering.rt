@@ -6,7 +6,7 @@ ghost use Rattle.program_io.specs.calls.Passages.{passage};
 ghost use Rattle.program_io.specs.declared.text_limit.TheConstants.{MAX_TEXT_BYTES};
 ghost use Rattle.explain.specs.inside.Ending.{AnswersSource, EndsUnanswered, IsAnswerTo, IsPlAnswerTo, IsWrittenAnswerTo};
 ghost use Rattle.explain.specs.calls.Requested.{form_named, form_with, told_file};
-ghost use Rattle.explain.specs.Legible.{legible};
+ghost use Rattle.program_io.specs.Legible.{legible};
 ghost use Rattle.explain_syntax.specs.LengthRefusals.{length_refusal};
 ghost use Rattle.program_io.specs.calls.ExitNumbers.{number_of_status};
 

@@ -1,6 +1,5 @@
 // Laws of the outputs of a text, as contracts of functions with an empty body.
 ghost use Rattle.explain.specs.ClockExplained.{AnswersClock};
-ghost use Rattle.explain.specs.Legible.{LegibleIsWritten, LegibleStays};
 ghost use Rattle.explain.specs.Outputs.{AnswersAvoided, AnswersEither, AnswersStepsOf, AnswersText};
 ghost use Rattle.explain.specs.ShownShort.{IsShownBrief, IsShownShort};
 ghost use Rattle.explain.specs.calls.Laws.{EachHasOutput, IsOneOutput};
@@ -41,10 +40,4 @@ pub fn one_clock_output()
 pub fn shown_short()
     ensures usual { IsShownShort }
     ensures short { IsShownBrief }
-{}
-
-/// What is written of a text consists of characters that a terminal shows, of tabs and ends of lines; and a text that does is written as it is.
-pub fn legible_is_written()
-    ensures legible { LegibleIsWritten }
-    ensures stays { LegibleStays }
 {}

@@ -19,9 +19,8 @@ mod top;
 
 pub use answer::WantedOutput;
 pub use laws::{
-    legible_is_written, one_avoided_output, one_clock_output, one_either_output, one_output,
-    one_steps_output, shown_short,
+    one_avoided_output, one_clock_output, one_either_output, one_output, one_steps_output,
+    shown_short,
 };
-pub use legible::written_name;
 pub use request::{Request, request_of};
 pub use top::explain;

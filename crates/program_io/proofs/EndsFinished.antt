@@ -1,5 +1,5 @@
 -- A call that has written a whole output, or failed to, ends as it may.
-use Rattle.std.proofs.Common.{◌≡◌, ℕ, Bool, inl, inr, subst, sym}
+use Rattle.std.proofs.Common.{ℕ, Bool, inl, inr, subst, sym}
 use Rattle.std.specs.Prelude.{Option}
 use Rattle.program_io.specs.Passages.{EndsWith, IsSound, Passage, whole, write_fault}
 use Rattle.program_io.specs.Texts.{Text}

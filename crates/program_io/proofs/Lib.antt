@@ -3,3 +3,4 @@ pub mod EachText
 pub mod EndsFinished
 pub mod Inputs
 pub mod SomeBelow
+pub mod LegibleWritten

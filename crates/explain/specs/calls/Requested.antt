@@ -3,7 +3,7 @@ use Rattle.std.specs.Prelude.{None, Option, Some, codes, if◌then◌else◌, op
 use Rattle.std.specs.Borrow.{Bor}
 use Rattle.std.specs.Str.{bytes_eq}
 use Rattle.program_io.specs.Texts.{Text}
-use Rattle.explain.specs.Legible.{told_name}
+use Rattle.program_io.specs.Legible.{told_name}
 use Rattle.explain.specs.Requests.{Asked, Form, avoided, clocks, explanation, form_of, help, nothing, steps, version}
 use Rattle.explain.specs.declared.answer.WantedOutput.{WantedOutput}
 use Rattle.explain.specs.declared.answer.WantedOutput.TheVariants.{Avoided, Clocks, Explanation, Steps}

@@ -13,7 +13,7 @@ use Rattle.explain.specs.declared.answer.ClockWanted as clocks_wanted
 use Rattle.explain.specs.declared.answer.ClockWanted.TheVariants as c
 use Rattle.explain.specs.declared.answer.PlWanted as pl
 use Rattle.explain.specs.declared.answer.PlWanted.TheVariants as p
-use Rattle.explain.specs.Legible.{legible}
+use Rattle.program_io.specs.Legible.{legible}
 use Rattle.explain.specs.Outputs.{AnswersAvoided, AnswersEither, AnswersStepsIn, AnswersStepsOf, AnswersText, MayWrite}
 use Rattle.explain.specs.Refused.{IsRefusedWith}
 use Rattle.explain.specs.Requests.{Form}

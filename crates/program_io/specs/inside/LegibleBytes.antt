@@ -2,7 +2,7 @@
 use Rattle.std.specs.Prelude.{ℕ, suc, zero, if◌then◌else◌, nat_lt}
 use Rattle.std.specs.Str.{continuation_len}
 use Rattle.program_io.specs.Texts.{Text}
-use Rattle.explain.specs.Legible.{begins_character}
+use Rattle.program_io.specs.Legible.{begins_character}
 
 -- what is written of a byte before these, where so many bytes go on a character
 abbrev pub legible_byte : ℕ → ℕ → Text → ℕ

@@ -3,8 +3,8 @@ use Rattle.std.proofs.Common.{◌≡◌, ◌-◌, ◌∙◌, ◌≤◌, ◌<◌,
 use Rattle.std.specs.Str.{continuation_len}
 use Rattle.std.proofs.lemmas.List.{drop_more, length-drop, nil_from_length}
 use Rattle.program_io.specs.Texts.{Text}
-use Rattle.explain.specs.Legible.{IsLegible, LegibleIsWritten, LegibleStays, begins_character, character, is_continued, is_further, is_second, legible, legible_behind, may_begin, nothing, told_name}
-use Rattle.explain.specs.inside.LegibleBytes.{behind_byte, legible_byte, told_byte}
+use Rattle.program_io.specs.Legible.{IsLegible, LegibleIsWritten, LegibleStays, begins_character, character, is_continued, is_further, is_second, legible, legible_behind, may_begin, nothing, told_name}
+use Rattle.program_io.specs.inside.LegibleBytes.{behind_byte, legible_byte, told_byte}
 
 -- ---- the bytes of one character
 

@@ -1,6 +1,6 @@
 use Rattle.std.proofs.Common.{[], ◌∷◌, ◌++◌, ◌∙◌, ◌+◌, ◌-◌, ap, drop, length, take}
-use Rattle.explain.proofs.LegibleWritten.{behind_is, legible_more}
-use Rattle.explain.proofs.legible.legible.Goals as goal
+use Rattle.program_io.proofs.LegibleWritten.{behind_is, legible_more}
+use Rattle.program_io.proofs.legible_bytes.legible.Goals as goal
 
 pub loop-index-preserved : goal.loop-index-preserved
 loop-index-preserved c =

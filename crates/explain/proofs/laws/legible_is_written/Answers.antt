@@ -1,5 +1,0 @@
-use Rattle.explain.proofs.LegibleWritten.{legible_stays, legible_written}
-use Rattle.explain.proofs.laws.legible_is_written.Goals as goal
-
-pub returns : goal.returns
-returns c = record { legible = legible_written; stays = legible_stays }
