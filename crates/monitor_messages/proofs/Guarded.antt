@@ -13,7 +13,7 @@ use Rattle.monitor_laws.proofs.Filters.{any_from}
 use Rattle.monitor_laws.proofs.Lawful.{IsLawfulState, lawful_after}
 use Rattle.monitor_laws.proofs.Rows.{name_is}
 use Rattle.monitor_search.specs.Known.{AreStuckTasks, has_stuck_number}
-use Rattle.monitor_state.specs.declared.line_fault.FaultOfLine.{FaultOfLine}
+use Rattle.monitor_words.specs.declared.faults.FaultOfLine.{FaultOfLine}
 use Rattle.monitor_words.specs.Messages.{IsGuardedMessage, IsRefusal, IsWaitLine}
 use Rattle.monitor_words.specs.Reasons.{IsStuckBecause}
 use Rattle.monitor_words.specs.Stops.{TellsStuck}

@@ -4,7 +4,6 @@
 #![tactic(auto)]
 
 mod changes;
-mod faults;
 mod guard;
 mod known_state;
 mod laws;

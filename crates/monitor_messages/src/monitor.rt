@@ -1,18 +1,16 @@
 // The monitor: what is known behind the lines that came.
 ghost use Rattle.std.specs.Prelude.{◌≡◌, ◌+◌, ◌++◌, ◌||◌, not, true, Bool, List, ℕ, Some, OnOk};
 ghost use Rattle.monitor_laws.specs.Faults.{first_fault};
-ghost use Rattle.monitor_state.specs.Values.{fault_of_line};
+ghost use Rattle.monitor_words.specs.calls.FaultValues.{fault_of_line};
 ghost use Rattle.monitor_words.specs.Faults.{fault_line};
 ghost use Rattle.monitor_words.specs.Messages.{report_words};
 ghost use Rattle.monitor_words.specs.Stops.{TellsStuck};
 ghost use Rattle.trace_lines.specs.Values.{line_value};
 ghost use Rattle.monitor_messages.specs.Runs.{IsHeard, IsNextRun, has_kept_waiting, run_begun};
 
-use crate::faults::fault_text;
 use crate::known_state::KnownState;
 use armus_base::NoMemory;
-use monitor_state::FaultOfLine;
-use monitor_words::put_fault;
+use monitor_words::{FaultOfLine, put_fault};
 use std::alloc::Global;
 use std::marker::Model;
 use trace_lines::{TraceLine, read_line};
@@ -93,7 +91,7 @@ impl Monitor {
         ensures run { OnOk result (self.new ≡ record self.old { lines = number; faulty = true; stopped = not self.old.options.keeps_going }) }
         ensures message { OnOk result (out.new.items ≡ out.old.items ++ fault_line number (fault_of_line fault.entry)) }
     {
-        put_fault(alloc, out, number, fault_text(fault))?;
+        put_fault(alloc, out, number, fault)?;
         self.lines = number;
         self.faulty = true;
         self.stopped = !self.keeps_going;

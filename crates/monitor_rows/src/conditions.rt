@@ -9,9 +9,10 @@ use crate::names::{add_name, no_names};
 use crate::places::own_place;
 use armus_base::NoMemory;
 use monitor_search::StuckTasks;
-use monitor_state::{ListedCondition, ListedParticipant, split_word};
+use monitor_state::{ListedCondition, ListedParticipant};
 use monitor_words::{KeeperCondition, ShownNames, put_condition};
 use std::alloc::Global;
+use trace_lines::split_word;
 
 // The names of who may play a wildcard; they stand one behind the other, a space between.
 fn player_names(alloc: Global, names: &[u8]) -> Result<ShownNames, NoMemory>

@@ -3,11 +3,8 @@ use Rattle.std.specs.Prelude.{ℕ, List, Option, Some, None, ◌==◌}
 use Rattle.std.specs.Global.{Vec}
 use Rattle.std.specs.List.{slice_split}
 use Rattle.monitor_laws.specs.States.{Condition as Stands, Running as Runs, Waiting as Waits, Ended as HasEnded, AnyTask as ForAnyTask, OneOf as ForOneOf}
-use Rattle.monitor_laws.specs.Faults.{LineFault as Fault, Malformed as IsMalformed, NamesTask as HasTask, NamesWildcard as HasWildcard, StillWaits as IsWaiting, DoesNotWait as IsNotWaiting, IsMemberAlready as HasJoined, IsNoMember as HasNotJoined, IsAtLastPhase as HasLastPhase, TooManyListed as HasNoPlace, TooManyMemberships as HasTooMany}
 use Rattle.monitor_state.specs.declared.condition.ListedCondition.{ListedCondition}
 use Rattle.monitor_state.specs.declared.condition.ListedCondition.TheVariants.{Running, Waiting, Ended, AnyTask, OneOf}
-use Rattle.monitor_state.specs.declared.line_fault.FaultOfLine.{FaultOfLine}
-use Rattle.monitor_state.specs.declared.line_fault.FaultOfLine.TheVariants.{Malformed, NamesTask, NamesWildcard, StillWaits, DoesNotWait, IsMemberAlready, IsNoMember, IsAtLastPhase, TooManyListed, TooManyMemberships}
 
 -- a condition; the names of those who may play a wildcard stand one behind the other, a space between
 abbrev pub condition_value : ListedCondition → Stands
@@ -21,16 +18,3 @@ condition_value (OneOf names tasks) = ForOneOf (slice_split (λ b. b == 32) name
 abbrev pub kept_bytes : Option (Vec ℕ) → Option (List ℕ)
 kept_bytes None = None
 kept_bytes (Some bytes) = Some bytes.items
-
--- a fault
-abbrev pub fault_of_line : FaultOfLine → Fault
-fault_of_line Malformed = IsMalformed
-fault_of_line (NamesTask w) = HasTask w.now
-fault_of_line (NamesWildcard t) = HasWildcard t.now
-fault_of_line (StillWaits t) = IsWaiting t.now
-fault_of_line (DoesNotWait t) = IsNotWaiting t.now
-fault_of_line (IsMemberAlready t p) = HasJoined t.now p.now
-fault_of_line (IsNoMember t p) = HasNotJoined t.now p.now
-fault_of_line (IsAtLastPhase t p) = HasLastPhase t.now p.now
-fault_of_line TooManyListed = HasNoPlace
-fault_of_line TooManyMemberships = HasTooMany

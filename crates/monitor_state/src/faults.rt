@@ -3,10 +3,11 @@ ghost use Rattle.std.specs.Prelude.{◌≡◌, is_some};
 ghost use Rattle.std.specs.Option.{option_copied, option_map};
 ghost use Rattle.trace_lines.specs.Values.{said_value};
 ghost use Rattle.monitor_laws.specs.Faults.{is_go, is_join, is_of_tasks};
-ghost use Rattle.monitor_state.specs.Values.{fault_of_line};
+ghost use Rattle.monitor_words.specs.calls.FaultValues.{fault_of_line};
 ghost use Rattle.monitor_state.specs.inside.FirstFaults.{announced_fault, any_fault, is_task_there, is_wildcard_there, one_of_fault, phase_there, room_fault, said_fault, is_waiting_there};
 
-use crate::{FaultOfLine, ListedParticipant};
+use crate::ListedParticipant;
+use monitor_words::FaultOfLine;
 use trace_lines::Announcement;
 
 // The phase on phaser p of who is there.

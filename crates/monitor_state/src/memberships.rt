@@ -10,7 +10,7 @@ ghost use Rattle.monitor_state.specs.inside.PhaserLists.{are_here, is_of_phaser,
 ghost use Rattle.monitor_state.specs.inside.Reindexing.{IsNotedAnew, IsNotedWhere, IsSameNoted};
 
 use crate::PhaserMembership;
-use crate::phaser_membership::ending_of;
+use crate::phaser_membership::name_ending;
 use armus_base::NoMemory;
 use monitor_members::PhaserIndex;
 use std::alloc::{AllocError, Global};
@@ -38,7 +38,7 @@ fn position_of(items: &[PhaserMembership], p: &[u8]) -> Option<usize>
     ensures at { IfSome result (IsFirstAt (is_of_phaser p.now) items.now) }
     ensures none { IfNone result (list_any (is_of_phaser p.now) items.now ≡ false) }
 {
-    let ending = ending_of(p);
+    let ending = name_ending(p);
     for (at, membership) in items.iter().enumerate() {
         if membership.is_of(p, ending) {
             return Some(at);

@@ -1,6 +1,6 @@
 // A membership of a phaser.
 ghost use Rattle.std.specs.Prelude.{◌≡◌};
-ghost use Rattle.monitor_state.specs.inside.Endings.{ending_of};
+ghost use Rattle.monitor_state.specs.inside.Endings.{name_ending};
 
 use std::alloc::{AllocError, Global};
 use std::marker::Model;
@@ -15,18 +15,18 @@ pub struct PhaserMembership {
 
 impl Model for PhaserMembership {
     ghost use Rattle.std.specs.Prelude.{◌≡◌, ℕ, List};
-    ghost use Rattle.monitor_state.specs.inside.Endings.{ending_of};
+    ghost use Rattle.monitor_state.specs.inside.Endings.{name_ending};
 
     ghost Value = { List ℕ × ℕ };
 
     ghost view = { λ m. (m.phaser.items, m.phase) };
 
-    ghost invariant = { λ m. m.ending ≡ ending_of m.phaser.items };
+    ghost invariant = { λ m. m.ending ≡ name_ending m.phaser.items };
 }
 
 /// The last four bytes of a name as a number, 0 of a shorter one. Names that differ mostly differ there, so these are compared first.
-pub(crate) fn ending_of(name: &[u8]) -> u32
-    ensures { result ≡ ending_of name.now }
+pub(crate) fn name_ending(name: &[u8]) -> u32
+    ensures { result ≡ name_ending name.now }
 {
     match name.last_chunk::<4>() {
         None => 0,
@@ -45,14 +45,14 @@ impl PhaserMembership {
         let phaser = Vec::from_slice(alloc, p)?;
         Ok(PhaserMembership {
             phaser,
-            ending: ending_of(p),
+            ending: name_ending(p),
             phase: n,
         })
     }
 
     /// Whether it is of phaser p, whose name has this ending.
     pub(crate) fn is_of(&self, p: &[u8], ending: u32) -> bool
-        requires { ending ≡ ending_of p.now }
+        requires { ending ≡ name_ending p.now }
         ensures { result ≡ bytes_eq p.now self.now.0 }
     {
         self.ending == ending && p == self.phaser.as_slice()

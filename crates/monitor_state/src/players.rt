@@ -6,9 +6,9 @@ ghost use Rattle.monitor_state.specs.inside.Numbers.{HasEachNameOnce};
 ghost use Rattle.monitor_state.specs.inside.Players.{NumbersClimb, is_player, participant_number};
 
 use crate::listing::Listing;
-use crate::words::split_word;
 use armus_base::NoMemory;
 use std::alloc::Global;
+use trace_lines::split_word;
 
 // The number of the task that is there with the name t.
 fn task_number(listing: &Listing, t: &[u8]) -> Option<u64>

@@ -10,7 +10,7 @@ ghost use Rattle.monitor_laws.specs.Lawful.{AreAscending, IsLawfulState};
 ghost use Rattle.monitor_state.specs.Taking.{taken_state};
 ghost use Rattle.trace_lines.specs.inside.Reading.{spaced_words};
 ghost use Rattle.monitor_state.specs.Indexes.{IsIndexOf};
-ghost use Rattle.monitor_state.specs.Values.{fault_of_line};
+ghost use Rattle.monitor_words.specs.calls.FaultValues.{fault_of_line};
 ghost use Rattle.monitor_state.specs.inside.FirstFaults.{first_of_two, many_fault};
 ghost use Rattle.monitor_state.specs.inside.FirstPlaces.{IsFirstAt};
 ghost use Rattle.monitor_state.specs.inside.Numbers.{IsPlaceOfName};
@@ -21,12 +21,12 @@ use crate::faults::{announced_fault, any_fault, is_wildcard_there, one_of_fault}
 use crate::goes::memberships_of;
 use crate::listing::Listing;
 use crate::players::task_numbers;
-use crate::words::split_word;
-use crate::{FaultOfLine, ListedCondition, ListedParticipant, MemberIndex};
+use crate::{ListedCondition, ListedParticipant, MemberIndex};
 use armus_base::NoMemory;
+use monitor_words::FaultOfLine;
 use std::alloc::Global;
 use std::marker::Model;
-use trace_lines::{Announcement, TraceLine};
+use trace_lines::{Announcement, TraceLine, split_word};
 
 // How many tasks and wildcards, and how many memberships, the list has at most.
 const MOST_LISTED: usize = 65536;

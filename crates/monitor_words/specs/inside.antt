@@ -1,3 +1,2 @@
-pub mod FaultValues
 pub mod ValueWords
 pub mod ValueMessages

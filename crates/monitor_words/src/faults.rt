@@ -1,14 +1,14 @@
 // The line of a fault.
 ghost use Rattle.std.specs.Prelude.{◌≡◌, ◌++◌, OnOk, codes, decimal};
 ghost use Rattle.monitor_words.specs.Faults.{fault_line, line_fault_words};
-ghost use Rattle.monitor_words.specs.inside.FaultValues.{fault_value};
+ghost use Rattle.monitor_words.specs.calls.FaultValues.{fault_of_line};
 
 use armus_base::{NoMemory, put_number, put_words};
 use std::alloc::Global;
 
 /// A fault of a line, with the names as they stand in the line.
 #[derive(Clone, Copy)]
-pub enum FaultText<'a> {
+pub enum FaultOfLine<'a> {
     /// It is no line.
     Malformed,
     /// A wildcard of this name is to be, and a task of the name is there.
@@ -49,20 +49,20 @@ fn put_of_both(out: &mut Vec<u8>, name: &[u8], words: &[u8], phaser: &[u8]) -> R
 }
 
 // Appends the text of a fault.
-fn put_text(out: &mut Vec<u8>, fault: FaultText<'_>) -> Result<(), NoMemory>
-    ensures { OnOk result (out.new.items ≡ out.old.items ++ line_fault_words (fault_value fault.entry)) }
+fn put_text(out: &mut Vec<u8>, fault: FaultOfLine<'_>) -> Result<(), NoMemory>
+    ensures { OnOk result (out.new.items ≡ out.old.items ++ line_fault_words (fault_of_line fault.entry)) }
 {
     match fault {
-        FaultText::Malformed => put_words(out, b"malformed"),
-        FaultText::NamesTask(w) => put_of(out, w, b" is a task"),
-        FaultText::NamesWildcard(t) => put_of(out, t, b" is a wildcard"),
-        FaultText::StillWaits(t) => put_of(out, t, b" waits"),
-        FaultText::DoesNotWait(t) => put_of(out, t, b" does not wait"),
-        FaultText::IsMemberAlready(t, p) => put_of_both(out, t, b" is a member of ", p),
-        FaultText::IsNoMember(t, p) => put_of_both(out, t, b" is no member of ", p),
-        FaultText::IsAtLastPhase(t, p) => put_of_both(out, t, b" is at the last phase of ", p),
-        FaultText::TooManyListed => put_words(out, b"there are 65536 tasks"),
-        FaultText::TooManyMemberships => put_words(out, b"there are 1048576 memberships"),
+        FaultOfLine::Malformed => put_words(out, b"malformed"),
+        FaultOfLine::NamesTask(w) => put_of(out, w, b" is a task"),
+        FaultOfLine::NamesWildcard(t) => put_of(out, t, b" is a wildcard"),
+        FaultOfLine::StillWaits(t) => put_of(out, t, b" waits"),
+        FaultOfLine::DoesNotWait(t) => put_of(out, t, b" does not wait"),
+        FaultOfLine::IsMemberAlready(t, p) => put_of_both(out, t, b" is a member of ", p),
+        FaultOfLine::IsNoMember(t, p) => put_of_both(out, t, b" is no member of ", p),
+        FaultOfLine::IsAtLastPhase(t, p) => put_of_both(out, t, b" is at the last phase of ", p),
+        FaultOfLine::TooManyListed => put_words(out, b"there are 65536 tasks"),
+        FaultOfLine::TooManyMemberships => put_words(out, b"there are 1048576 memberships"),
     }
 }
 
@@ -71,9 +71,9 @@ pub fn put_fault(
     alloc: Global,
     out: &mut Vec<u8>,
     number: u64,
-    fault: FaultText<'_>,
+    fault: FaultOfLine<'_>,
 ) -> Result<(), NoMemory>
-    ensures { OnOk result (out.new.items ≡ out.old.items ++ fault_line number (fault_value fault.entry)) }
+    ensures { OnOk result (out.new.items ≡ out.old.items ++ fault_line number (fault_of_line fault.entry)) }
 {
     put_words(out, b"line ")?;
     put_number(alloc, out, number)?;

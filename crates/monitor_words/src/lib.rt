@@ -15,7 +15,7 @@ mod rows;
 mod sentences;
 mod words;
 
-pub use faults::{FaultText, put_fault};
+pub use faults::{FaultOfLine, put_fault};
 pub use keepers::{KeeperCondition, KeeperGroup, put_condition};
 pub use laws::{
     numbers_ascend, one_circle, one_message, one_reason, values_are_written, worked_messages,

@@ -11,3 +11,4 @@ mod words;
 
 pub use line::{Announcement, TraceLine};
 pub use reading::{one_line, read_line};
+pub use words::split_word;

@@ -42,6 +42,22 @@ pub(crate) fn behind_word(bytes: &[u8]) -> Option<&[u8]>
     }
 }
 
+/// The first of words that stand one behind the other, a space between, and what stands behind its space; none where there is no space.
+#[tactic(auto, unfolding(crate::specs::inside::Reading::behind_word, crate::specs::inside::Reading::word_before_space))]
+pub fn split_word(bytes: &[u8]) -> (&[u8], Option<&[u8]>)
+    ensures word { result.0.now ≡ word_before_space bytes.now }
+    ensures behind { option_copied result.1 ≡ behind_word bytes.now }
+    ensures shorter { IfSome result.1 (λ rest. length rest.now < length bytes.now) }
+{
+    let at = space_at(bytes);
+    let word = &bytes[..at];
+    if at < bytes.len() {
+        (word, Some(&bytes[at + 1..]))
+    } else {
+        (word, None)
+    }
+}
+
 // Whether these are bytes of words alone.
 fn are_word_bytes(word: &[u8]) -> bool
     ensures { result ≡ list_all (λ b. nat_le 33 b && nat_le b 126) word.now }

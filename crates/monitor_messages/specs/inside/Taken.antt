@@ -3,8 +3,8 @@ use Rattle.std.specs.Prelude.{◌≡◌, ℕ, Bool, true, Some, None, List, ◌+
 use Rattle.monitor_laws.specs.Faults.{first_fault}
 use Rattle.monitor_laws.specs.Lines.{TraceLine}
 use Rattle.monitor_laws.specs.States.{TraceState, after_line}
-use Rattle.monitor_state.specs.Values.{fault_of_line}
-use Rattle.monitor_state.specs.declared.line_fault.FaultOfLine.{FaultOfLine}
+use Rattle.monitor_words.specs.calls.FaultValues.{fault_of_line}
+use Rattle.monitor_words.specs.declared.faults.FaultOfLine.{FaultOfLine}
 use Rattle.monitor_messages.specs.Runs.{IsMessageOf, TellsSomebody}
 
 -- a line that was taken, with the bytes that it calls for and whether somebody was told or refused; or its first fault, by which nothing changes

@@ -4,7 +4,7 @@ use Rattle.trace_lines.specs.Values.{line_value}
 use Rattle.monitor_laws.specs.Faults.{first_fault}
 use Rattle.monitor_laws.specs.States.{after_line}
 use Rattle.monitor_state.specs.Taking.{taken_state}
-use Rattle.monitor_state.specs.Values.{fault_of_line}
+use Rattle.monitor_words.specs.calls.FaultValues.{fault_of_line}
 use Rattle.monitor_search.specs.Known.{AreStuckTasks}
 use Rattle.monitor_messages.specs.inside.Changes.{IsKnownBefore}
 use Rattle.monitor_messages.proofs.TakenLines.{lawful_on, leads_on, taken_plain}

@@ -7,7 +7,7 @@ use Rattle.monitor_laws.specs.Lines.{Announces, Stands, TraceLine, Waits}
 use Rattle.monitor_laws.specs.States.{after_line}
 use Rattle.monitor_search.specs.Known.{AreStuckTasks}
 use Rattle.monitor_state.specs.Taking.{taken_state}
-use Rattle.monitor_state.specs.Values.{fault_of_line}
+use Rattle.monitor_words.specs.calls.FaultValues.{fault_of_line}
 use Rattle.monitor_messages.specs.inside.Changes.{IsKnownBefore, TellsChange}
 use Rattle.monitor_messages.specs.inside.Guarded.{AnswersWait, may_wait_words}
 use Rattle.monitor_messages.specs.inside.Taken.{IsTaken}

@@ -6,7 +6,7 @@ use Rattle.monitor_laws.specs.States.{Participant, after_line, is_there_as}
 use Rattle.monitor_laws.specs.Faults.{LineFault, is_wildcard_in, memberships_in, most_memberships}
 use Rattle.monitor_laws.specs.Lawful.{IsLawfulState}
 use Rattle.trace_lines.specs.inside.Reading.{spaced_words}
-use Rattle.monitor_state.specs.Values.{fault_of_line}
+use Rattle.monitor_words.specs.calls.FaultValues.{fault_of_line}
 use Rattle.monitor_state.specs.inside.FirstFaults.{first_of_two, many_fault, one_of_fault}
 use Rattle.monitor_state.proofs.KeptStates.{place_within}
 use Rattle.monitor_state.proofs.TableRows.{one_of_first, one_of_space, where_none}

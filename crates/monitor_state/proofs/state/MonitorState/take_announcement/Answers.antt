@@ -2,7 +2,7 @@ use Rattle.std.proofs.Common.{sym, ◌∙◌, ap}
 use Rattle.std.specs.Option.{option_map}
 use Rattle.monitor_laws.specs.Lines.{Announces}
 use Rattle.trace_lines.specs.Values.{place_value, said_value}
-use Rattle.monitor_state.specs.Values.{fault_of_line}
+use Rattle.monitor_words.specs.calls.FaultValues.{fault_of_line}
 use Rattle.monitor_state.proofs.LegalLines.{no_fault, place_is_there}
 use Rattle.monitor_state.proofs.state.MonitorState.take_announcement.Goals as goal
 

@@ -1,7 +1,7 @@
 use Rattle.std.proofs.Common.{sym, ◌∙◌, ap}
 use Rattle.std.specs.Option.{option_map}
 use Rattle.monitor_laws.specs.Lines.{PlaysAny}
-use Rattle.monitor_state.specs.Values.{fault_of_line}
+use Rattle.monitor_words.specs.calls.FaultValues.{fault_of_line}
 use Rattle.monitor_state.proofs.LegalLines.{no_fault}
 use Rattle.monitor_state.proofs.state.MonitorState.take_any.Goals as goal
 
