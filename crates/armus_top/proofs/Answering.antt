@@ -1,6 +1,6 @@
 -- From what a command answers to what the call leaves.
-use Rattle.std.proofs.Common.{◌≡◌, ◌⊎◌, ℕ, Bool, inl, inr, refl, sym, ap, subst}
-use Rattle.std.specs.Prelude.{Err, None, Ok, Option, Result, Some}
+use Rattle.std.proofs.Common.{◌≡◌, ◌⊎◌, ℕ, Bool, inl, inr, refl, sym, subst}
+use Rattle.std.specs.Prelude.{Option, Some}
 use Rattle.clock_pl.specs.calls.ClockPlanning.{as_fault}
 use Rattle.report.specs.Refusals.{refusal_text}
 use Rattle.report.specs.declared.refusal.Refusal.{Refusal}
@@ -13,13 +13,13 @@ use Rattle.armus_top.specs.declared.output.InputEnd.{InputEnd}
 use Rattle.armus_top.specs.declared.output.InputEnd.TheVariants.{Clock, NoMemory, Refused}
 use Rattle.armus_top.specs.declared.output.Output.{Output}
 use Rattle.armus_top.specs.Commands.{IsAnswered, IsRefusedInput, limit_of, writes_live}
-use Rattle.program_io.specs.Passages.{EndsWith, GaveTooMuch, HasInput, IsSound, Passage}
-use Rattle.armus_top.specs.Headline.{Answers, Ends, Permits, limit_for, writes_lines}
-use Rattle.armus_top.specs.inside.Answers.{AnswersBy, IsClockInputEnd, IsEnd, IsEndOf}
+use Rattle.program_io.specs.Passages.{EndsWith, GaveTooMuch, Passage}
+use Rattle.armus_top.specs.Headline.{Answers, Ends, Permits}
+use Rattle.armus_top.specs.inside.Answers.{IsClockInputEnd, IsEnd, IsEndOf}
 use Rattle.armus_top.specs.inside.Reading.{EndsUnread, IsReadFor}
 use Rattle.program_io.specs.calls.ExitNumbers.{number_of_status}
 use Rattle.program_io.specs.calls.Writing.{Finished}
-use Rattle.armus_top.specs.inside.Writing.{Answered, LeavesNothing, LeavesOutput, TellsRefusal, RefusesClocks, nothing, wrote}
+use Rattle.armus_top.specs.inside.Writing.{Answered, LeavesNothing, nothing, wrote}
 use Rattle.armus_top.proofs.WaysToEnd.{ends_left, ends_without_input, leaves_one_of_more}
 
 -- why a text has no plan is why a command has no answer that refuses its input for the faults of a text

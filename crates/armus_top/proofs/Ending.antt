@@ -1,18 +1,18 @@
 -- From what `finish` leaves to what the call leaves.
-use Rattle.std.proofs.Common.{◌≡◌, ◌≤◌, ◌∙◌, ◌++◌, ℕ, List, length, inl, inr, ap, sym, subst, arith, append-nil, length-append}
+use Rattle.std.proofs.Common.{◌≡◌, ◌∙◌, ◌++◌, ℕ, List, inl, inr, ap, sym, subst}
 use Rattle.std.specs.Prelude.{Option, Some, None}
-use Rattle.std.specs.Io.KnownBytes.{Appends, Consumes, IsAtEnd}
+use Rattle.std.specs.Io.KnownBytes.{Appends}
 use Rattle.std.proofs.KnownBytes.{Appends-trans}
 use Rattle.armus_base.specs.ReadAll.{TookFront}
 use Rattle.armus_base.proofs.Fronts.{front_after}
-use Rattle.armus_base.specs.Causes.{Rose, counted}
+use Rattle.armus_base.specs.Causes.{counted}
 use Rattle.armus_top.specs.Commands.{limit_of, IsRefusedInput}
 use Rattle.armus_top.proofs.Inputs.{answered_small, never_both}
 use Rattle.program_io.proofs.EndsFinished.{ends_finished}
 use Rattle.program_io.specs.Texts.{Text}
 use Rattle.program_io.proofs.Inputs.{not_long, not_more, rose_from, same_input}
 use Rattle.program_io.specs.calls.Writing.{Finished}
-use Rattle.program_io.specs.Passages.{Passage, GaveTooMuch, HasInput, IsCalm, IsSound, Offers, OffersTooMuch, whole, read_fault, write_fault, no_memory}
+use Rattle.program_io.specs.Passages.{Passage, IsCalm, IsSound, Offers, OffersTooMuch, whole, read_fault, write_fault, no_memory}
 use Rattle.armus_top.specs.Headline.{Completes, Ends, IsAccepted, IsCall, IsServed, Permits, limit_for, writes_lines}
 use Rattle.command_line.specs.declared.command.Command.{Command}
 

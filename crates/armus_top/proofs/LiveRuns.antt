@@ -1,5 +1,5 @@
 -- From the live lines of a run, and the report behind them, to what the command leaves.
-use Rattle.std.proofs.Common.{◌≡◌, ◌∙◌, ◌++◌, [], ℕ, List, inl, inr, refl, sym, subst, ap, arith, append-nil, append_assoc, Bool, true, false, if◌then◌else◌}
+use Rattle.std.proofs.Common.{◌≡◌, ◌∙◌, ◌++◌, [], ℕ, List, inr, refl, sym, subst, ap, arith, append-nil, append_assoc, Bool, true, if◌then◌else◌}
 use Rattle.std.specs.Prelude.{◌↔◌, IsTrue, Option, Some, None, Ok, Err}
 use Rattle.std.specs.Io.KnownBytes.{Appends, Keeps}
 use Rattle.std.proofs.KnownBytes.{Keeps-refl}

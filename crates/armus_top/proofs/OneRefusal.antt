@@ -1,5 +1,5 @@
 -- A text is refused for one cause, and what tells whether a task is dead or refused has one status.
-use Rattle.std.proofs.Common.{◌≡◌, ◌∙◌, ℕ, ap, inl, inr, sym, subst, true, false}
+use Rattle.std.proofs.Common.{◌≡◌, ◌∙◌, ℕ, ap, inl, inr, sym, subst}
 use Rattle.std.specs.Prelude.{Err}
 use Rattle.armus_base.specs.Plans.{Plan}
 use Rattle.armus_base.specs.States.{State}

@@ -1,5 +1,5 @@
 -- The report of the end of a plain run is that of the one state in which every maximal plain run ends.
-use Rattle.std.proofs.Common.{◌≡◌, ℕ, inl, inr, refl, sym, subst, Bool, true, false, if◌then◌else◌}
+use Rattle.std.proofs.Common.{ℕ, inl, inr, refl, sym, subst, Bool, true, false, if◌then◌else◌}
 use Rattle.std.specs.Prelude.{◌↔◌, Err, IfOk, IsTrue, Ok, Result}
 use Rattle.armus_base.specs.declared.errors.NoMemory.{NoMemory}
 use Rattle.armus_base.specs.declared.ending.Final.{Final}

@@ -1,5 +1,5 @@
 -- From what a part of a call answers to what the command answers and the call leaves.
-use Rattle.std.proofs.Common.{◌≡◌, ◌≢◌, ◌≤◌, ◌+◌, ℕ, Bool, true, false, List, [], arith, inl, inr, length, refl, subst, sym}
+use Rattle.std.proofs.Common.{◌≡◌, ◌≢◌, ℕ, Bool, true, false, List, arith, inl, inr, refl, subst, sym}
 use Rattle.std.specs.Prelude.{Err, IfErr, IfOk, None, Ok, Option, Result, Some, is_some}
 use Rattle.armus_base.specs.Plans.{Plan}
 use Rattle.adaptive.specs.declared.analysis.Wanted.{Wanted}
@@ -16,7 +16,7 @@ use Rattle.program_io.specs.declared.exit_status.ExitStatus.{ExitStatus}
 use Rattle.armus_top.specs.Clocks.{IsClockPlanOf}
 use Rattle.armus_top.specs.Commands.{IsAnswered, limit_of, wanted_of, writes_live}
 use Rattle.program_io.specs.Passages.{HasInput, IsSound, Passage}
-use Rattle.armus_top.specs.Headline.{Answers, Ends, IsCall, reads_input}
+use Rattle.armus_top.specs.Headline.{Answers, Ends, IsCall}
 use Rattle.armus_top.specs.calls.Inputs.{FitsLimit}
 use Rattle.program_io.specs.Programs.{IsPlanOf}
 use Rattle.armus_top.specs.Runs.{IsLiveRunOf, IsRunOf}
@@ -26,7 +26,7 @@ use Rattle.armus_top.specs.inside.Reading.{EndsUnread, IsReadFor}
 use Rattle.program_io.specs.calls.ExitNumbers.{number_of_status}
 use Rattle.program_io.specs.calls.Writing.{Finished}
 use Rattle.armus_top.specs.inside.Writing.{Answered, LeavesOutput}
-use Rattle.armus_top.proofs.Answering.{ends_by_answer, ends_unread}
+use Rattle.armus_top.proofs.Answering.{ends_unread}
 use Rattle.armus_top.proofs.TextEnds.{clock_run_of}
 use Rattle.armus_top.proofs.Ending.{by_finish}
 use Rattle.armus_top.proofs.Meaning.{call_by, form_of}

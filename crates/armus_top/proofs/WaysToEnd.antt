@@ -1,15 +1,12 @@
 -- The ways in which a call may end, whatever its outputs are.
-use Rattle.std.proofs.Common.{◌≡◌, ◌≤◌, ◌+◌, ℕ, Bool, true, false, inl, inr, refl, sym, subst, length, arith}
+use Rattle.std.proofs.Common.{ℕ, Bool, inl, inr, refl, arith}
 use Rattle.std.specs.Prelude.{Option, Some}
-use Rattle.std.specs.Io.KnownBytes.{Keeps}
-use Rattle.armus_base.specs.ReadAll.{ReadFront}
 use Rattle.report.specs.Refusals.{refusal_text}
 use Rattle.report.specs.declared.refusal.Refusal.TheVariants.{Length}
 use Rattle.program_io.specs.Texts.{Text}
-use Rattle.program_io.specs.Passages.{EndsWith, GaveTooMuch, IsSound, Passage, ReadNoMore, no_memory, read_fault, whole, write_fault}
+use Rattle.program_io.specs.Passages.{EndsWith, GaveTooMuch, IsSound, Passage, ReadNoMore, no_memory, read_fault}
 use Rattle.program_io.proofs.EndsFinished.{ends_finished}
 use Rattle.armus_top.specs.inside.Reading.{EndsUnread, memory_wanting, source_failed, too_long}
-use Rattle.program_io.specs.calls.Writing.{Finished}
 use Rattle.armus_top.specs.inside.Writing.{LeavesOutput, nothing, part, wrote}
 
 -- one of some of the outputs was to be written

@@ -1,6 +1,6 @@
 -- Whole outputs: a text has a plan or is refused, and statuses that tell.
 use Rattle.std.proofs.Common.{ℕ, ◌≡◌, ◌⊎◌, length, inl, inr, refl, true, false}
-use Rattle.std.specs.Prelude.{◌↔◌, Result, Ok, Err}
+use Rattle.std.specs.Prelude.{◌↔◌}
 use Rattle.std.proofs.lemmas.Bool.{cases_Bool}
 use Rattle.armus_base.specs.declared.ending.Final.{Final}
 use Rattle.armus_base.specs.Deadlocks.{IsDeadBy, IsDeadIn}
@@ -9,19 +9,12 @@ use Rattle.armus_base.specs.Plans.{Plan}
 use Rattle.armus_base.specs.States.{State}
 use Rattle.armus_base.proofs.Tasks.{all_or_one}
 use Rattle.command_line.specs.declared.command.Command.{Command}
-use Rattle.pl_plan.specs.declared.fault.CheckFault.{CheckFault}
-use Rattle.pl_plan.specs.Unfolding.{plan_of}
-use Rattle.pl_syntax.specs.Grammar.{IsText}
-use Rattle.pl_syntax.specs.declared.tree.Program.{Program}
-use Rattle.pl_syntax.proofs.Whole.{one_of_both}
 use Rattle.report.specs.declared.refusal.Refusal.{Refusal}
-use Rattle.report.specs.declared.refusal.Refusal.TheVariants.{Syntax, Check as Checked}
 use Rattle.report.specs.Reports.{IsCycleText}
 use Rattle.program_io.specs.Texts.{Text}
 use Rattle.armus_top.specs.Avoids.{TellsRefused, ended_refused}
 use Rattle.armus_top.specs.Commands.{IsRefusedInput}
 use Rattle.armus_top.specs.Headline.{Answers}
-use Rattle.program_io.specs.Programs.{IsFaultOf, IsPlanOf}
 use Rattle.armus_top.specs.DeadStatus.{TellsDead}
 
 -- a whole output of the command for the input

@@ -1,9 +1,9 @@
 -- The numbers of activities, clocks and finishes are rows, one activity's behind those of the activities before it; so each has one name.
-use Rattle.std.proofs.Common.{◌≡◌, ℕ, zero, suc, ◌+◌, ◌-◌, ◌<◌, ◌≤◌, Ok, List, [], ◌∷◌, ◌++◌, length, arith, sym, ◌∙◌, ap, subst, refl, inl, inr}
+use Rattle.std.proofs.Common.{◌≡◌, ℕ, zero, suc, ◌+◌, ◌-◌, ◌<◌, ◌≤◌, Ok, [], ◌∷◌, length, arith, sym, ◌∙◌, ap, subst, refl, inl, inr}
 use Rattle.std.specs.Prelude.{slice_index_or}
-use Rattle.std.proofs.lemmas.Bool.{cases_eq, cases_lt}
+use Rattle.std.proofs.lemmas.Bool.{cases_lt}
 use Rattle.clock_syntax.specs.Trees.{ClockTree}
-use Rattle.clock_semantics.specs.Unfolding.{ClockStart, ClockUnfolding, activities, clock_opening, clock_unfolded, with_known}
+use Rattle.clock_semantics.specs.Unfolding.{ClockUnfolding, activities, clock_opening, clock_unfolded}
 use Rattle.clock_semantics.proofs.MoveCodes.{moves_at}
 use Rattle.clock_laws.specs.TextMachine.{Activity, Made}
 use Rattle.clock_laws.specs.calls.TextNumbers.{EachMadeIsNamed, EachNumberIsNamed, MadeHaveOneName}

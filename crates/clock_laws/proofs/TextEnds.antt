@@ -21,7 +21,7 @@ use Rattle.clock_semantics.specs.calls.ProgramPoints.{ProgramPoint}
 use Rattle.clock_laws.specs.calls.TextLaws.{NoRunFails, TextEndsAreThoseOfTasks, TextRunsAreDirect}
 use Rattle.clock_laws.specs.TextLaws.{WaitsAtOne, end_as}
 use Rattle.clock_laws.specs.TextMachine as text
-use Rattle.clock_laws.specs.TextMachine.{Acting, Activity, Continuation, IsAtRest, IsTextEnd, IsTextRun, Made, TextState, TextStep, advance_on, clock_here, closes, departs, does_next, fails, goes, goes_to, is_empty, is_there, leaves, or_fails, over, reads, remembering, signals, stand_at, stand_of, stand_on, stand_with, text_step, then_clocks, turns, waits}
+use Rattle.clock_laws.specs.TextMachine.{Acting, Activity, Continuation, IsAtRest, IsTextEnd, Made, TextState, TextStep, advance_on, closes, departs, does_next, fails, goes, goes_to, is_empty, is_there, or_fails, over, reads, remembering, signals, stand_at, stand_of, stand_on, stand_with, text_step, then_clocks, waits}
 use Rattle.clock_laws.specs.TextNumbers.{IsActivityIn, made_in, number_in}
 use Rattle.clock_laws.proofs.Corresponding.{Corresponds, Fits, IsClock, IsFinish, Knows, Stands, closes_so, leaves_so, reads_so, registered, turns_so}
 use Rattle.clock_laws.proofs.MadeKinds.{begun_there, opened_there}

@@ -1,11 +1,11 @@
 -- The numbers of the activities, clocks and finishes that an unfolding makes are rows, one activity's behind those of the activities before it.
-use Rattle.std.proofs.Common.{◌≡◌, ℕ, zero, suc, ◌+◌, ◌-◌, ◌<◌, ◌≤◌, Ok, List, [], ◌∷◌, ◌++◌, length, arith, sym, ◌∙◌, ap, subst, refl, inl, inr}
-use Rattle.std.proofs.lemmas.Bool.{cases_eq, cases_lt}
+use Rattle.std.proofs.Common.{◌≡◌, ℕ, zero, suc, ◌+◌, ◌-◌, ◌<◌, ◌≤◌, List, [], ◌++◌, length, arith, sym, ◌∙◌, ap, subst, refl, inl, inr}
+use Rattle.std.proofs.lemmas.Bool.{cases_eq}
 use Rattle.std.proofs.lemmas.Option.{slice_get_within}
 use Rattle.armus_base.proofs.Lists.{past_end}
 use Rattle.clock_syntax.specs.Trees.{ClockTree}
 use Rattle.clock_semantics.specs.Moves.{Move, made_by, started_by}
-use Rattle.clock_semantics.specs.Unfolding.{ClockStart, ClockUnfolding, activities, clock_opening, clock_unfolded, with_known}
+use Rattle.clock_semantics.specs.Unfolding.{ClockStart, ClockUnfolding, activities, clock_opening, with_known}
 use Rattle.clock_semantics.proofs.MoveCodes.{moves_at}
 use Rattle.clock_semantics.specs.calls.ClockUnfolds.{UnfoldsFrom, no_more, one_more}
 use Rattle.clock_semantics.specs.calls.ProgramPoints.{first_point}

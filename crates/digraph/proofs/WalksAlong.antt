@@ -1,5 +1,5 @@
 -- A walk to a cycle by one relation is one by another, where each of its steps is.
-use Rattle.std.proofs.Common.{◌≡◌, ℕ, zero, suc, ◌+◌, ◌-◌, ◌<◌, List, ◌++◌, length, arith, sym, ap, subst, get_or, length-append}
+use Rattle.std.proofs.Common.{◌≡◌, ℕ, zero, suc, ◌+◌, ◌-◌, ◌<◌, List, ◌++◌, length, arith, sym, subst, get_or, length-append}
 use Rattle.armus_base.specs.Relations.{IsWalkCycle}
 
 module _ {X : Type 0} (R Q : X → X → Type 0) (Good : X → Type 0) (on : (a b : X) → Good a → R a b → Q a b × Good b) (start : X) (good_start : Good start)

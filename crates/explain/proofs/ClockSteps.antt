@@ -1,5 +1,5 @@
 -- A clock text has one output with the steps of its run, and the output fixes its status.
-use Rattle.std.proofs.Common.{◌≡◌, ◌∙◌, ◌++◌, ℕ, List, Option, ap, inl, inr, refl, subst, sym, true}
+use Rattle.std.proofs.Common.{◌≡◌, ◌∙◌, ◌++◌, ℕ, List, ap, inl, inr, refl, subst, sym, true}
 use Rattle.std.specs.Prelude.{Ok, if◌then◌else◌}
 use Rattle.armus_base.specs.Runs.{IsMaximal, places}
 use Rattle.armus_base.specs.States.{Step}

@@ -1,5 +1,5 @@
 -- Each text has an output with the steps of its run.
-use Rattle.std.proofs.Common.{◌++◌, ℕ, Bool, true, false, Option, inl, refl}
+use Rattle.std.proofs.Common.{◌++◌, ℕ, Bool, true, false, inl, refl}
 use Rattle.std.specs.Prelude.{if◌then◌else◌}
 use Rattle.armus_base.specs.Plans.{Plan}
 use Rattle.explain_steps.proofs.SerialExists.{serial_run_exists}

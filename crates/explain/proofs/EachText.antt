@@ -1,5 +1,5 @@
 -- Each text has an output.
-use Rattle.std.proofs.Common.{◌≡◌, ◌⊎◌, ℕ, Option, inl, inr, refl}
+use Rattle.std.proofs.Common.{◌≡◌, ◌⊎◌, ℕ, inl, inr, refl}
 use Rattle.std.specs.Prelude.{if◌then◌else◌}
 use Rattle.armus_base.specs.Plans.{Plan}
 use Rattle.armus_base.proofs.MaximalExists.{maximal_exists}

@@ -1,5 +1,5 @@
 -- The end of a run that avoids deadlock is explained.
-use Rattle.std.proofs.Common.{◌≡◌, ℕ, Option}
+use Rattle.std.proofs.Common.{◌≡◌, ℕ, subst}
 use Rattle.std.specs.Prelude.{Ok, if◌then◌else◌}
 use Rattle.armus_base.specs.Plans.{Plan}
 use Rattle.explain_facts.specs.declared.account.Account.{Account}
@@ -16,6 +16,13 @@ use Rattle.program_io.specs.Texts.{Text}
 use Rattle.explain.specs.Avoided.{IsAvoidedOf}
 use Rattle.explain.specs.Requests.{Form}
 use Rattle.explain.specs.Shortened.{displayed}
+
+-- a run with refusals for the same text and program is one of them
+pub refusals_same : (form : Form) (a b : Text) (p q : Program) (plan : Plan) (r : AvoidedRun) → a ≡ b → p ≡ q → IsRunWithRefusals form.file a p plan r
+    → IsRunWithRefusals form.file b q plan r
+refusals_same form a b p q plan r same_text same_program run =
+    subst (λ (x : Text). IsRunWithRefusals form.file x q plan r) same_text
+        (subst (λ (x : Program). IsRunWithRefusals form.file a x plan r) same_program run)
 
 pub end_avoided : (form : Form) (text : Text) (p : Program) (plan : Plan) (r : AvoidedRun) (run : IsRunWithRefusals form.file text p plan r) → IsText text p
     → plan_of p ≡ Ok plan → (account : Account) (x : AvoidedExplanation) (status : ℕ) (lines : Text) → IsAccountOf text r.world.plan (places_of r.world) account

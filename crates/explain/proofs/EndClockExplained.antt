@@ -1,5 +1,5 @@
 -- The end of a run of a clock text is explained, with its steps or without.
-use Rattle.std.proofs.Common.{◌≡◌, ◌∙◌, ◌++◌, ℕ, Bool, Option, subst, sym}
+use Rattle.std.proofs.Common.{◌≡◌, ◌∙◌, ◌++◌, ℕ, Bool, subst, sym}
 use Rattle.std.specs.Prelude.{Ok, if◌then◌else◌}
 use mathlib.Core.Path.{fun_ext}
 use Rattle.armus_base.specs.Plans.{Plan}

@@ -1,5 +1,5 @@
 -- The end of a run is explained, with its steps or without.
-use Rattle.std.proofs.Common.{◌≡◌, ◌++◌, ℕ, Bool, List, Option, ap, subst, sym}
+use Rattle.std.proofs.Common.{◌≡◌, ◌++◌, ℕ, Bool, List, ap, subst, sym}
 use Rattle.std.specs.Prelude.{Ok, if◌then◌else◌}
 use mathlib.Core.Path.{fun_ext}
 use Rattle.armus_base.specs.Plans.{Plan}
@@ -37,6 +37,11 @@ serial_world plan w steps plan_is whole there = record {
 -- so does a run that was made step by step
 abbrev pub stepped_world : (text : Text) (p : Program) (plan : Plan) (s : SteppedRun) → IsSteppedRun text p plan s → IsEndWorld plan s.world
 stepped_world text p plan s run = serial_world plan s.world run.steps run.plan_is run.whole run.there
+
+-- a run that was made step by step for the same text and program is one of them
+pub stepped_same : (a b : Text) (p q : Program) (plan : Plan) (s : SteppedRun) → a ≡ b → p ≡ q → IsSteppedRun a p plan s → IsSteppedRun b q plan s
+stepped_same a b p q plan s same_text same_program run =
+    subst (λ (x : Text). IsSteppedRun x q plan s) same_text (subst (λ (x : Program). IsSteppedRun a x plan s) same_program run)
 
 module _ (form : Form) (text : Text) (p : Program) (plan : Plan) (reads : IsText text p) (unfolds : plan_of p ≡ Ok plan) where
   plan_is : IsPlanOf text plan

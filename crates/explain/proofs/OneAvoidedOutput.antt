@@ -1,5 +1,5 @@
 -- A text has one output with the explanation of its run that avoids deadlock, with one status; and it has one.
-use Rattle.std.proofs.Common.{◌≡◌, ℕ, List, Option, inl, refl, subst}
+use Rattle.std.proofs.Common.{◌≡◌, ℕ, List, inl, refl, subst}
 use Rattle.std.specs.Prelude.{if◌then◌else◌}
 use Rattle.armus_base.specs.Plans.{Plan}
 use Rattle.armus_base.specs.Serial.{IsSerialAvoidedEnd}

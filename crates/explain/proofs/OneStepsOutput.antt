@@ -1,5 +1,5 @@
 -- A text has one output with the steps of its run, with one status.
-use Rattle.std.proofs.Common.{◌≡◌, ◌∙◌, ◌++◌, ℕ, Bool, true, false, List, Option, ap, subst, sym}
+use Rattle.std.proofs.Common.{◌≡◌, ◌∙◌, ◌++◌, ℕ, Bool, true, false, List, ap, subst, sym}
 use Rattle.armus_base.specs.Plans.{Plan}
 use Rattle.armus_base.specs.Runs.{IsMaximal}
 use Rattle.armus_base.specs.States.{Step}

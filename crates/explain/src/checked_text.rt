@@ -2,7 +2,6 @@
 ghost use Rattle.std.specs.Prelude.{◌≡◌, IfOk};
 ghost use Rattle.armus_base.specs.Finals.{final_of};
 ghost use Rattle.pl_core.specs.calls.Worlds.{places_of, state_of};
-ghost use Rattle.pl_plan.specs.Forks.{fork_statements};
 ghost use Rattle.explain_deadlock.specs.RunEnds.{IsAccountOf};
 ghost use Rattle.world_runs.specs.calls.EndWorlds.{IsEndWorld};
 ghost use Rattle.program_io.specs.calls.ExitNumbers.{number_of_status};
@@ -10,7 +9,7 @@ ghost use Rattle.explain.specs.Avoided.{IsAvoidedOf};
 ghost use Rattle.explain.specs.Explained.{IsExplanationOf, IsToldAt};
 ghost use Rattle.explain.specs.Stepped.{AreStepsOf};
 ghost use Rattle.explain.specs.calls.Requested.{form_with};
-ghost use Rattle.explain.specs.inside.Checked.{IsCheckedText};
+ghost use Rattle.explain.specs.inside.Checked.{AreFactsOf, IsCheckedText};
 ghost use Rattle.explain.specs.inside.Ending.{IsPlAnswerTo};
 
 use crate::answer::{Answer, PlWanted, with_steps};
@@ -19,7 +18,7 @@ use crate::shortened::{AVOIDED_HEADS, HEADS, displayed};
 use armus_base::{Final, NoMemory};
 use explain_avoid::{avoid_through, avoided_explanation_of};
 use explain_deadlock::{Explanation, explanation_of};
-use explain_facts::{Account, account_of};
+use explain_facts::{Account, TextFacts, account_of};
 use explain_steps::step_through;
 use pl_core::World;
 use pl_plan::Unfolded;
@@ -45,25 +44,31 @@ pub(crate) struct CheckedText<'t> {
 }
 
 impl<'t> CheckedText<'t> {
-    // The statements that fork its tasks.
-    fn forks(&self, alloc: Global) -> Result<Vec<Option<u32>>, NoMemory>
+    // What is known of its text.
+    fn facts(&self, alloc: Global) -> Result<TextFacts<'t>, NoMemory>
         requires known { IsCheckedText self.now }
-        ensures forks { IfOk result (λ forks. forks.items ≡ fork_statements self.now.program.now) }
+        ensures facts { IfOk result (AreFactsOf self.now) }
     {
         let forks = Vec::from_slice(alloc, self.unfolded.forks.as_slice())?;
-        Ok(forks)
+        let plan = &self.unfolded.plan;
+        let facts = TextFacts::new(alloc, self.places, self.program, forks, plan)?;
+        Ok(facts)
     }
 
     // Its account in this world of its plan, whose state has this value.
-    fn account(&self, alloc: Global, world: &World<'_>, end: &Final) -> Result<Account, NoMemory>
+    fn account(
+        &self,
+        facts: TextFacts<'_>,
+        world: &World<'_>,
+        end: &Final,
+    ) -> Result<Account, NoMemory>
         requires known { IsCheckedText self.now }
+        requires facts { AreFactsOf self.now facts }
         requires plan { world.now.plan ≡ self.now.unfolded.plan }
         requires end { end.now ≡ final_of self.now.unfolded.plan (state_of world.now) }
         ensures account { IfOk result (IsAccountOf self.now.places.now world.now.plan (places_of world.now)) }
     {
-        let forks = self.forks(alloc)?;
-        let ends = end.ends.as_slice();
-        let account = account_of(alloc, self.places, self.program, forks, world, ends)?;
+        let account = account_of(facts, world, end.ends.as_slice())?;
         Ok(account)
     }
 
@@ -71,15 +76,17 @@ impl<'t> CheckedText<'t> {
     fn standing(
         &self,
         alloc: Global,
+        facts: TextFacts<'_>,
         world: &World<'_>,
         end: &Final,
     ) -> Result<Explanation, NoMemory>
         requires known { IsCheckedText self.now }
+        requires facts { AreFactsOf self.now facts }
         requires ended { IsEndWorld self.now.unfolded.plan world.now }
         requires end { end.now ≡ final_of self.now.unfolded.plan (state_of world.now) }
         ensures { IfOk result (λ e. IsToldAt (form_with self.now.file self.now.extent) self.now.places.now world.now.plan (places_of world.now) e.lines e.has_waiting) }
     {
-        let account = self.account(alloc, world, end)?;
+        let account = self.account(facts, world, end)?;
         let explanation = explanation_of(alloc, self.places, self.file, &account, world, end)?;
         Ok(Explanation {
             lines: displayed(alloc, HEADS, self.extent, explanation.lines)?,
@@ -93,7 +100,8 @@ impl<'t> CheckedText<'t> {
         ensures explains { IfOk result (λ a. IsExplanationOf (form_with self.now.file self.now.extent) self.now.places.now (number_of_status a.status) a.lines) }
     {
         let ended = run_to_world(alloc, &self.unfolded.plan)?;
-        let explanation = self.standing(alloc, &ended.world, &ended.end)?;
+        let facts = self.facts(alloc)?;
+        let explanation = self.standing(alloc, facts, &ended.world, &ended.end)?;
         Ok(Answer {
             lines: explanation.lines,
             status: status_of(explanation.has_waiting),
@@ -105,10 +113,9 @@ impl<'t> CheckedText<'t> {
         requires known { IsCheckedText self.now }
         ensures steps { IfOk result (λ a. AreStepsOf (form_with self.now.file self.now.extent) self.now.places.now (number_of_status a.status) a.lines) }
     {
-        let forks = self.forks(alloc)?;
-        let plan = &self.unfolded.plan;
-        let ran = step_through(alloc, self.places, self.program, forks, plan)?;
-        let explanation = self.standing(alloc, &ran.world, &ran.end)?;
+        let facts = self.facts(alloc)?;
+        let ran = step_through(alloc, &facts, &self.unfolded.plan)?;
+        let explanation = self.standing(alloc, facts, &ran.world, &ran.end)?;
         let answer = with_steps(ran.lines, &explanation.lines, explanation.has_waiting)?;
         Ok(answer)
     }
@@ -118,10 +125,9 @@ impl<'t> CheckedText<'t> {
         requires known { IsCheckedText self.now }
         ensures avoided { IfOk result (λ a. IsAvoidedOf (form_with self.now.file self.now.extent) self.now.places.now (number_of_status a.status) a.lines) }
     {
-        let forks = self.forks(alloc)?;
-        let plan = &self.unfolded.plan;
-        let ran = avoid_through(alloc, self.places, self.file, self.program, forks, plan)?;
-        let account = self.account(alloc, &ran.world, &ran.end)?;
+        let facts = self.facts(alloc)?;
+        let ran = avoid_through(alloc, &facts, self.file, &self.unfolded.plan)?;
+        let account = self.account(facts, &ran.world, &ran.end)?;
         let explanation = avoided_explanation_of(alloc, self.places, self.file, &account, &ran)?;
         let lines = displayed(alloc, AVOIDED_HEADS, self.extent, explanation.lines)?;
         Ok(Answer {

@@ -3,10 +3,7 @@ ghost use Rattle.std.specs.Prelude.{◌≡◌, ◌+◌, ◌<◌, ◌^◌, ℕ, I
 ghost use Rattle.avoider.specs.calls.Decisions.{IsBeforeStep};
 ghost use Rattle.pl_core.specs.calls.Stands.{IsAtAwaitOf, IsEnabled};
 ghost use Rattle.pl_core.specs.calls.Worlds.{WorldValue};
-ghost use Rattle.pl_plan.specs.Forks.{fork_statements};
 ghost use Rattle.pl_plan.specs.Unfolding.{plan_of};
-ghost use Rattle.pl_syntax.specs.Grammar.{IsText};
-ghost use Rattle.pl_syntax.specs.Tree.{count};
 ghost use Rattle.run_queue.specs.calls.RunQueues.{HasTurnLeft, IsRunQueue};
 ghost use Rattle.run_queue.specs.calls.StepKinds.{HasMoved};
 ghost use Rattle.explain_facts.specs.calls.Known.{AreKnownFacts, kept_layout};
@@ -21,9 +18,7 @@ use armus_base::{Event, Final, List, NoMemory, Plan, TaskId};
 use avoider::{Decision, Judge, Judging};
 use explain_facts::TextFacts;
 use pl_core::{Stand, World};
-use pl_syntax::Program;
 use run_queue::{RunQueue, step_kind};
-use source_map::TextPlaces;
 use std::alloc::Global;
 use world_runs::next_turn;
 
@@ -50,10 +45,10 @@ pub(crate) struct Avoiding<'p> {
 impl<'p> Avoiding<'p> {
     // Decides on the await of this event at which a task stands.
     fn decide(&mut self, text: &KnownText<'_>, t: TaskId, event: Event) -> Result<(), NoMemory>
-        requires known { AreKnownFacts text.now.facts }
+        requires known { AreKnownFacts text.now.facts.now }
         requires before { IsBeforeStep self.old.world t.0 }
         requires at { IsAtAwaitOf self.old.world t.0 event }
-        ensures decided { OnOk result (HasDecided (option_copied text.now.file) (kept_layout text.now.facts) text.now.facts.program.now self.old self.new t.0 event) }
+        ensures decided { OnOk result (HasDecided (option_copied text.now.file) (kept_layout text.now.facts.now) text.now.facts.now.program.now self.old self.new t.0 event) }
         ensures nobody { OnOk result (NobodyDeadIn self.new.world) }
     {
         let _ = self.world.stand(t);
@@ -71,7 +66,7 @@ impl<'p> Avoiding<'p> {
                     cycle.tasks.as_slice(),
                 )?;
                 put_freed(
-                    &text.facts,
+                    text.facts,
                     &mut self.refusals,
                     &self.world,
                     &pending.phases,
@@ -83,12 +78,12 @@ impl<'p> Avoiding<'p> {
 
     // Makes the next step of a task that may go on: at an await a decision, of whose refusal it keeps the paragraph, and else that of its code.
     fn go_on(&mut self, text: &KnownText<'_>, t: TaskId) -> Result<(), NoMemory>
-        requires known { AreKnownFacts text.now.facts }
+        requires known { AreKnownFacts text.now.facts.now }
         requires task { t.0 < length self.old.world.plan.parents }
         requires enabled { IsEnabled self.old.world t.0 }
         requires nobody { NobodyDeadIn self.old.world }
         ensures left { OnOk result (LeavesLess NobodyDeadIn self.old.world self.new.world true) }
-        ensures goes { OnOk result (RoundsGoTo (option_copied text.now.file) (kept_layout text.now.facts) text.now.facts.program.now t.0 self.old self.new true) }
+        ensures goes { OnOk result (RoundsGoTo (option_copied text.now.file) (kept_layout text.now.facts.now) text.now.facts.now.program.now t.0 self.old self.new true) }
         ensures moved { OnOk result (HasMoved self.old.world self.new.world t.0) }
     {
         match self.world.stand(t) {
@@ -110,11 +105,11 @@ impl<'p> Avoiding<'p> {
         text: &KnownText<'_>,
         t: TaskId,
     ) -> Result<bool, NoMemory>
-        requires known { AreKnownFacts text.now.facts }
+        requires known { AreKnownFacts text.now.facts.now }
         requires task { t.0 < length self.old.world.plan.parents }
         requires nobody { NobodyDeadIn self.old.world }
         ensures left { IfOk result (LeavesLess NobodyDeadIn self.old.world self.new.world) }
-        ensures goes { IfOk result (RoundsGoTo (option_copied text.now.file) (kept_layout text.now.facts) text.now.facts.program.now t.0 self.old self.new) }
+        ensures goes { IfOk result (RoundsGoTo (option_copied text.now.file) (kept_layout text.now.facts.now) text.now.facts.now.program.now t.0 self.old self.new) }
         ensures ended { OnOk result (IsEnabled self.new.world t.0 → ⊥) }
         ensures queue { OnOk result ((first : WorldValue) → HasTurnLeft queue.old t.0 → IsRunQueue first self.old.world queue.old → IsRunQueue first self.new.world queue.new) }
     {
@@ -130,11 +125,11 @@ impl<'p> Avoiding<'p> {
 
     // One turn of each task that has one, in order of number; answers whether a step was made.
     fn turns(&mut self, queue: &mut RunQueue, text: &KnownText<'_>) -> Result<bool, NoMemory>
-        requires known { AreKnownFacts text.now.facts }
+        requires known { AreKnownFacts text.now.facts.now }
         requires nobody { NobodyDeadIn self.old.world }
         requires queue { IsRunQueue self.old.world self.old.world queue.old }
         ensures left { IfOk result (LeavesLess NobodyDeadIn self.old.world self.new.world) }
-        ensures round { IfOk result (RoundTo (option_copied text.now.file) (kept_layout text.now.facts) text.now.facts.program.now (length self.old.world.plan.parents) self.old self.new) }
+        ensures round { IfOk result (RoundTo (option_copied text.now.file) (kept_layout text.now.facts.now) text.now.facts.now.program.now (length self.old.world.plan.parents) self.old self.new) }
         ensures quiet { IfOk result (λ moved. moved ≡ false → (t : ℕ) → t < length self.old.world.plan.parents → IsEnabled self.new.world t → ⊥) }
         ensures queue { OnOk result (IsRunQueue self.old.world self.new.world queue.new) }
     {
@@ -152,11 +147,11 @@ impl<'p> Avoiding<'p> {
 
     // One turn of each task that is forked now; answers whether a step was made.
     fn round(&mut self, queue: &mut RunQueue, text: &KnownText<'_>) -> Result<bool, NoMemory>
-        requires known { AreKnownFacts text.now.facts }
+        requires known { AreKnownFacts text.now.facts.now }
         requires nobody { NobodyDeadIn self.old.world }
         requires queue { IsRunQueue self.old.world self.old.world queue.old }
         ensures left { IfOk result (LeavesLess NobodyDeadIn self.old.world self.new.world) }
-        ensures round { IfOk result (RoundTo (option_copied text.now.file) (kept_layout text.now.facts) text.now.facts.program.now (length self.old.world.plan.parents) self.old self.new) }
+        ensures round { IfOk result (RoundTo (option_copied text.now.file) (kept_layout text.now.facts.now) text.now.facts.now.program.now (length self.old.world.plan.parents) self.old self.new) }
         ensures quiet { IfOk result (λ moved. moved ≡ false → (t : ℕ) → t < length self.old.world.plan.parents → IsEnabled self.new.world t → ⊥) }
         ensures queue { OnOk result (IsRunQueue self.new.world self.new.world queue.new) }
     {
@@ -172,8 +167,8 @@ fn avoided_to_end<'p>(
     text: &KnownText<'_>,
     plan: &'p Plan,
 ) -> Result<Avoiding<'p>, NoMemory>
-    requires known { AreKnownFacts text.now.facts }
-    ensures ended { IfOk result (HasEndedSo (option_copied text.now.file) (kept_layout text.now.facts) text.now.facts.program.now plan.now) }
+    requires known { AreKnownFacts text.now.facts.now }
+    ensures ended { IfOk result (HasEndedSo (option_copied text.now.file) (kept_layout text.now.facts.now) text.now.facts.now.program.now plan.now) }
     ensures quiet { IfOk result (λ run. (t : ℕ) → t < length run.world.plan.parents → IsEnabled run.world t → ⊥) }
 {
     let world = World::start(alloc, plan)?;
@@ -187,25 +182,20 @@ fn avoided_to_end<'p>(
     Ok(run)
 }
 
-/// Makes the serial avoided run of the plan of the text of this program, which comes from a file with this name, or from none: in rounds each task that was
-/// forked before acts, in order of number, until it is done, waits, or is refused. `places` are those of the text, and `forks` the statements that fork its
-/// tasks, as `unfold` of pl_plan answers them. The only error is want of memory. For each await that is decided it takes the time of `avoid_step` and of a
-/// look at each phaser, and for each refusal a look at each task, and time that is linear in the text times the tasks of the deadlock.
+/// Makes the serial avoided run of the plan of the program of the text of which this is known, which comes from a file with this name, or from none: in rounds
+/// each task that was forked before acts, in order of number, until it is done, waits, or is refused. The only error is want of memory. For each await that is
+/// decided it takes the time of `avoid_step` and of a look at each phaser, and for each refusal a look at each task, and time that is linear in the text times
+/// the tasks of the deadlock.
 pub fn avoid_through<'p>(
     alloc: Global,
-    places: &TextPlaces<'_>,
+    facts: &TextFacts<'_>,
     file: Option<&[u8]>,
-    program: &Program,
-    forks: Vec<Option<u32>>,
     plan: &'p Plan,
 ) -> Result<AvoidedRun<'p>, NoMemory>
-    requires few { count program.now.body + 1 < 2 ^ 32 }
-    requires reads { IsText places.now program.now }
-    requires forks { forks.items ≡ fork_statements program.now }
-    requires unfolds { plan_of program.now ≡ Ok plan.now }
-    ensures run { IfOk result (IsRunWithRefusals (option_copied file.entry) places.now program.now plan.now) }
+    requires known { AreKnownFacts facts.now }
+    requires unfolds { plan_of facts.now.program.now ≡ Ok plan.now }
+    ensures run { IfOk result (IsRunWithRefusals (option_copied file.entry) facts.now.places.now facts.now.program.now plan.now) }
 {
-    let facts = TextFacts::new(alloc, places, program, forks, plan)?;
     let text = KnownText { facts, file };
     let Avoiding {
         world,

@@ -496,18 +496,18 @@ pub(crate) fn put_refusal(
     waits: &Pending,
     cycle: &[TaskId],
 ) -> Result<(), NoMemory>
-    requires known { AreKnownFacts text.now.facts }
+    requires known { AreKnownFacts text.now.facts.now }
     requires task { t.0 < length world.now.plan.parents }
     requires tasks { All (λ u. u.0 < length world.now.plan.parents) cycle.now }
     ensures { OnOk result ((ops : ℕ → ℕ) → StandAt world.now ops → out.new.items ≡ out.old.items
-        ++ refusal_by (option_copied text.now.file) (kept_layout text.now.facts) text.now.facts.program.now t.0 waits.now.event waits.now.phase ops cycle.now waits.now.members.items) }
+        ++ refusal_by (option_copied text.now.file) (kept_layout text.now.facts.now) text.now.facts.now.program.now t.0 waits.now.event waits.now.phase ops cycle.now waits.now.members.items) }
 {
     let i = world.op(t);
-    put_refused(&text.facts, text.file, out, t, waits, i)?;
+    put_refused(text.facts, text.file, out, t, waits, i)?;
     put_words(out, b"\n")?;
-    put_whence(&text.facts, out, t, waits.event.p, i)?;
+    put_whence(text.facts, out, t, waits.event.p, i)?;
     put_words(out, b"\n")?;
-    put_deadlock(&text.facts, out, world, cycle)?;
-    put_left(&text.facts, out, &waits.members)?;
+    put_deadlock(text.facts, out, world, cycle)?;
+    put_left(text.facts, out, &waits.members)?;
     Ok(())
 }

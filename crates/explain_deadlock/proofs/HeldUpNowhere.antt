@@ -3,12 +3,11 @@ use Rattle.std.proofs.Common.{◌≡◌, ◌∙◌, ◌+◌, ◌<◌, ◌≤◌,
 use Rattle.std.specs.Prelude.{nat_lt, not, option_map}
 use Rattle.std.proofs.lemmas.Bool.{cases_eq, cases_lt}
 use Rattle.std.proofs.lemmas.Option.{slice_get_within}
-use Rattle.armus_base.specs.CheckedPlans.{IsCheckedPlan}
 use Rattle.armus_base.specs.declared.event.Event.{Event}
 use Rattle.armus_base.specs.Places.{awaited_at, published_after, state_at}
-use Rattle.armus_base.specs.Plans.{Action, Aim, Blocks, Passes, Plan, action_at, actions, actions_of, code_of}
+use Rattle.armus_base.specs.Plans.{Action, Aim, Blocks, Plan, action_at, actions, actions_of, code_of}
 use Rattle.armus_base.specs.Runs.{places, state_after}
-use Rattle.armus_base.specs.States.{IsReached, State}
+use Rattle.armus_base.specs.States.{State}
 use Rattle.armus_base.proofs.Codes.{passes_next}
 use Rattle.armus_base.proofs.DeadByStatuses.{run_is_of_plan}
 use Rattle.armus_base.proofs.Fixed.{some_before_from}
@@ -20,7 +19,7 @@ use Rattle.pl_core.proofs.OpCounts.{actions_before-suc, await_is_two}
 use Rattle.pl_core.proofs.Standing.{action_of_op}
 use Rattle.pl_syntax.specs.declared.tree.Program.{Program}
 use Rattle.source_map.specs.Origins.{op_origin}
-use Rattle.explain_facts.specs.ImmediateAwaits.{comes_and_awaits, event_of_op, is_immediate, is_late, is_number, is_shared, some_op_awaits, some_task_awaits}
+use Rattle.explain_facts.specs.ImmediateAwaits.{comes_and_awaits, event_at_op, is_late, is_that_number, is_shared, some_op_awaits, some_task_awaits}
 use Rattle.explain_facts.proofs.Awaiting.{at_await}
 use Rattle.explain_deadlock.specs.Laws.{NobodyIsHeldUpThere}
 
@@ -60,14 +59,14 @@ begins_there plan t j i aim blocks at =
 
 -- what a test of all ops does not pass, one of them does not
 not_one : (test : Option Event → Bool) (p : Program) (plan : Plan) (n t i : ℕ) → t < length plan.parents → i < length (code_of plan t) → op_origin p t i ≡ Some n →
-    some_task_awaits test p plan n ≡ false → test (event_of_op plan t i) ≡ false
-not_one test p plan n t i below inside from none = go (test (event_of_op plan t i)) refl
+    some_task_awaits test p plan n ≡ false → test (event_at_op plan t i) ≡ false
+not_one test p plan n t i below inside from none = go (test (event_at_op plan t i)) refl
   where
-    go : (b : Bool) → test (event_of_op plan t i) ≡ b → b ≡ false
+    go : (b : Bool) → test (event_at_op plan t i) ≡ b → b ≡ false
     go false is = refl
     go true is =
-        let comes : is_number n (op_origin p t i) ≡ true = ap (is_number n) from ∙ eq-eqb n n refl in
-        let here : comes_and_awaits test p plan n t i ≡ true = ap (λ b. b && test (event_of_op plan t i)) comes ∙ is in
+        let comes : is_that_number n (op_origin p t i) ≡ true = ap (is_that_number n) from ∙ eq-eqb n n refl in
+        let here : comes_and_awaits test p plan n t i ≡ true = ap (λ b. b && test (event_at_op plan t i)) comes ∙ is in
         let own : some_op_awaits test p plan n t (length (code_of plan t)) ≡ true =
         some_before_from (comes_and_awaits test p plan n t) (length (code_of plan t)) i inside here in
         let all : some_task_awaits test p plan n ≡ true =
@@ -96,7 +95,7 @@ nobody_is_held_up_there p plan steps n t i e checked run immediate from at publi
     let (j, done_is, aim, phaser_is, blocks) = published_after_is plan t (places steps t).done e here in
     let (inside, begins) = begins_there plan t j i aim blocks (subst (λ d. IsAtOp (code_of plan t) d i) done_is at) in
     let there : published_after plan t (suc j) ≡ Some e = subst (λ d. published_after plan t d ≡ Some e) done_is here in
-    let event : event_of_op plan t i ≡ Some e = ap (awaited_at plan t) begins ∙ there in
+    let event : event_at_op plan t i ≡ Some e = ap (awaited_at plan t) begins ∙ there in
     let none : some_task_awaits is_late p plan n ≡ false = not_right (some_task_awaits (is_shared plan) p plan n) (some_task_awaits is_late p plan n) immediate in
     let early : nat_lt 0 e.n ≡ false = ap is_late (sym event) ∙ not_one is_late p plan n t i below inside from none in
     λ u m member. not_late e early m

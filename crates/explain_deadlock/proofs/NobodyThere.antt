@@ -1,11 +1,9 @@
 -- In no state of a run anybody waits at a phaser that no op awaits.
-use Rattle.std.proofs.Common.{◌≡◌, ◌∙◌, ◌<◌, ◌||◌, ◌==◌, ℕ, suc, zero, Bool, true, false, List, [], ◌∷◌, Some, ap, eq-eqb, length, refl, slice_get, subst, sym}
-use Rattle.armus_base.specs.CheckedPlans.{IsCheckedPlan}
-use Rattle.armus_base.specs.calls.FinalLaws.{IsOfPlan}
+use Rattle.std.proofs.Common.{◌≡◌, ◌∙◌, ◌<◌, ◌||◌, ◌==◌, ℕ, suc, zero, Bool, true, false, List, [], ◌∷◌, Some, eq-eqb, length, refl, slice_get, subst, sym}
 use Rattle.armus_base.specs.declared.op.Op.{Op}
 use Rattle.armus_base.specs.declared.op.Op.TheVariants.{Make, Reg, Fork, Adv, Drop, Await}
-use Rattle.armus_base.specs.Places.{some_before, state_at}
-use Rattle.armus_base.specs.Plans.{Action, Aim, Blocks, Plan, action_at, actions, actions_of, code_of}
+use Rattle.armus_base.specs.Places.{state_at}
+use Rattle.armus_base.specs.Plans.{Aim, Blocks, action_at, actions, actions_of, code_of}
 use Rattle.armus_base.specs.Runs.{places, state_after}
 use Rattle.armus_base.specs.States.{State}
 use Rattle.armus_base.proofs.DeadByStatuses.{run_is_of_plan}

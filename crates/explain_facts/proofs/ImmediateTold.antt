@@ -1,5 +1,5 @@
 -- Whether nobody ever has to wait at a statement, by the marks of the whole walk.
-use Rattle.std.proofs.Common.{◌≡◌, ◌∙◌, ◌+◌, ◌++◌, ◌<◌, ◌≤◌, ◌&&◌, ℕ, suc, List, Bool, true, false, Option, Some, None, ap, arith, length, refl, slice_index_or, sym}
+use Rattle.std.proofs.Common.{◌≡◌, ◌∙◌, ◌+◌, ◌++◌, ◌≤◌, ◌&&◌, ℕ, suc, List, Bool, true, false, Option, Some, None, ap, arith, length, refl, slice_index_or, sym}
 use Rattle.std.specs.Prelude.{if◌then◌else◌, not, option_to_list}
 use Rattle.armus_base.specs.declared.event.Event.{Event}
 use Rattle.armus_base.specs.Finals.{given_below}
@@ -7,7 +7,7 @@ use Rattle.armus_base.specs.Plans.{Plan}
 use Rattle.pl_syntax.specs.Tree.{count}
 use Rattle.pl_syntax.specs.declared.tree.Program.{Program}
 use Rattle.explain_facts.specs.Accounts.{Layout, immediate_await, told_await}
-use Rattle.explain_facts.specs.ImmediateAwaits.{is_immediate, is_late, is_shared, some_task_awaits}
+use Rattle.explain_facts.specs.ImmediateAwaits.{is_late, is_shared, some_task_awaits}
 use Rattle.explain_facts.specs.declared.account.ImmediateAwait.{ImmediateAwait}
 use Rattle.explain_facts.specs.declared.immediate.AwaitWalk.{AwaitWalk}
 use Rattle.explain_facts.specs.inside.Noted.{AreMarksAt, HasWalkedTo}

@@ -1,11 +1,10 @@
 -- Which phasers the ops use, found op by op.
 use Rattle.std.proofs.Common.{◌≡◌, ◌∙◌, ◌+◌, ◌<◌, ◌||◌, ℕ, suc, Bool, true, false, List, [], ◌∷◌, ap, arith, length, refl, replicate, slice_index_or, sym}
 use Rattle.std.proofs.lemmas.List.{get_or-replicate, length-replicate}
-use Rattle.std.specs.List.{list_any}
 use Rattle.armus_base.specs.declared.op.Op.{Op}
 use Rattle.armus_base.specs.Places.{some_before}
 use Rattle.armus_base.specs.Plans.{Plan, code_of}
-use Rattle.explain_facts.specs.PhaserUses.{is_on_phaser, is_used_so, some_op, used_by}
+use Rattle.explain_facts.specs.PhaserUses.{is_on_phaser, some_op, used_by}
 use Rattle.explain_facts.specs.calls.Used.{AreUsed}
 use Rattle.explain_facts.specs.declared.uses.PhaserUse.{PhaserUse}
 use Rattle.explain_facts.specs.inside.Marked.{HaveMarks}

@@ -2,14 +2,14 @@
 use mathlib.Core.Path.{fun_ext}
 use Rattle.std.proofs.Common.{◌≡◌, ◌∙◌, ◌+◌, ◌++◌, ◌<◌, ℕ, zero, suc, List, [], ◌∷◌, Option, Some, None, Vec, ap, arith, get_or-set_other, get_or-set_same, inl, inr, length, length-append, refl, replicate, set, slice_index_or, subst, sym}
 use Rattle.std.specs.Global.{Global}
-use Rattle.std.specs.Prelude.{◌==◌, ◌&&◌, false, true, if◌then◌else◌, slice_get}
+use Rattle.std.specs.Prelude.{◌==◌, ◌&&◌, if◌then◌else◌, slice_get}
 use Rattle.std.proofs.lemmas.Bool.{cases_eq, eq-eqb, ne_eqb}
 use Rattle.std.proofs.lemmas.List.{length-replicate, length-set}
 use Rattle.std.proofs.lemmas.Option.{slice_get_within}
 use Rattle.armus_base.specs.States.{Phases, with_phase}
 use Rattle.armus_base.proofs.Lists.{slice_get-set_other, slice_get-set_same, some_at}
 use Rattle.explain_facts.specs.declared.phase_rows.PhaseRows.{PhaseRows}
-use Rattle.explain_facts.specs.inside.PhaseRows.{HasCell, HasCells, KeepsCells, phases_in, phases_of_rows, row_phases}
+use Rattle.explain_facts.specs.inside.PhaseRows.{HaveRowCells, phases_in_rows, phases_of_rows, row_phases}
 
 -- ---- a write
 
@@ -95,10 +95,10 @@ module _ (tasks phasers : ℕ) (p : PhaseRows) (are : AreEmptyRows tasks phasers
   no_phase t q None e = refl
   no_phase t q (Some row) e = ap (λ xs. slice_index_or xs q None) (are.empty t row e) ∙ none_at phasers q
 
-  pub nobody_is_member : phases_in p ≡ (λ _ _. None)
+  pub nobody_is_member : phases_in_rows p ≡ (λ _ _. None)
   nobody_is_member = fun_ext (λ t. fun_ext (λ q. no_phase t q (slice_get p.rows.items t) refl))
 
-  pub cells_are_there : HasCells tasks phasers p
+  pub cells_are_there : HaveRowCells tasks phasers p
   cells_are_there t q below within =
       let (row, is) = some_at p.rows.items t (omega (arith, below, are.one_each)) in
       let long = ap length (are.empty t row is) ∙ length-replicate phasers None in

@@ -167,16 +167,16 @@ pub record AreNextOps (l : Layout) (p : Program) (plan : Plan) (a : ℕ → Plac
 -- ---- awaits at which nobody ever has to wait
 
 -- how far a statement looks back or ahead, if it is an await
-abbrev pub offset_of : Option Coming → Offset
-offset_of (Some (a_plain (await x off))) = off
-offset_of _ = Here
+abbrev pub awaited_offset : Option Coming → Offset
+awaited_offset (Some (a_plain (await x off))) = off
+awaited_offset _ = Here
 
 -- what is told of statement n
 abbrev pub told_await : Layout → Program → ℕ → ImmediateAwait
 told_await l p n = record {
   at = statement_place l n;
   words = words_of (statement_in (written_statements p.body) n);
-  off = offset_of (statement_in (written_statements p.body) n);
+  off = awaited_offset (statement_in (written_statements p.body) n);
 }
 
 -- the same, if nobody ever has to wait there

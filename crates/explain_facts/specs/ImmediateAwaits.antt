@@ -12,8 +12,8 @@ use Rattle.explain_facts.specs.declared.uses.PhaserUse.TheVariants.{Registers}
 -- ---- what an op awaits
 
 -- the event that op i of task t awaits, if it awaits one
-abbrev pub event_of_op : Plan → ℕ → ℕ → Option Event
-event_of_op plan t i = awaited_at plan t (actions_before (code_of plan t) i)
+abbrev pub event_at_op : Plan → ℕ → ℕ → Option Event
+event_at_op plan t i = awaited_at plan t (actions_before (code_of plan t) i)
 
 -- it is an event of a later phase than 0
 abbrev pub is_late : Option Event → Bool
@@ -28,13 +28,13 @@ is_shared plan (Some e) = is_used_so Registers plan e.p.0
 -- ---- statements
 
 -- it is number n
-abbrev pub is_number : ℕ → Option ℕ → Bool
-is_number n None = false
-is_number n (Some m) = m == n
+abbrev pub is_that_number : ℕ → Option ℕ → Bool
+is_that_number n None = false
+is_that_number n (Some m) = m == n
 
 -- op i of task t comes from statement n, and what it awaits passes the test
 abbrev pub comes_and_awaits : (Option Event → Bool) → Program → Plan → ℕ → ℕ → ℕ → Bool
-comes_and_awaits test p plan n t i = is_number n (op_origin p t i) && test (event_of_op plan t i)
+comes_and_awaits test p plan n t i = is_that_number n (op_origin p t i) && test (event_at_op plan t i)
 
 -- one of the first ops of task t, so many, does
 abbrev pub some_op_awaits : (Option Event → Bool) → Program → Plan → ℕ → ℕ → ℕ → Bool

@@ -1,13 +1,10 @@
 // The account of a text whose run has ended.
-ghost use Rattle.std.specs.Prelude.{◌≡◌, ℕ, ◌+◌, ◌<◌, ◌^◌, IfOk, Ok, OnOk, length, map, slice_index_or};
+ghost use Rattle.std.specs.Prelude.{◌≡◌, ℕ, ◌<◌, IfOk, Ok, OnOk, length, map, slice_index_or};
 ghost use Rattle.armus_base.specs.CheckedPlans.{IsCheckedPlan};
 ghost use Rattle.armus_base.specs.Finals.{end_of, list_below};
 ghost use Rattle.armus_base.specs.Runs.{IsReachable};
 ghost use Rattle.pl_core.specs.calls.Worlds.{places_of, state_of};
-ghost use Rattle.pl_plan.specs.Forks.{fork_statements};
 ghost use Rattle.pl_plan.specs.Unfolding.{plan_of};
-ghost use Rattle.pl_syntax.specs.Grammar.{IsText};
-ghost use Rattle.pl_syntax.specs.Tree.{count};
 ghost use Rattle.source_map.specs.Origins.{phaser_origins};
 ghost use Rattle.explain_facts.specs.Accounts.{IsAccount, IsTaskAccount, HasWait, statement_place};
 ghost use Rattle.explain_facts.specs.calls.Known.{AreKnownFacts, kept_layout};
@@ -20,9 +17,7 @@ use crate::nexts::nexts_of;
 use crate::waiting::waiting_of;
 use armus_base::{List, NoMemory, TaskEnd, TaskId};
 use pl_core::World;
-use pl_syntax::Program;
-use source_map::{TextPlace, TextPlaces};
-use std::alloc::Global;
+use source_map::TextPlace;
 
 // Where a task waits that has ended so, if it waits.
 fn wait_of(
@@ -104,8 +99,9 @@ fn phaser_places(facts: &TextFacts<'_>) -> Result<List<TextPlace>, NoMemory>
     Ok(List::from_vec(made))
 }
 
-// The account, by what is known from the text.
-fn account_with(
+/// The account of the text of which this is known, whose tasks have ended so in this world, which is one of the plan of its program. The only error is want of
+/// memory. The time is linear in the visits of the unfolding, and in the tasks.
+pub fn account_of(
     facts: TextFacts<'_>,
     world: &World<'_>,
     ends: &[TaskEnd],
@@ -113,7 +109,7 @@ fn account_with(
     requires known { AreKnownFacts facts }
     requires unfolds { plan_of facts.program.now ≡ Ok world.now.plan }
     requires ends { ends.now ≡ list_below (end_of (state_of world.now)) (length world.now.plan.parents) }
-    ensures { IfOk result (IsAccount facts.entry.places.now facts.entry.program.now world.now.plan (places_of world.now)) }
+    ensures account { IfOk result (IsAccount facts.entry.places.now facts.entry.program.now world.now.plan (places_of world.now)) }
 {
     let tasks = task_accounts(&facts, world, ends)?;
     let phasers = phaser_places(&facts)?;
@@ -124,26 +120,4 @@ fn account_with(
         names: facts.names,
         immediate,
     })
-}
-
-/// The account of the text of this program, whose tasks have ended so in this world, which is one of the program's plan. `places` are those of the text, and
-/// `forks` the statements that fork its tasks, as `unfold` of pl_plan answers them. The only error is want of memory. The time is linear in the text, in the
-/// visits of the unfolding, and in the tasks.
-pub fn account_of(
-    alloc: Global,
-    places: &TextPlaces<'_>,
-    program: &Program,
-    forks: Vec<Option<u32>>,
-    world: &World<'_>,
-    ends: &[TaskEnd],
-) -> Result<Account, NoMemory>
-    requires few { count program.now.body + 1 < 2 ^ 32 }
-    requires reads { IsText places.now program.now }
-    requires forks { forks.items ≡ fork_statements program.now }
-    requires unfolds { plan_of program.now ≡ Ok world.now.plan }
-    requires ends { ends.now ≡ list_below (end_of (state_of world.now)) (length world.now.plan.parents) }
-    ensures account { IfOk result (IsAccount places.now program.now world.now.plan (places_of world.now)) }
-{
-    let facts = TextFacts::new(alloc, places, program, forks, world.plan())?;
-    account_with(facts, world, ends)
 }

@@ -7,7 +7,7 @@ ghost use Rattle.armus_base.specs.declared.event.Event.{Event};
 ghost use Rattle.pl_core.specs.inside.Ops.{action_of, phases_moved};
 ghost use Rattle.pl_syntax.specs.Tree.{count};
 ghost use Rattle.source_map.specs.inside.Tables.{coming_of};
-ghost use Rattle.explain_facts.specs.Accounts.{immediate_await, immediate_awaits, offset_of, told_await};
+ghost use Rattle.explain_facts.specs.Accounts.{immediate_await, immediate_awaits, awaited_offset, told_await};
 ghost use Rattle.explain_facts.specs.ImmediateAwaits.{is_late};
 ghost use Rattle.explain_facts.specs.PhaserUses.{is_used_so};
 ghost use Rattle.explain_facts.specs.calls.Known.{AreKnownFacts, kept_layout};
@@ -15,7 +15,7 @@ ghost use Rattle.explain_facts.specs.calls.Used.{AreUsed};
 ghost use Rattle.explain_facts.specs.declared.uses.PhaserUse.TheVariants.{Registers};
 ghost use Rattle.explain_facts.specs.inside.Marked.{HaveMarks};
 ghost use Rattle.explain_facts.specs.inside.Noted.{HasWalkedTo, awaited_by, is_late_await, is_marked_await, is_marked_event, is_marked_number};
-ghost use Rattle.explain_facts.specs.inside.PhaseRows.{HasRoomFor, KeepsCells, phases_in};
+ghost use Rattle.explain_facts.specs.inside.PhaseRows.{HasRowRoom, KeepsRowCells, phases_in_rows};
 
 use crate::account::ImmediateAwait;
 use crate::facts::TextFacts;
@@ -120,7 +120,7 @@ impl AwaitWalk {
 
     // The await that a task is about to make by this op.
     fn next_await(&self, t: TaskId, op: Op) -> Option<NextAwait>
-        ensures { result ≡ option_map (λ (e : Event). record { p = e.p; is_late = nat_lt 0 e.n }) (awaited_by op (phases_in self.now.phases t.0)) }
+        ensures { result ≡ option_map (λ (e : Event). record { p = e.p; is_late = nat_lt 0 e.n }) (awaited_by op (phases_in_rows self.now.phases t.0)) }
     {
         match op {
             Op::Await { p, off } => match self.phases.get(t, p) {
@@ -155,11 +155,11 @@ impl AwaitWalk {
 
     // Goes on by an op of a task, which comes from this statement.
     fn go_on(&mut self, registered: &[bool], t: TaskId, op: Op, n: Option<u32>)
-        requires room { HasRoomFor self.old.phases t.0 op }
-        ensures cells { KeepsCells self.old.phases self.new.phases }
-        ensures moved { phases_in self.new.phases ≡ phases_moved (phases_in self.old.phases) t.0 (action_of op) }
-        ensures shared { HaveMarks (is_marked_number n (is_marked_event registered.now (awaited_by op (phases_in self.old.phases t.0)))) self.old.shared.items self.new.shared.items }
-        ensures late { HaveMarks (is_marked_number n (is_late (awaited_by op (phases_in self.old.phases t.0)))) self.old.late.items self.new.late.items }
+        requires room { HasRowRoom self.old.phases t.0 op }
+        ensures cells { KeepsRowCells self.old.phases self.new.phases }
+        ensures moved { phases_in_rows self.new.phases ≡ phases_moved (phases_in_rows self.old.phases) t.0 (action_of op) }
+        ensures shared { HaveMarks (is_marked_number n (is_marked_event registered.now (awaited_by op (phases_in_rows self.old.phases t.0)))) self.old.shared.items self.new.shared.items }
+        ensures late { HaveMarks (is_marked_number n (is_late (awaited_by op (phases_in_rows self.old.phases t.0)))) self.old.late.items self.new.late.items }
     {
         let next = self.next_await(t, op);
         self.note(registered, n, next);
@@ -207,8 +207,8 @@ fn walk(facts: &TextFacts<'_>, plan: &Plan) -> Result<AwaitWalk, NoMemory>
 }
 
 // How far a statement looks back or ahead, if it is an await.
-fn offset_of(stmt: Option<&Stmt>) -> Offset
-    ensures { result ≡ offset_of (option_map (λ s. coming_of s.now) stmt.entry) }
+fn awaited_offset(stmt: Option<&Stmt>) -> Offset
+    ensures { result ≡ awaited_offset (option_map (λ s. coming_of s.now) stmt.entry) }
 {
     match stmt {
         Some(Stmt::Await { x: _, off }) => *off,
@@ -225,7 +225,7 @@ fn told_await(facts: &TextFacts<'_>, n: u32) -> Result<ImmediateAwait, NoMemory>
     Ok(ImmediateAwait {
         at: facts.statement(n),
         words,
-        off: offset_of(facts.origins.statement(n)),
+        off: awaited_offset(facts.origins.statement(n)),
     })
 }
 

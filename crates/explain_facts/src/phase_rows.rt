@@ -2,7 +2,7 @@
 ghost use Rattle.std.specs.Prelude.{◌≡◌, ◌+◌, ◌<◌, ◌^◌, ℕ, IfOk, None, Some, length, replicate, slice_set};
 ghost use Rattle.armus_base.specs.States.{next_phase, with_phase};
 ghost use Rattle.pl_core.specs.inside.Ops.{action_of, phases_moved};
-ghost use Rattle.explain_facts.specs.inside.PhaseRows.{HasCell, HasCells, HasRoomFor, KeepsCells, phases_in};
+ghost use Rattle.explain_facts.specs.inside.PhaseRows.{HasRowCell, HaveRowCells, HasRowRoom, KeepsRowCells, phases_in_rows};
 
 use armus_base::{NoMemory, Op, Phase, PhaserId, Plan, TaskId};
 use std::alloc::Global;
@@ -46,8 +46,8 @@ fn set_in_row(row: &mut Vec<Option<Phase>>, at: usize, phase: Option<Phase>)
 impl PhaseRows {
     /// A row for each task of a plan, where none is a member of anything.
     pub(crate) fn none(alloc: Global, plan: &Plan) -> Result<PhaseRows, NoMemory>
-        ensures cells { IfOk result (λ p. HasCells (length plan.now.parents) (length plan.now.makers) p) }
-        ensures none { IfOk result (λ p. phases_in p ≡ (λ _ _. None)) }
+        ensures cells { IfOk result (λ p. HaveRowCells (length plan.now.parents) (length plan.now.makers) p) }
+        ensures none { IfOk result (λ p. phases_in_rows p ≡ (λ _ _. None)) }
     {
         let mut rows = Vec::with_capacity(alloc, plan.tasks() as usize)?;
         for _ in 0..plan.tasks() {
@@ -58,7 +58,7 @@ impl PhaseRows {
 
     /// The phase of a task on a phaser, if it is a member there.
     pub(crate) fn get(&self, t: TaskId, p: PhaserId) -> Option<Phase>
-        ensures { result ≡ phases_in self.now t.0 p.0 }
+        ensures { result ≡ phases_in_rows self.now t.0 p.0 }
     {
         match self.rows.get(t.0 as usize) {
             Some(row) => match row.get(p.0 as usize) {
@@ -71,18 +71,18 @@ impl PhaseRows {
 
     // Makes this the phase of a task on a phaser.
     fn set(&mut self, t: TaskId, p: PhaserId, phase: Option<Phase>)
-        requires cell { HasCell self.old t.0 p.0 }
-        ensures cells { KeepsCells self.old self.new }
-        ensures set { phases_in self.new ≡ with_phase (phases_in self.old) t.0 p.0 phase }
+        requires cell { HasRowCell self.old t.0 p.0 }
+        ensures cells { KeepsRowCells self.old self.new }
+        ensures set { phases_in_rows self.new ≡ with_phase (phases_in_rows self.old) t.0 p.0 phase }
     {
         set_in_row(&mut self.rows[t.0 as usize], p.0 as usize, phase);
     }
 
     /// The phases after a task has begun this op.
     pub(crate) fn begin(&mut self, t: TaskId, op: Op)
-        requires room { HasRoomFor self.old t.0 op }
-        ensures cells { KeepsCells self.old self.new }
-        ensures moved { phases_in self.new ≡ phases_moved (phases_in self.old) t.0 (action_of op) }
+        requires room { HasRowRoom self.old t.0 op }
+        ensures cells { KeepsRowCells self.old self.new }
+        ensures moved { phases_in_rows self.new ≡ phases_moved (phases_in_rows self.old) t.0 (action_of op) }
     {
         match op {
             Op::Make { p } => self.set(t, p, Some(0)),

@@ -3,10 +3,7 @@ ghost use Rattle.std.specs.Prelude.{◌≡◌, ◌∷◌, ◌+◌, ◌-◌, ◌<
 ghost use Rattle.armus_base.specs.States.{Step};
 ghost use Rattle.pl_core.specs.calls.Moves.{IsWorldStep};
 ghost use Rattle.pl_core.specs.calls.Stands.{IsEnabled};
-ghost use Rattle.pl_plan.specs.Forks.{fork_statements};
-ghost use Rattle.pl_plan.specs.Unfolding.{plan_of};
-ghost use Rattle.pl_syntax.specs.Grammar.{IsText};
-ghost use Rattle.pl_syntax.specs.Tree.{count};
+ghost use Rattle.explain_facts.specs.calls.Known.{AreKnownFacts};
 ghost use Rattle.run_queue.specs.calls.RunQueues.{HasTurnLeft, IsRunQueue};
 ghost use Rattle.explain_steps.specs.ShownSteps.{most_shown, more_steps_line};
 ghost use Rattle.explain_steps.specs.calls.SteppedRuns.{HasNextLine, IsRunBy, IsSteppedRun};
@@ -17,9 +14,7 @@ use crate::telling::TellsSteps;
 use armus_base::{Final, List, NoMemory, Plan, TaskId, put_number, put_words};
 use explain_facts::TextFacts;
 use pl_core::World;
-use pl_syntax::Program;
 use run_queue::{RunQueue, step_kind};
-use source_map::TextPlaces;
 use std::alloc::Global;
 
 /// How many steps are shown at most.
@@ -194,23 +189,16 @@ pub fn step_to_end<'p, T: TellsSteps>(
     })
 }
 
-/// Runs the plan of the text of this program to its end, as `step_to_end` does. `places` are those of the text, and `forks` the statements that fork its tasks, as
-/// `unfold` of pl_plan answers them. The only error is want of memory. A step looks at none of the tasks that only stand there, and the time of one that is shown is
-/// linear in the text.
+/// Runs the plan of the program of the text of which this is known to its end, as `step_to_end` does. The only error is want of memory. A step looks at none of
+/// the tasks that only stand there, and the time of one that is shown is linear in the text.
 pub fn step_through<'p>(
     alloc: Global,
-    places: &TextPlaces<'_>,
-    program: &Program,
-    forks: Vec<Option<u32>>,
+    facts: &TextFacts<'_>,
     plan: &'p Plan,
 ) -> Result<SteppedRun<'p>, NoMemory>
-    requires few { count program.now.body + 1 < 2 ^ 32 }
-    requires reads { IsText places.now program.now }
-    requires forks { forks.items ≡ fork_statements program.now }
-    requires unfolds { plan_of program.now ≡ Ok plan.now }
-    ensures run { IfOk result (IsSteppedRun places.now program.now plan.now) }
+    requires known { AreKnownFacts facts.now }
+    ensures run { IfOk result (IsSteppedRun facts.now.places.now facts.now.program.now plan.now) }
 {
-    let facts = TextFacts::new(alloc, places, program, forks, plan)?;
-    let run = step_to_end(alloc, &facts, plan)?;
+    let run = step_to_end(alloc, facts, plan)?;
     Ok(run)
 }

@@ -10,12 +10,12 @@ use Rattle.pl_syntax.specs.inside.Reading as r
 use Rattle.pl_syntax.specs.Grammar.{opened}
 use Rattle.pl_syntax.proofs.Fronts.{chosen}
 use Rattle.pl_syntax.proofs.Machine as m
-use Rattle.pl_syntax.proofs.Machine.{State, at, over, a_sign, a_name, a_number, a_maker, an_offset, fits, then, step, first_step, begun_at, closes_at, ends_at}
+use Rattle.pl_syntax.proofs.Machine.{State, at, a_sign, a_name, a_number, a_maker, an_offset, fits, then, step, first_step, begun_at}
 use Rattle.pl_syntax.proofs.Begun.{firsts, word_firsts}
 use Rattle.explain_syntax.specs.declared.shape.Shape.{Shape}
 use Rattle.explain_syntax.specs.declared.shape.Shape.TheVariants as s
 use Rattle.explain_syntax.specs.declared.wanted.WantedTokens.TheVariants as w
-use Rattle.explain_syntax.specs.Wanted.{IsTokenOf, is_statement_keyword, is_first, is_sign, is_wanted}
+use Rattle.explain_syntax.specs.Wanted.{IsTokenOf, is_statement_keyword, is_sign, is_wanted}
 use Rattle.explain_syntax.specs.Wanted as own
 use Rattle.explain_syntax.specs.inside.Shapes.{then_semicolon, shapes_after, shapes_behind, shapes_on, wanted_by, wanted_next}
 

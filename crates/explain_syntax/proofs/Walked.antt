@@ -10,7 +10,7 @@ use Rattle.pl_syntax.proofs.Begun.{firsts}
 use Rattle.pl_syntax.proofs.Forest.{begins_if, runs_if}
 use Rattle.pl_syntax.proofs.Fronts.{ok_pair}
 use Rattle.pl_syntax.proofs.Machine as m
-use Rattle.pl_syntax.proofs.Machine.{State, at, over, depth_is, go, run, run-append, some_front, step, fits, first_step, closes_at}
+use Rattle.pl_syntax.proofs.Machine.{State, at, over, depth_is, go, run, run-append, step}
 use Rattle.explain_syntax.specs.declared.shape.Shape.{Shape}
 use Rattle.explain_syntax.specs.declared.shape.Shape.TheVariants as s
 use Rattle.explain_syntax.specs.declared.stand.Behind.{Behind}

@@ -375,7 +375,7 @@ module _ (two : Bool) where
   -- ---- all tasks
 
   -- the stages of all tasks, from some of them on
-  pub record Through (before : List Stage) (n : ℕ) (s : UnfoldingState) (o : Outcome UnfoldingState) : Type 0 where
+  record Through (before : List Stage) (n : ℕ) (s : UnfoldingState) (o : Outcome UnfoldingState) : Type 0 where
     stages : List Stage
     end : UnfoldingState
     leads : StagesLead two before stages s end
@@ -395,7 +395,7 @@ module _ (two : Bool) where
         is = r.is;
       }
 
-  abbrev pub Told : List Stage → ℕ → UnfoldingState → Outcome UnfoldingState → Type 0
+  abbrev Told : List Stage → ℕ → UnfoldingState → Outcome UnfoldingState → Type 0
   Told before n s o = Through before n s o ⊎ Fails before s o
 
   told_later :
@@ -554,14 +554,14 @@ module _ (two : Bool) where
       same ∙ ap (λ (z : Start). record { kind = 9; statement = z.first - 1 }) starts ∙ sym same'
 
 -- what the computation found
-abbrev pub Found : Program → Type 0
+abbrev Found : Program → Type 0
 Found program = Told program.two [] 4096 (opening_state program.body) (unfold_tasks program.two 4096 0 (opening_state program.body))
 
-pub found : (program : Program) → Found program
+found : (program : Program) → Found program
 found program = tasks program.two 4096 0 [] (opening_state program.body) (opening_kept program.two program.body) refl
 
 -- the end of a whole unfolding has all stages
-pub through_all : (program : Program) (o : Outcome UnfoldingState) → (r : Through program.two [] 4096 (opening_state program.body) o) → all_stages program.two r.end ≡ r.stages
+through_all : (program : Program) (o : Outcome UnfoldingState) → (r : Through program.two [] 4096 (opening_state program.body) o) → all_stages program.two r.end ≡ r.stages
 through_all program o r =
     let n = 4096 - length r.end.plan.parents in
     let few = r.kept.few in

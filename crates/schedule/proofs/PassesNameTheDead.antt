@@ -20,16 +20,14 @@ use Rattle.armus_base.proofs.Stepping.{places_fix}
 use Rattle.armus_base.proofs.Published.{published_after_is}
 use Rattle.armus_base.proofs.FoundArePublished.{published_within}
 use Rattle.armus_base.proofs.Members.{published_member, member_made}
-use Rattle.armus_base.specs.Plans.{Makes, action_at, maker_of}
-use Rattle.armus_base.specs.Places.{made_at, makes}
 use Rattle.armus_base.proofs.ReachedLater.{later_done}
 use Rattle.armus_base.proofs.DeadStays.{dead_stays}
 use Rattle.armus_base.proofs.CollectedIsDead.{collected_is_dead}
 use Rattle.schedule.specs.Passes.{PassLoads, event_after, phase_after, event_found, is_found_awaited, waiting_below, awaited_below, phase_load, phases_found, loads_of, state_found, statuses_found}
 use Rattle.std.specs.Prelude.{◌==◌, if◌then◌else◌}
 use Rattle.std.proofs.Common.{false, eqb-true}
-use Rattle.armus_base.specs.Plans.{Action, Aim, Refuses}
-use Rattle.armus_base.specs.Runs.{IsByCode, IsPlainRun}
+use Rattle.armus_base.specs.Plans.{Action}
+use Rattle.armus_base.specs.Runs.{IsPlainRun}
 use Rattle.armus_base.proofs.Elements.{nothing_in_nil, Contains-cons_cases}
 use Rattle.armus_base.proofs.LawfulPlaces.{made_within}
 use Rattle.armus_base.proofs.OwnSteps.{plain_longer}

@@ -1,18 +1,18 @@
 -- What has grown with some tasks added, and what its edges are.
-use Rattle.std.proofs.Common.{◌≡◌, ℕ, ◌+◌, ◌*◌, ◌<◌, ◌≤◌, Bool, true, false, List, [], ◌∷◌, length, refl, sym, ap, ◌∙◌, subst, ◌⊎◌, inl, inr, arith, get_or, set, get_or-set_same, get_or-set_other, length-set, replicate}
+use Rattle.std.proofs.Common.{◌≡◌, ℕ, ◌+◌, ◌*◌, ◌<◌, ◌≤◌, Bool, true, false, List, [], length, sym, ap, ◌∙◌, subst, inl, inr, arith, get_or, replicate}
 use Rattle.std.specs.Prelude.{Contains, ◌↔◌}
-use Rattle.std.proofs.lemmas.Bool.{cases_Bool, cases_eq, cases_lt}
+use Rattle.std.proofs.lemmas.Bool.{cases_eq, cases_lt}
 use Rattle.std.proofs.lemmas.List.{get_or_default, get_or_past, get_or-replicate, length-replicate}
 use Rattle.std.proofs.lemmas.List.Elements.{Contains-get_or}
 use Rattle.digraph.specs.calls.Graph.{HasEdge}
 use Rattle.armus_base.specs.Counts.{IsCount}
 use Rattle.armus_base.proofs.Counts.{count_same, count_unique, count_none}
-use Rattle.armus_base.proofs.Elements.{Contains-cons_cases, Contains-head, Contains-tail, nothing_in_nil}
-use Rattle.dep_state.specs.calls.Deps.{Deps, AreRelations, IsAwaitedBy, impeders_of}
+use Rattle.armus_base.proofs.Elements.{nothing_in_nil}
+use Rattle.dep_state.specs.calls.Deps.{Deps, AreRelations, impeders_of}
 use Rattle.state_graph.specs.calls.StateEdges.{IsStatePair}
-use Rattle.state_graph.specs.inside.Growing.{AreSized, IsFirstFrom, IsGrown, IsGrowing, IsNextAt, IsPairBetween, IsPassedPair, IsPassedUpTo, IsPassing, IsStateCount, RowsAscend, StaysSmallBelow}
+use Rattle.state_graph.specs.inside.Growing.{IsGrown, IsGrowing, IsStateCount, RowsAscend, StaysSmallBelow}
 use Rattle.digraph.proofs.AddedEdges.{no_edge}
-use Rattle.dep_state.proofs.TaskPlaces.{impeder_inside, row_some}
+use Rattle.dep_state.proofs.TaskPlaces.{impeder_inside}
 
 -- all were followed
 pub grown_more :

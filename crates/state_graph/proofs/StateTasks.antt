@@ -1,8 +1,6 @@
 -- The tasks that are dead by the state graph.
-use Rattle.std.proofs.Common.{◌≡◌, ℕ, ◌+◌, ◌<◌, Bool, false, List, [], ◌∷◌, ◌++◌, length, sym, ap, ◌∙◌, subst, arith, get_or, inl, inr}
+use Rattle.std.proofs.Common.{◌≡◌, ℕ, ◌<◌, Bool, false, List, length, sym, ap, ◌∙◌, subst, arith, get_or}
 use Rattle.std.specs.Prelude.{◌↔◌}
-use Rattle.std.proofs.lemmas.Bool.{cases_eq}
-use Rattle.std.proofs.lemmas.List.{length-append, get_or_push}
 use Rattle.armus_base.specs.Counts.{IsCount}
 use Rattle.armus_base.specs.DeadLists.{IsDeadList}
 use Rattle.armus_base.specs.Graphs.{StateEdge}
@@ -13,7 +11,6 @@ use Rattle.armus_base.specs.declared.status.Status.{Status}
 use Rattle.digraph.specs.calls.Graph.{HasEdge, TellsCycles}
 use Rattle.dep_state.specs.calls.Deps.{Deps, IsDepsOf}
 use Rattle.dep_state.specs.calls.Picks.{IsPick}
-use Rattle.dep_state.proofs.Made.{left_of}
 use Rattle.dep_state.proofs.TaskPlaces.{count, dead_picked}
 use Rattle.state_graph.specs.inside.Growing.{IsAnswersAt}
 use Rattle.state_graph.specs.calls.StateEdges.{StateEdges, IsStateGraphOf, IsStatePair}

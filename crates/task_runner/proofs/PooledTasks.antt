@@ -1,5 +1,5 @@
 -- The tasks of a run without rounds: what a stretch of a turn makes of one, and what is known of each.
-use Rattle.std.proofs.Common.{◌≡◌, ℕ, ◌<◌, List, [], ◌∷◌, ◌++◌, Some, length, get_or, sym, refl, ap, ◌∙◌, subst, arith}
+use Rattle.std.proofs.Common.{◌≡◌, ℕ, ◌<◌, List, [], ◌++◌, Some, length, get_or, sym, refl, ap, ◌∙◌, subst, arith}
 use Rattle.std.specs.Prelude.{All, Contains}
 use Rattle.armus_base.specs.Plans.{Action, Forks, Plan, action_at}
 use Rattle.armus_base.specs.Runs.{Place}

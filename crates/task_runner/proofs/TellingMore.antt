@@ -1,5 +1,5 @@
 -- Whom a pass names anew: they are dead at the end, and were not told before.
-use Rattle.std.proofs.Common.{◌≡◌, ◌≢◌, ℕ, zero, suc, ◌<◌, Bool, true, false, Option, Some, None, List, [], ◌∷◌, ◌++◌, length, map, get_or, sym, refl, ap, ◌∙◌, subst, arith, inl, inr, ◌↔◌, append-nil, append_assoc, Result, Ok, Err}
+use Rattle.std.proofs.Common.{◌≡◌, ◌≢◌, ℕ, suc, ◌<◌, Bool, true, false, Option, Some, None, List, [], ◌∷◌, ◌++◌, map, sym, refl, ap, ◌∙◌, subst, arith, inl, inr, ◌↔◌, append-nil, append_assoc, Result, Ok, Err}
 use Rattle.std.specs.Prelude.{All, AllPairs, Contains, cond, not}
 use Rattle.std.specs.List.{filter}
 use Rattle.std.specs.Io.KnownBytes.{Appends}

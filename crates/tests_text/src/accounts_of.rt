@@ -7,8 +7,8 @@ ghost use Rattle.pl_syntax.specs.Tree.{count};
 
 use armus_base::{NoMemory, Plan};
 use explain_facts::{
-    Account, Doing, NextOp, TaskAccount, Waiting, account_exists, account_of, forkers_fork,
-    one_account, statements_have_places, tasks_are_of_text,
+    Account, Doing, NextOp, TaskAccount, TextFacts, Waiting, account_exists, account_of,
+    forkers_fork, one_account, statements_have_places, tasks_are_of_text,
 };
 use pl_plan::{Unfolded, unfold};
 use pl_syntax::{Program, parse};
@@ -150,14 +150,8 @@ fn told(
 {
     let ended = run_to_world(alloc, plan)?;
     let places = TextPlaces::new(alloc, text)?;
-    let account = account_of(
-        alloc,
-        &places,
-        program,
-        forks,
-        &ended.world,
-        ended.end.ends.as_slice(),
-    )?;
+    let facts = TextFacts::new(alloc, &places, program, forks, plan)?;
+    let account = account_of(facts, &ended.world, ended.end.ends.as_slice())?;
     lines_of(alloc, &places, &account)
 }
 

@@ -8,13 +8,13 @@ use Rattle.armus_base.specs.Runs.{Place}
 use Rattle.armus_base.specs.States.{Phases, awaited}
 use Rattle.pl_core.specs.Tasks.{actions_before}
 use Rattle.pl_core.specs.inside.Ops.{action_of}
-use Rattle.pl_core.specs.inside.Walks.{walked, walking}
+use Rattle.pl_core.specs.inside.Walks.{walking}
 use Rattle.pl_syntax.specs.Tree.{count}
 use Rattle.pl_syntax.specs.declared.tree.Program.{Program}
-use Rattle.explain_facts.specs.ImmediateAwaits.{is_late, is_number, is_shared, some_op_awaits}
+use Rattle.explain_facts.specs.ImmediateAwaits.{is_late, is_that_number, is_shared, some_op_awaits}
 use Rattle.explain_facts.specs.declared.immediate.AwaitWalk.{AwaitWalk}
 use Rattle.explain_facts.specs.declared.immediate.NextAwait.{NextAwait}
-use Rattle.explain_facts.specs.inside.PhaseRows.{HasCells, phases_in}
+use Rattle.explain_facts.specs.inside.PhaseRows.{HaveRowCells, phases_in_rows}
 
 -- ---- what is awaited
 
@@ -39,7 +39,7 @@ is_late_await (Some next) = next.is_late
 
 -- it is number k, and it is to be marked
 abbrev pub is_marked_number : Option ℕ → Bool → ℕ → Bool
-is_marked_number n is_marked k = is_number k n && is_marked
+is_marked_number n is_marked k = is_that_number k n && is_marked
 
 -- ---- how far the walk has come
 
@@ -55,7 +55,7 @@ pub record AreMarksAt (test : Option Event → Bool) (p : Program) (plan : Plan)
 
 -- the walk has gone through the codes of the tasks below t, and through the first i ops of task t
 pub record HasWalkedTo (p : Program) (plan : Plan) (t i : ℕ) (w : AwaitWalk) : Type 0 where
-  pub cells : HasCells (length plan.parents) (length plan.makers) w.phases
-  pub phases : phases_in w.phases ≡ (state_at plan (walking (all_done plan) t (actions_before (code_of plan t) i))).phases
+  pub cells : HaveRowCells (length plan.parents) (length plan.makers) w.phases
+  pub phases : phases_in_rows w.phases ≡ (state_at plan (walking (all_done plan) t (actions_before (code_of plan t) i))).phases
   pub shared : AreMarksAt (is_shared plan) p plan t i w.shared.items
   pub late : AreMarksAt is_late p plan t i w.late.items

@@ -1,11 +1,8 @@
-use Rattle.std.proofs.Common.{arith, refl, subst, sym}
+use Rattle.std.proofs.Common.{arith, subst, sym}
 use Rattle.armus_base.specs.Runs.{state_after}
 use Rattle.schedule.proofs.PassesNameTheDead.{passes_name_the_dead}
 use Rattle.schedule.proofs.Within.{split_within}
-use Rattle.command_line.specs.declared.command.Command.TheVariants.{Replay}
 use Rattle.armus_top.specs.DeadStatus.{TellsDead}
-use Rattle.armus_top.specs.Replays.{IsReplayFault}
-use Rattle.armus_top.proofs.Answering.{end_of_text}
 use Rattle.program_io.proofs.OnePlan.{checked_plan}
 use Rattle.armus_top.proofs.ReplayInputs.{list_tells}
 use Rattle.armus_top.proofs.replaying.replay.Goals as goal

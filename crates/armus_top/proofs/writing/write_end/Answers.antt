@@ -1,5 +1,4 @@
 use Rattle.std.proofs.Common.{refl, subst}
-use Rattle.std.proofs.KnownBytes.{Keeps-refl}
 use Rattle.clock_pl.specs.ClockLines.{clock_fault_line}
 use Rattle.report.specs.Refusals.{refusal_text}
 use Rattle.armus_top.specs.inside.Answers.{IsEndOf}

@@ -10,7 +10,7 @@ pub rounds-init : goal.rounds-init
 rounds-init c = record {
   nobody = opening_alive c.args.plan.now c.in_ok-world.world c.in_ok-world.ensures.opening;
   queue = c.in_ok-queue.ensures;
-  come = none_yet (option_copied c.args.text.now.file) (kept_layout c.args.text.now.facts) c.args.text.now.facts.program.now c.args.plan.now
+  come = none_yet (option_copied c.args.text.now.file) (kept_layout c.args.text.now.facts.now) c.args.text.now.facts.now.program.now c.args.plan.now
       (record { world = c.in_ok-world.world; judge = c.new.result; refusals = c.new-2.result }) c.in_ok-world.ensures.opening c.new-2.ensures.items;
 }
 
@@ -21,13 +21,13 @@ rounds-preserved c =
     record {
       nobody = made.left.kept;
       queue = made.queue;
-      come = round_comes (option_copied c.args.text.now.file) (kept_layout c.args.text.now.facts) c.args.text.now.facts.program.now c.args.plan.now
+      come = round_comes (option_copied c.args.text.now.file) (kept_layout c.args.text.now.facts.now) c.args.text.now.facts.now.program.now c.args.plan.now
           c.rounds.run c.round.new.self c.in_ok-round.field-0 made.left.plan made.round inv.come;
     }
 
 pub returns-clause-ended : goal.returns-clause-ended
 returns-clause-ended c =
-    round_ends (option_copied c.args.text.now.file) (kept_layout c.args.text.now.facts) c.args.text.now.facts.program.now c.args.plan.now c.rounds.run
+    round_ends (option_copied c.args.text.now.file) (kept_layout c.args.text.now.facts.now) c.args.text.now.facts.now.program.now c.args.plan.now c.rounds.run
     c.round.new.self c.in_ok-round.field-0 c.if-branch.false c.in_ok-round.ensures.left.plan c.in_ok-round.ensures.round c.rounds.invariant.come
 
 pub returns-clause-quiet : goal.returns-clause-quiet

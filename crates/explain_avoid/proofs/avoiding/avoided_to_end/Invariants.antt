@@ -11,7 +11,7 @@ invariant-rounds l =
     record {
       nobody : NobodyDeadIn l.run.world;
       queue : IsRunQueue l.run.world l.run.world l.queue;
-      come : HasCome (option_copied l.text.file) (kept_layout l.text.facts) l.text.facts.program.now l.plan l.run;
+      come : HasCome (option_copied l.text.file) (kept_layout l.text.facts.now) l.text.facts.now.program.now l.plan l.run;
     }
 
 abbrev pub decreases-rounds : goal.decreases-rounds

@@ -12,8 +12,8 @@ use Rattle.explain_facts.proofs.OneAccount.{one_op}
 pub returns : goal.returns
 returns c = λ ops stand.
     let file = option_copied c.args.text.now.file in
-    let p = c.args.text.now.facts.program.now in
-    let l = kept_layout c.args.text.now.facts in
+    let p = c.args.text.now.facts.now.program.now in
+    let l = kept_layout c.args.text.now.facts.now in
     let w = c.args.world.now in
     let t = c.args.t.0 in
     let e = c.args.waits.now.event in

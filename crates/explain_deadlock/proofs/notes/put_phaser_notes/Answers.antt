@@ -1,4 +1,4 @@
-use Rattle.std.proofs.Common.{◌≡◌, ◌∙◌, ◌<◌, arith, length, subst, sym}
+use Rattle.std.proofs.Common.{◌≡◌, ◌<◌, length, subst, sym}
 use Rattle.explain_deadlock.proofs.NotesTold.{mark_read, notes_more}
 use Rattle.explain_deadlock.proofs.notes.put_phaser_notes.Goals as goal
 

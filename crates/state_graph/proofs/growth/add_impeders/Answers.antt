@@ -1,4 +1,4 @@
-use Rattle.std.proofs.Common.{rules, ◌≡◌, ℕ, ◌+◌, ◌≤◌, ◌<◌, arith, length, sym, ap, ◌∙◌, refl, subst, get_or, inl, inr}
+use Rattle.std.proofs.Common.{◌≡◌, ◌≤◌, arith, length, sym, ap, ◌∙◌, refl, subst, get_or, inl, inr}
 use Rattle.std.proofs.lemmas.Bool.{cases_eq}
 use Rattle.dep_state.specs.calls.Deps.{impeders_of}
 use Rattle.state_graph.specs.inside.Growing.{IsPassing}

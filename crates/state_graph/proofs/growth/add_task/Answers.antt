@@ -1,11 +1,10 @@
-use Rattle.std.proofs.Common.{◌≡◌, zero, suc, ◌∷◌, ◌<◌, ◌⊎◌, arith, ap, length, ◌∙◌, sym, subst, refl, ℕ, List, [], get_or, set, get_or-set_other, length-set, inl, inr, false, true}
-use Rattle.std.proofs.lemmas.Bool.{cases_eq}
+use Rattle.std.proofs.Common.{◌≡◌, zero, suc, ◌∷◌, ◌<◌, arith, ap, length, ◌∙◌, sym, subst, refl, ℕ, List, [], get_or, set, length-set, inl, inr, false, true}
 use Rattle.std.proofs.lemmas.List.{get_or_default, length-map}
 use Rattle.std.proofs.lemmas.List.Elements.{Contains-push, Contains-push_cases, Contains-append_left}
 use Rattle.std.specs.Prelude.{Vec}
 use Rattle.std.specs.Global.{Global}
 use Rattle.armus_base.proofs.Lists.{set_flag}
-use Rattle.digraph.specs.calls.Graph.{graph_of, HasEdge}
+use Rattle.digraph.specs.calls.Graph.{graph_of}
 use Rattle.dep_state.proofs.TaskPlaces.{row_at}
 use Rattle.state_graph.proofs.ComingTask.{growing}
 use Rattle.state_graph.proofs.growth.add_task.Goals as goal

@@ -1,4 +1,4 @@
-use Rattle.std.proofs.Common.{◌≡◌, ◌∷◌, ◌+◌, ◌<◌, arith, ap, length, subst, drop, ℕ, List, [], get_or}
+use Rattle.std.proofs.Common.{◌+◌, ◌<◌, arith, length, subst, drop, ℕ, List, get_or}
 use Rattle.std.specs.Prelude.{Contains}
 use Rattle.std.proofs.lemmas.List.{drop_more, drop_all}
 use Rattle.armus_base.proofs.Elements.{Contains-head}

@@ -1,8 +1,7 @@
-use Rattle.std.proofs.Common.{inl, inr, ◌∙◌, sym, ap, ◌≡◌, ◌<◌, ℕ, get_or, length, arith}
+use Rattle.std.proofs.Common.{inl, inr, ◌∙◌, sym, ap, ◌<◌, get_or, length, arith}
 use Rattle.std.proofs.lemmas.List.Elements.{All-get_or}
 use Rattle.digraph.proofs.RowLemmas.{graph_adds}
 use Rattle.digraph.proofs.AddedEdges.{push_members}
-use Rattle.dep_state.specs.calls.Deps.{impeders_of}
 use Rattle.state_graph.proofs.growth.put.Goals as goal
 
 pub returns-in_ok-push-clause-rows : goal.returns-in_ok-push-clause-rows

@@ -1,5 +1,5 @@
 use Rattle.std.proofs.Common.{ap, length, ◌∙◌}
-use Rattle.std.proofs.Common.{replicate, false, [], List, ℕ, Bool}
+use Rattle.std.proofs.Common.{replicate, false, [], List, ℕ}
 use Rattle.digraph.specs.calls.Graph.{graph_of}
 use Rattle.state_graph.proofs.GrowingPairs.{grown_none}
 use Rattle.state_graph.proofs.growth.start.Goals as goal

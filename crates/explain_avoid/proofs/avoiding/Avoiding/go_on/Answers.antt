@@ -17,8 +17,8 @@ returns-in_ok-decide-in-Await c =
     let new = c.decide.new.self in
     let t = c.args.t.0 in
     let file = option_copied c.args.text.now.file in
-    let l = kept_layout c.args.text.now.facts in
-    let p = c.args.text.now.facts.program.now in
+    let l = kept_layout c.args.text.now.facts.now in
+    let p = c.args.text.now.facts.now.program.now in
     let decided = c.in_ok-decide-in-Await.ensures.decided in
     let gone = gone_on file l p old new t c.stand.ensures.checked c.in-Await.event c.in-Await.ensures.stand decided in
     record {
@@ -39,8 +39,8 @@ returns-in_default c =
     let new = record old { world = c.step.new.self } in
     let t = c.args.t.0 in
     let file = option_copied c.args.text.now.file in
-    let l = kept_layout c.args.text.now.facts in
-    let p = c.args.text.now.facts.program.now in
+    let l = kept_layout c.args.text.now.facts.now in
+    let p = c.args.text.now.facts.now.program.now in
     let other : (aim : Aim) → step.action ≢ Blocks aim =
     no_block_else old.world t c.stand.result c.stand.ensures.stand c.in_default.not-Await step.action step.next step.legal in
     let gone : HasGoneOn old.world c.step.new.self t = inr (record { step = step; other = other }) in

@@ -10,7 +10,7 @@ use Rattle.explain_avoid.proofs.avoiding.Avoiding.turn.Goals as goal
 pub turn-init : goal.turn-init
 turn-init c = record {
   left = leaves_none NobodyDeadIn c.args.self.now.world c.requires.nobody;
-  goes = goes_none (option_copied c.args.text.now.file) (kept_layout c.args.text.now.facts) c.args.text.now.facts.program.now c.args.t.0 c.args.self.now;
+  goes = goes_none (option_copied c.args.text.now.file) (kept_layout c.args.text.now.facts.now) c.args.text.now.facts.now.program.now c.args.t.0 c.args.self.now;
   queue = λ first ready h. (ready, h);
 }
 
@@ -24,7 +24,7 @@ turn-preserved c =
     record {
       left = leaves_on NobodyDeadIn c.args.self.now.world c.turn.self.world c.go_on.new.self.world c.turn.moved true true inv.left made.left (λ _. inr refl)
           (λ e. absurd (false≢true (sym e)));
-      goes = goes_more (option_copied c.args.text.now.file) (kept_layout c.args.text.now.facts) c.args.text.now.facts.program.now c.args.t.0 c.args.self.now
+      goes = goes_more (option_copied c.args.text.now.file) (kept_layout c.args.text.now.facts.now) c.args.text.now.facts.now.program.now c.args.t.0 c.args.self.now
           c.turn.self c.go_on.new.self c.turn.moved inv.left.plan inv.goes made.goes;
       queue = λ first ready h.
           let before = inv.queue first ready h in

@@ -11,7 +11,7 @@ abbrev pub invariant-turn : goal.invariant-turn
 invariant-turn l =
     record {
       left : LeavesLess NobodyDeadIn l.initial.self.world l.self.world l.moved;
-      goes : RoundsGoTo (option_copied l.text.file) (kept_layout l.text.facts) l.text.facts.program.now l.t.0 l.initial.self l.self l.moved;
+      goes : RoundsGoTo (option_copied l.text.file) (kept_layout l.text.facts.now) l.text.facts.now.program.now l.t.0 l.initial.self l.self l.moved;
       queue :
           (first : WorldValue) → HasTurnLeft l.initial.queue l.t.0 → IsRunQueue first l.initial.self.world l.initial.queue →
           HasTurnLeft l.queue l.t.0 × IsRunQueue first l.self.world l.queue;

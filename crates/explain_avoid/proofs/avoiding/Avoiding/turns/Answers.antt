@@ -15,7 +15,7 @@ pub turns-init : goal.turns-init
 turns-init c = record {
   within = omega arith;
   left = leaves_none NobodyDeadIn c.args.self.now.world c.requires.nobody;
-  round = round_begun (option_copied c.args.text.now.file) (kept_layout c.args.text.now.facts) c.args.text.now.facts.program.now c.args.self.now;
+  round = round_begun (option_copied c.args.text.now.file) (kept_layout c.args.text.now.facts.now) c.args.text.now.facts.now.program.now c.args.self.now;
   quiet = λ e u lt. absurd (omega (arith, lt));
   queue = c.requires.queue;
 }
@@ -34,8 +34,8 @@ turns-preserved c =
     let mid = c.turns.self in
     let new = c.turn.new.self in
     let file = option_copied c.args.text.now.file in
-    let l = kept_layout c.args.text.now.facts in
-    let p = c.args.text.now.facts.program.now in
+    let l = kept_layout c.args.text.now.facts.now in
+    let p = c.args.text.now.facts.now.program.now in
     let t = c.in-Some.t.0 in
     let before = c.turns.moved in
     let acted = c.in_ok-acted.acted in
@@ -88,7 +88,7 @@ returns-clause-round c =
     let first = c.args.self.now in
     let found = c.in_default.ensures first.world inv.queue in
     let parents = ap (λ (q : Plan). length q.parents) inv.left.plan in
-    skip_turns (option_copied c.args.text.now.file) (kept_layout c.args.text.now.facts) c.args.text.now.facts.program.now first c.turns.self c.turns.moved
+    skip_turns (option_copied c.args.text.now.file) (kept_layout c.args.text.now.facts.now) c.args.text.now.facts.now.program.now first c.turns.self c.turns.moved
     c.plan-plan.ensures.checked inv.left.plan c.turns.from (length first.world.plan.parents) inv.within inv.round
     (λ u a l. found u a (omega (arith, l, parents)))
 

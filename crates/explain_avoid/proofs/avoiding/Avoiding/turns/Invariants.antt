@@ -12,7 +12,7 @@ invariant-turns l =
     record {
       within : l.from ≤ length l.initial.self.world.plan.parents;
       left : LeavesLess NobodyDeadIn l.initial.self.world l.self.world l.moved;
-      round : RoundTo (option_copied l.text.file) (kept_layout l.text.facts) l.text.facts.program.now l.from l.initial.self l.self l.moved;
+      round : RoundTo (option_copied l.text.file) (kept_layout l.text.facts.now) l.text.facts.now.program.now l.from l.initial.self l.self l.moved;
       quiet : l.moved ≡ false → (u : ℕ) → u < l.from → IsEnabled l.self.world u → ⊥;
       queue : IsRunQueue l.initial.self.world l.self.world l.queue;
     }
