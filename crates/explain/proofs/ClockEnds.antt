@@ -7,13 +7,12 @@ use Rattle.armus_base.specs.calls.FinalLaws.{IsOfPlan}
 use Rattle.armus_base.specs.declared.ending.TaskEnd.TheVariants as ends
 use Rattle.armus_base.specs.declared.event.Event.{Event}
 use Rattle.armus_base.specs.Finals.{end_by, end_of, list_below}
-use Rattle.armus_base.specs.Places.{state_at}
 use Rattle.armus_base.specs.Plans.{Plan}
 use Rattle.armus_base.specs.Runs.{IsMaximal, IsPlainRun, places, state_after}
 use Rattle.armus_base.specs.States.{Step}
 use Rattle.armus_base.proofs.DeadByStatuses.{run_is_of_plan}
 use Rattle.armus_base.proofs.OneEnd.{one_end}
-use Rattle.armus_base.proofs.Stepping.{places_fix}
+use Rattle.explain_facts.specs.RunStates.{done_after}
 use Rattle.pl_plan.specs.Unfolding.{Outcome, ◌>>=◌}
 use Rattle.pl_plan.specs.declared.fault.CheckFault.{CheckFault}
 use Rattle.clock_syntax.specs.Grammar.{IsClockText}
@@ -94,14 +93,13 @@ published_end false None None on = absurd cc
 
 pub clocks_tell_waiting :
     (form : Form) (text : Text) (p : ClockTree) (u : ClockUnfolding) (steps : List Step) (lines : List ℕ) (some : Bool) → IsMaximalClockRun text p u steps →
-    AreToldActivities form text p u (plan_of_moves u) (places steps) lines some → (some ≡ true) ↔ ((t : ℕ) × WaitsIn (state_after steps) t)
+    AreToldActivities form text p u (plan_of_moves u) (state_after steps) (done_after steps) lines some → (some ≡ true) ↔ ((t : ℕ) × WaitsIn (state_after steps) t)
 clocks_tell_waiting form text p u steps lines some ended is =
     let plan = plan_of_moves u in
     let checked = checked_moves p u ended.unfolds in
-    let fixed : state_after steps ≡ state_at plan (places steps) = (places_fix plan checked steps ended.run.0).0 in
     let of_plan : IsOfPlan plan (state_after steps) = run_is_of_plan plan steps checked ended.run.0 in
     let told : some ≡ list_any waits_there (list_below (end_of (state_after steps)) (length plan.parents)) =
-    is.tells.waits_are ∙ ap (list_any waits_there) (is.tells.are_facts.ends_are ∙ ap (λ s. list_below (end_of s) (length plan.parents)) (sym fixed)) in (
+    is.tells.waits_are ∙ ap (list_any waits_there) is.tells.are_facts.ends_are in (
       λ on.
           let (t, below, waits) = some_below waits_there (end_of (state_after steps)) (length plan.parents) (sym told ∙ on) in
           (t, published_end ((state_after steps).forked t) ((state_after steps).published t) ((state_after steps).refused t) waits),

@@ -2,7 +2,8 @@
 use Rattle.std.proofs.Common.{◌≡◌, ◌∙◌, ◌⊎◌, ℕ, List, Option, ap, inl, inr, refl, subst, sym}
 use Rattle.std.specs.Prelude.{Err, Ok, if◌then◌else◌}
 use mathlib.Core.Path.{fun_ext}
-use Rattle.armus_base.specs.Runs.{Place, places, state_after}
+use Rattle.armus_base.specs.Places.{done_by}
+use Rattle.armus_base.specs.Runs.{Place, state_after}
 use Rattle.armus_base.specs.States.{State, Step}
 use Rattle.armus_base.proofs.MaximalExists.{maximal_exists}
 use Rattle.pl_plan.specs.Unfolding.{Outcome}
@@ -13,6 +14,7 @@ use Rattle.clock_syntax.proofs.ClockTexts.{clock_tree_or_fault}
 use Rattle.clock_syntax.proofs.ClockUnique.{not_both_clocks, one_clock_fault, one_clock_tree}
 use Rattle.clock_semantics.specs.Unfolding.{ClockUnfolding, clock_unfolded, plan_of_moves}
 use Rattle.clock_source_map.specs.ClockOffsets.{clock_offsets}
+use Rattle.explain_facts.specs.RunStates.{done_after}
 use Rattle.explain_clock.specs.ClockRefusals.{clock_fault_lines, clock_syntax_lines}
 use Rattle.program_io.specs.Texts.{Text}
 use Rattle.explain.specs.ClockExplained.{AnswersClock, AreToldActivities, ClockEndsSo, HasSomeClockFault, IsClockExplanationOf, IsClockRefusedWith, IsMaximalClockRun, IsClockStatusOf}
@@ -47,13 +49,16 @@ pub one_clock_explained : (form : Form) (text : Text) (status other : ℕ) (line
     → IsClockExplanationOf form text other others → (status ≡ other) × (lines ≡ others)
 one_clock_explained form text status other lines others a b =
     let alike = end_alike text b.program a.program b.unfolded a.unfolded b.steps a.steps b.ended a.ended in
-    let of_program : AreToldActivities form text a.program b.unfolded (plan_of_moves b.unfolded) (places b.steps) others b.waits =
-    subst (λ p. AreToldActivities form text p b.unfolded (plan_of_moves b.unfolded) (places b.steps) others b.waits) alike.programs b.explains in
-    let of_plan : AreToldActivities form text a.program a.unfolded (plan_of_moves a.unfolded) (places b.steps) others b.waits =
-    subst (λ u. AreToldActivities form text a.program u (plan_of_moves u) (places b.steps) others b.waits) alike.unfoldings of_program in
-    let of_places : AreToldActivities form text a.program a.unfolded (plan_of_moves a.unfolded) (places a.steps) others b.waits =
-    subst (λ (at : ℕ → Place). AreToldActivities form text a.program a.unfolded (plan_of_moves a.unfolded) at others b.waits) (fun_ext alike.ends.0) of_plan in
-    let same = one_told_clock form text a.program a.unfolded (plan_of_moves a.unfolded) (places a.steps) lines others a.waits b.waits a.explains of_places in (
+    let of_program : AreToldActivities form text a.program b.unfolded (plan_of_moves b.unfolded) (state_after b.steps) (done_after b.steps) others b.waits =
+    subst (λ p. AreToldActivities form text p b.unfolded (plan_of_moves b.unfolded) (state_after b.steps) (done_after b.steps) others b.waits) alike.programs b.explains in
+    let of_plan : AreToldActivities form text a.program a.unfolded (plan_of_moves a.unfolded) (state_after b.steps) (done_after b.steps) others b.waits =
+    subst (λ u. AreToldActivities form text a.program u (plan_of_moves u) (state_after b.steps) (done_after b.steps) others b.waits) alike.unfoldings of_program in
+    let of_counts : AreToldActivities form text a.program a.unfolded (plan_of_moves a.unfolded) (state_after b.steps) (done_after a.steps) others b.waits =
+    subst (λ (at : ℕ → Place). AreToldActivities form text a.program a.unfolded (plan_of_moves a.unfolded) (state_after b.steps) (done_by at) others b.waits)
+    (fun_ext alike.ends.0) of_plan in
+    let of_state : AreToldActivities form text a.program a.unfolded (plan_of_moves a.unfolded) (state_after a.steps) (done_after a.steps) others b.waits =
+    subst (λ (s : State). AreToldActivities form text a.program a.unfolded (plan_of_moves a.unfolded) s (done_after a.steps) others b.waits) alike.ends.1 of_counts in
+    let same = one_told_clock form text a.program a.unfolded (plan_of_moves a.unfolded) (state_after a.steps) (done_after a.steps) lines others a.waits b.waits a.explains of_state in (
       one_status a.waits b.waits status other a.status_is b.status_is same.1,
       same.0,
     )
@@ -91,7 +96,7 @@ explained : (form : Form) (text : Text) (p : ClockTree) (u : ClockUnfolding) →
     → IsClockMet form text (IsClockExplanationOf form text)
 explained form text p u reads is =
     let (steps, run, maximal) = maximal_exists (plan_of_moves u) (checked_moves p u is) in
-    let (lines, waits, explains) = told_clock_exists form text p u (plan_of_moves u) (places steps) reads is refl in (
+    let (lines, waits, explains) = told_clock_exists form text p u (plan_of_moves u) (state_after steps) (done_after steps) reads is refl in (
       (if waits then 1 else 0),
       lines,
       inl (record {

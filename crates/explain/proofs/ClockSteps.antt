@@ -1,11 +1,12 @@
 -- A clock text has one output with the steps of its run, and the output fixes its status.
 use Rattle.std.proofs.Common.{◌≡◌, ◌∙◌, ◌++◌, ℕ, List, ap, inl, inr, refl, subst, sym, true}
 use Rattle.std.specs.Prelude.{Ok, if◌then◌else◌}
-use Rattle.armus_base.specs.Runs.{IsMaximal, places}
+use Rattle.armus_base.specs.Runs.{IsMaximal, state_after}
 use Rattle.armus_base.specs.States.{Step}
 use Rattle.clock_syntax.specs.Grammar.{IsClockText}
 use Rattle.clock_syntax.specs.Trees.{ClockTree}
 use Rattle.clock_semantics.specs.Unfolding.{ClockUnfolding, clock_unfolded, plan_of_moves}
+use Rattle.explain_facts.specs.RunStates.{done_after}
 use Rattle.explain_steps.specs.SerialRuns.{IsSerialRun}
 use Rattle.explain_steps.specs.calls.SerialRuns.{IsWholeSerialRun}
 use Rattle.explain_steps.proofs.OneSerialRun.{one_serial_run}
@@ -78,7 +79,7 @@ module _ (form : Form) (text : Text) where
       let (steps, whole) = serial_run_exists (plan_of_moves u) (checked_moves p u is) in
       let run = serial_is_plain (plan_of_moves u) steps whole.serial in
       let (shown, are_shown) = clock_showing_exists text p u (plan_of_moves u) steps in
-      let (lines, waits, explains) = told_clock_exists form text p u (plan_of_moves u) (places steps) reads is refl in (
+      let (lines, waits, explains) = told_clock_exists form text p u (plan_of_moves u) (state_after steps) (done_after steps) reads is refl in (
         (if waits then 1 else 0),
         shown ++ lines,
         inl (record {

@@ -1,9 +1,10 @@
 -- The end of a run that avoids deadlock is explained.
 use Rattle.std.proofs.Common.{◌≡◌, ℕ, subst}
 use Rattle.std.specs.Prelude.{Ok, if◌then◌else◌}
+use Rattle.armus_base.specs.Places.{done_by}
 use Rattle.armus_base.specs.Plans.{Plan}
 use Rattle.explain_facts.specs.declared.account.Account.{Account}
-use Rattle.pl_core.specs.calls.Worlds.{places_of}
+use Rattle.pl_core.specs.calls.Worlds.{places_of, state_of}
 use Rattle.pl_plan.specs.Unfolding.{plan_of}
 use Rattle.pl_syntax.specs.Grammar.{IsText}
 use Rattle.pl_syntax.specs.declared.tree.Program.{Program}
@@ -22,10 +23,10 @@ pub refusals_same : (form : Form) (a b : Text) (p q : Program) (plan : Plan) (r 
     → IsRunWithRefusals form.file b q plan r
 refusals_same form a b p q plan r same_text same_program run =
     subst (λ (x : Text). IsRunWithRefusals form.file x q plan r) same_text
-        (subst (λ (x : Program). IsRunWithRefusals form.file a x plan r) same_program run)
+    (subst (λ (x : Program). IsRunWithRefusals form.file a x plan r) same_program run)
 
 pub end_avoided : (form : Form) (text : Text) (p : Program) (plan : Plan) (r : AvoidedRun) (run : IsRunWithRefusals form.file text p plan r) → IsText text p
-    → plan_of p ≡ Ok plan → (account : Account) (x : AvoidedExplanation) (status : ℕ) (lines : Text) → IsAccountOf text r.world.plan (places_of r.world) account
+    → plan_of p ≡ Ok plan → (account : Account) (x : AvoidedExplanation) (status : ℕ) (lines : Text) → IsAccountOf text r.world.plan (state_of r.world) (done_by (places_of r.world)) account
     → IsExplainedRun form.file text account r x → lines ≡ displayed 3 form.extent x.lines → status ≡ (if x.somebody_stays then 1 else 0) → IsAvoidedOf form text status lines
 end_avoided form text p plan r run reads unfolds account x status lines is_account is lines_are status_is = record {
   plan = plan;

@@ -1,10 +1,13 @@
 -- A text has one output, with one status.
 use Rattle.std.proofs.Common.{◌≡◌, ℕ, Option, inl, inr, subst}
 use mathlib.Core.Path.{fun_ext}
+use Rattle.armus_base.specs.Places.{done_by}
 use Rattle.armus_base.specs.Plans.{Plan}
-use Rattle.armus_base.specs.Runs.{IsMaximal, IsPlainRun, Place, places}
+use Rattle.armus_base.specs.Runs.{IsMaximal, IsPlainRun, Place, state_after}
+use Rattle.armus_base.specs.States.{State}
 use Rattle.armus_base.proofs.OneEnd.{one_end}
 use Rattle.pl_syntax.proofs.Unique.{text_or_fault}
+use Rattle.explain_facts.specs.RunStates.{done_after}
 use Rattle.explain_syntax.proofs.SomeStand.{one_refusal as one_syntax_refusal}
 use Rattle.explain_check.proofs.OneRefusal.{one_refusal as one_check_refusal}
 use Rattle.program_io.specs.Texts.{Text}
@@ -25,11 +28,13 @@ one_explained form text status other lines others a b =
     let run : IsPlainRun a.plan b.steps = subst (λ (plan : Plan). IsPlainRun plan b.steps) plans b.ended.run in
     let maximal : IsMaximal a.plan b.steps = subst (λ (plan : Plan). IsMaximal plan b.steps) plans b.ended.maximal in
     let ends = one_end a.plan b.steps a.steps (checked_plan text a.plan a.ended.plan_is) run a.ended.run maximal a.ended.maximal in
-    let of_plan : IsToldAt form text a.plan (places b.steps) others b.waits =
-    subst (λ (plan : Plan). IsToldAt form text plan (places b.steps) others b.waits) plans b.explains in
-    let of_places : IsToldAt form text a.plan (places a.steps) others b.waits =
-    subst (λ (at : ℕ → Place). IsToldAt form text a.plan at others b.waits) (fun_ext ends.0) of_plan in
-    let same = one_told form text a.plan (places a.steps) lines others a.waits b.waits a.explains of_places in (
+    let of_plan : IsToldAt form text a.plan (state_after b.steps) (done_after b.steps) others b.waits =
+    subst (λ (plan : Plan). IsToldAt form text plan (state_after b.steps) (done_after b.steps) others b.waits) plans b.explains in
+    let of_counts : IsToldAt form text a.plan (state_after b.steps) (done_after a.steps) others b.waits =
+    subst (λ (at : ℕ → Place). IsToldAt form text a.plan (state_after b.steps) (done_by at) others b.waits) (fun_ext ends.0) of_plan in
+    let of_state : IsToldAt form text a.plan (state_after a.steps) (done_after a.steps) others b.waits =
+    subst (λ (s : State). IsToldAt form text a.plan s (done_after a.steps) others b.waits) ends.1 of_counts in
+    let same = one_told form text a.plan (state_after a.steps) (done_after a.steps) lines others a.waits b.waits a.explains of_state in (
       one_status a.waits b.waits status other a.status_is b.status_is same.1,
       same.0,
     )

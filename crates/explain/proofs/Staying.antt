@@ -89,9 +89,10 @@ module _ (plan : Plan) (state : State) (standings : List Standing) (of_plan : Is
   here_stays below (t, inr (e, is)) = refused_there t (below t e is) e is (state.published t) refl
 
 -- a refused task is one of the plan
-refused_below : (plan : Plan) → IsCheckedPlan plan → (h : List Step) → IsLegalRun plan h → (t : ℕ) (e : Event) → (state_at plan (places h)).refused t ≡ Some e
+refused_below : (plan : Plan) → IsCheckedPlan plan → (h : List Step) → IsLegalRun plan h → (t : ℕ) (e : Event) → (state_after h).refused t ≡ Some e
     → t < length plan.parents
-refused_below plan checked h run t e is = go (places h t).dropped refl is
+refused_below plan checked h run t e is =
+    go (places h t).dropped refl (ap (λ (s : State). s.refused t) (sym (places_fix plan checked h run).0) ∙ is)
   where
     go : (o : Option ℕ) → (places h t).dropped ≡ o → refused_at plan t (places h t).done o ≡ Some e → t < length plan.parents
     go None same none = absurd (cc)
@@ -103,10 +104,7 @@ pub tells_staying : (file : Option Text) (text : Text) (plan : Plan) (steps : Li
 tells_staying file text plan steps lines stays plan_is ended is =
     let checked = checked_plan text plan plan_is in
     let run : IsLegalRun plan steps = avoided_legal plan steps (serial_is_avoided plan steps checked ended.0) in
-    let fixed : state_after steps ≡ state_at plan (places steps) = (places_fix plan checked steps run).0 in
-    let of_plan : IsOfPlan plan (state_at plan (places steps)) = subst (IsOfPlan plan) fixed (run_is_of_plan plan steps checked run) in
-    let told : (stays ≡ true) ↔ SomeStays (state_at plan (places steps)) = (
-      λ on. stays_here plan (state_at plan (places steps)) is.standings of_plan is.stand (sym is.tells ∙ on),
-      λ some. is.tells ∙ here_stays plan (state_at plan (places steps)) is.standings of_plan is.stand (refused_below plan checked steps run) some,
-    ) in
-    subst (λ (s : State). (stays ≡ true) ↔ SomeStays s) (sym fixed) told
+    let of_plan : IsOfPlan plan (state_after steps) = run_is_of_plan plan steps checked run in (
+      λ on. stays_here plan (state_after steps) is.standings of_plan is.stand (sym is.tells ∙ on),
+      λ some. is.tells ∙ here_stays plan (state_after steps) is.standings of_plan is.stand (refused_below plan checked steps run) some,
+    )

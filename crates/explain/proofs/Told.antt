@@ -2,9 +2,9 @@
 use Rattle.std.proofs.Common.{◌≡◌, ◌∙◌, ℕ, Bool, List, ap, refl, sym}
 use Rattle.std.specs.Prelude.{Ok}
 use Rattle.armus_base.specs.Plans.{Plan}
-use Rattle.armus_base.specs.Runs.{IsLegalRun, IsMaximal, Place, places}
+use Rattle.armus_base.specs.Runs.{IsLegalRun, IsMaximal, state_after}
 use Rattle.armus_base.specs.Serial.{IsSerialAvoidedEnd}
-use Rattle.armus_base.specs.States.{Step}
+use Rattle.armus_base.specs.States.{State, Step}
 use Rattle.clock_syntax.specs.Grammar.{IsClockText}
 use Rattle.clock_syntax.specs.Trees.{ClockTree}
 use Rattle.clock_semantics.specs.Unfolding.{ClockUnfolding, clock_unfolded, plan_of_moves}
@@ -17,6 +17,7 @@ use Rattle.explain_avoid.proofs.OneAvoided.{one_avoided_explanation}
 use Rattle.explain_clock.specs.ClockExplanations.{ExplainsActivities}
 use Rattle.explain_clock.proofs.OneExplanation.{clock_explanation_exists, one_clock_explanation}
 use Rattle.explain_deadlock.specs.Explanations.{IsExplanationAt}
+use Rattle.explain_facts.specs.RunStates.{done_after}
 use Rattle.explain_deadlock.proofs.ExplanationExists.{explanation_exists}
 use Rattle.explain_deadlock.proofs.OneExplanation.{one_explanation}
 use Rattle.program_io.specs.Texts.{Text}
@@ -37,19 +38,19 @@ is_displayed heads extent Tells whole tells = record { whole = whole; tells = te
 
 -- ---- texts of PL
 
-pub one_told : (form : Form) (text : Text) (plan : Plan) (a : ℕ → Place) (lines others : Text) (waits also : Bool) → IsToldAt form text plan a lines waits
-    → IsToldAt form text plan a others also → (lines ≡ others) × (waits ≡ also)
-one_told form text plan a lines others waits also x y =
-    let same = one_explanation form.file text plan a x.whole y.whole waits also x.tells y.tells in
+pub one_told : (form : Form) (text : Text) (plan : Plan) (s : State) (done : ℕ → ℕ) (lines others : Text) (waits also : Bool) → IsToldAt form text plan s done lines waits
+    → IsToldAt form text plan s done others also → (lines ≡ others) × (waits ≡ also)
+one_told form text plan s done lines others waits also x y =
+    let same = one_explanation form.file text plan s done x.whole y.whole waits also x.tells y.tells in
     (one_display 2 form.extent x.whole y.whole lines others same.0 x.lines_are y.lines_are, same.1)
 
 pub told_exists : (form : Form) (text : Text) (p : Program) (plan : Plan) (steps : List Step) → IsText text p → plan_of p ≡ Ok plan → IsLegalRun plan steps
-    → IsMaximal plan steps → (lines : Text) × (waits : Bool) × IsToldAt form text plan (places steps) lines waits
+    → IsMaximal plan steps → (lines : Text) × (waits : Bool) × IsToldAt form text plan (state_after steps) (done_after steps) lines waits
 told_exists form text p plan steps reads unfolds run maximal =
     let (whole, waits, explains) = explanation_exists form.file text p plan steps reads unfolds run maximal in (
       displayed 2 form.extent whole,
       waits,
-      is_displayed 2 form.extent (λ (lines : Text). IsExplanationAt form.file text plan (places steps) lines waits) whole explains,
+      is_displayed 2 form.extent (λ (lines : Text). IsExplanationAt form.file text plan (state_after steps) (done_after steps) lines waits) whole explains,
     )
 
 -- ---- runs that avoid deadlock
@@ -71,17 +72,17 @@ told_avoided_exists form text p plan steps reads unfolds ended =
 
 -- ---- clock texts
 
-pub one_told_clock : (form : Form) (text : Text) (p : ClockTree) (u : ClockUnfolding) (plan : Plan) (a : ℕ → Place) (lines others : Text) (waits also : Bool)
-    → AreToldActivities form text p u plan a lines waits → AreToldActivities form text p u plan a others also → (lines ≡ others) × (waits ≡ also)
-one_told_clock form text p u plan a lines others waits also x y =
-    let same = one_clock_explanation form.file text p u plan a x.whole y.whole waits also x.tells y.tells in
+pub one_told_clock : (form : Form) (text : Text) (p : ClockTree) (u : ClockUnfolding) (plan : Plan) (s : State) (done : ℕ → ℕ) (lines others : Text) (waits also : Bool)
+    → AreToldActivities form text p u plan s done lines waits → AreToldActivities form text p u plan s done others also → (lines ≡ others) × (waits ≡ also)
+one_told_clock form text p u plan s done lines others waits also x y =
+    let same = one_clock_explanation form.file text p u plan s done x.whole y.whole waits also x.tells y.tells in
     (one_display 2 form.extent x.whole y.whole lines others same.0 x.lines_are y.lines_are, same.1)
 
-pub told_clock_exists : (form : Form) (text : Text) (p : ClockTree) (u : ClockUnfolding) (plan : Plan) (a : ℕ → Place) → IsClockText text p → clock_unfolded p ≡ Ok u
-    → plan ≡ plan_of_moves u → (lines : Text) × (waits : Bool) × AreToldActivities form text p u plan a lines waits
-told_clock_exists form text p u plan a reads unfolds plan_is =
-    let (whole, waits, explains) = clock_explanation_exists form.file text p u plan a reads unfolds plan_is in (
+pub told_clock_exists : (form : Form) (text : Text) (p : ClockTree) (u : ClockUnfolding) (plan : Plan) (s : State) (done : ℕ → ℕ) → IsClockText text p → clock_unfolded p ≡ Ok u
+    → plan ≡ plan_of_moves u → (lines : Text) × (waits : Bool) × AreToldActivities form text p u plan s done lines waits
+told_clock_exists form text p u plan s done reads unfolds plan_is =
+    let (whole, waits, explains) = clock_explanation_exists form.file text p u plan s done reads unfolds plan_is in (
       displayed 2 form.extent whole,
       waits,
-      is_displayed 2 form.extent (λ (lines : Text). ExplainsActivities form.file text p u plan a lines waits) whole explains,
+      is_displayed 2 form.extent (λ (lines : Text). ExplainsActivities form.file text p u plan s done lines waits) whole explains,
     )

@@ -11,13 +11,12 @@ use Rattle.armus_base.specs.declared.event.Event.{Event}
 use Rattle.armus_base.specs.declared.ids.TaskId.{TaskId}
 use Rattle.armus_base.specs.calls.FinalLaws.{IsOfPlan}
 use Rattle.armus_base.specs.Finals.{end_by, end_of, final_of, list_below}
-use Rattle.armus_base.specs.Places.{state_at}
 use Rattle.armus_base.specs.Plans.{Plan}
-use Rattle.armus_base.specs.Runs.{places, state_after}
+use Rattle.armus_base.specs.Runs.{state_after}
 use Rattle.armus_base.specs.States.{Phases, State, Step}
 use Rattle.armus_base.proofs.DeadByStatuses.{run_is_of_plan}
 use Rattle.armus_base.proofs.EndsTell.{ends_are}
-use Rattle.armus_base.proofs.Stepping.{places_fix}
+use Rattle.explain_facts.specs.RunStates.{done_after}
 use Rattle.report.specs.Standings.{AreStandings, Stands}
 use Rattle.report.specs.declared.standing.Standing.{Standing}
 use Rattle.report.specs.declared.standing.Standing.TheVariants as way
@@ -90,10 +89,7 @@ module _ (plan : Plan) (state : State) (f : FactsValue) (of_plan : IsOfPlan plan
 
 -- somebody waits by the explanation of a run just where a task of the state in which it ends waits
 pub tells_waiting : (form : Form) (text : Text) (plan : Plan) (steps : List Step) (lines : List ℕ) (some : Bool) → IsEndedRunOf text plan steps
-    → IsToldAt form text plan (places steps) lines some → (some ≡ true) ↔ ((t : ℕ) × WaitsIn (state_after steps) t)
+    → IsToldAt form text plan (state_after steps) (done_after steps) lines some → (some ≡ true) ↔ ((t : ℕ) × WaitsIn (state_after steps) t)
 tells_waiting form text plan steps lines some ended is =
     let checked = checked_plan text plan ended.plan_is in
-    let fixed : state_after steps ≡ state_at plan (places steps) = (places_fix plan checked steps ended.run.0).0 in
-    let of_plan : IsOfPlan plan (state_at plan (places steps)) = subst (IsOfPlan plan) fixed (run_is_of_plan plan steps checked ended.run.0) in
-    let told = explains_waiting plan (state_at plan (places steps)) _ of_plan is.tells.explains.stand _ _ is.whole some is.tells.explains.explains in
-    subst (λ (s : State). (some ≡ true) ↔ ((t : ℕ) × WaitsIn s t)) (sym fixed) told
+    explains_waiting plan (state_after steps) _ (run_is_of_plan plan steps checked ended.run.0) is.tells.explains.stand _ _ is.whole some is.tells.explains.explains

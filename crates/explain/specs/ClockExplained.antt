@@ -1,7 +1,7 @@
 -- What is written where a clock text is explained or refused.
 use Rattle.std.specs.Prelude.{◌≡◌, ◌⊎◌, ℕ, Bool, if◌then◌else◌, List, Option, Ok, Err}
 use Rattle.armus_base.specs.Plans.{Plan}
-use Rattle.armus_base.specs.Runs.{IsMaximal, IsPlainRun, Place, places, state_after}
+use Rattle.armus_base.specs.Runs.{IsMaximal, IsPlainRun, state_after}
 use Rattle.armus_base.specs.States.{State, Step}
 use Rattle.pl_syntax.specs.declared.fault.SyntaxFault.{SyntaxFault}
 use Rattle.pl_plan.specs.declared.fault.CheckFault.{CheckFault}
@@ -11,6 +11,7 @@ use Rattle.clock_semantics.specs.Unfolding.{ClockUnfolding, clock_unfolded, plan
 use Rattle.clock_laws.specs.TextLaws.{EndsAreTold}
 use Rattle.clock_source_map.specs.ClockOffsets.{clock_offsets}
 use Rattle.explain_clock.specs.ClockExplanations.{ExplainsActivities}
+use Rattle.explain_facts.specs.RunStates.{done_after}
 use Rattle.explain_clock.specs.ClockRefusals.{clock_fault_lines, clock_syntax_lines}
 use Rattle.program_io.specs.Texts.{Text}
 use Rattle.explain.specs.Explained.{IsStatusBy, SomeWaits}
@@ -26,9 +27,9 @@ pub record IsMaximalClockRun (text : Text) (program : ClockTree) (unfolded : Clo
   pub maximal : IsMaximal (plan_of_moves unfolded) steps
   pub told : EndsAreTold program unfolded (state_after steps)
 
--- the lines show, in this form, the explanation of how the activities stand at these places of the plan of the program's unfolding, and it tells whether one waits
-abbrev pub AreToldActivities : Form → Text → ClockTree → ClockUnfolding → Plan → (ℕ → Place) → Text → Bool → Type 0
-AreToldActivities form text p u plan a lines waits = IsDisplayed 2 form.extent (λ whole. ExplainsActivities form.file text p u plan a whole waits) lines
+-- the lines show, in this form, the explanation of how the activities stand in this state of the plan of the program's unfolding, and it tells whether one waits
+abbrev pub AreToldActivities : Form → Text → ClockTree → ClockUnfolding → Plan → State → (ℕ → ℕ) → Text → Bool → Type 0
+AreToldActivities form text p u plan s done lines waits = IsDisplayed 2 form.extent (λ whole. ExplainsActivities form.file text p u plan s done whole waits) lines
 
 -- the lines explain how the activities stand where a run of the clock text, told in this form, has ended; and the status is 1 where one
 -- of them waits, else 0
@@ -38,7 +39,7 @@ pub record IsClockExplanationOf (form : Form) (text : Text) (status : ℕ) (line
   pub steps : List Step
   pub ended : IsMaximalClockRun text program unfolded steps
   pub waits : Bool
-  pub explains : AreToldActivities form text program unfolded (plan_of_moves unfolded) (places steps) lines waits
+  pub explains : AreToldActivities form text program unfolded (plan_of_moves unfolded) (state_after steps) (done_after steps) lines waits
   pub status_is : status ≡ (if waits then 1 else 0)
 
 -- the lines of a clock text that is refused: for its first syntax fault, or else for the first fault of its unfolding

@@ -2,17 +2,18 @@
 use Rattle.std.specs.Prelude.{◌≡◌, ◌↔◌, ℕ, Bool, if◌then◌else◌, List, Option, Some}
 use Rattle.armus_base.specs.declared.event.Event.{Event}
 use Rattle.armus_base.specs.Plans.{Plan}
-use Rattle.armus_base.specs.Runs.{IsMaximal, IsPlainRun, Place, places, state_after}
+use Rattle.armus_base.specs.Runs.{IsMaximal, IsPlainRun, state_after}
 use Rattle.armus_base.specs.States.{State, Step}
 use Rattle.explain_deadlock.specs.Explanations.{IsExplanationAt}
+use Rattle.explain_facts.specs.RunStates.{done_after}
 use Rattle.program_io.specs.Texts.{Text}
 use Rattle.program_io.specs.Programs.{IsPlanOf}
 use Rattle.explain.specs.Requests.{Form}
 use Rattle.explain.specs.Shortened.{IsDisplayed}
 
--- the lines show, in this form, the explanation of how the tasks of the text's plan stand at these places, and it tells whether somebody waits for ever
-abbrev pub IsToldAt : Form → Text → Plan → (ℕ → Place) → Text → Bool → Type 0
-IsToldAt form text plan a lines waits = IsDisplayed 2 form.extent (λ whole. IsExplanationAt form.file text plan a whole waits) lines
+-- the lines show, in this form, the explanation of how the tasks of the text's plan stand in this state, where each has done so many actions of its code, and it tells whether somebody waits for ever
+abbrev pub IsToldAt : Form → Text → Plan → State → (ℕ → ℕ) → Text → Bool → Type 0
+IsToldAt form text plan s done lines waits = IsDisplayed 2 form.extent (λ whole. IsExplanationAt form.file text plan s done whole waits) lines
 
 -- these steps are a run of the text's plan up to its end: a plain one that is maximal
 pub record IsEndedRunOf (text : Text) (plan : Plan) (steps : List Step) : Type 0 where
@@ -27,7 +28,7 @@ pub record IsExplanationOf (form : Form) (text : Text) (status : ℕ) (lines : T
   pub steps : List Step
   pub ended : IsEndedRunOf text plan steps
   pub waits : Bool
-  pub explains : IsToldAt form text plan (places steps) lines waits
+  pub explains : IsToldAt form text plan (state_after steps) (done_after steps) lines waits
   pub status_is : status ≡ (if waits then 1 else 0)
 
 -- task t waits in the state

@@ -1,9 +1,10 @@
 -- What is written where the steps of a text's run are shown.
 use Rattle.std.specs.Prelude.{◌≡◌, ◌++◌, ℕ, Bool, if◌then◌else◌, List, Option}
 use Rattle.armus_base.specs.Plans.{Plan}
-use Rattle.armus_base.specs.Runs.{places}
+use Rattle.armus_base.specs.Runs.{state_after}
 use Rattle.armus_base.specs.States.{Step}
 use Rattle.pl_syntax.specs.declared.tree.Program.{Program}
+use Rattle.explain_facts.specs.RunStates.{done_after}
 use Rattle.explain_steps.specs.SerialRuns.{IsSerialRun}
 use Rattle.explain_steps.specs.ShownSteps.{AreShown}
 use Rattle.program_io.specs.Texts.{Text}
@@ -22,6 +23,6 @@ pub record AreStepsOf (form : Form) (text : Text) (status : ℕ) (lines : Text) 
   pub are_shown : AreShown text program plan steps shown
   pub explanation : Text
   pub waits : Bool
-  pub explains : IsToldAt form text plan (places steps) explanation waits
+  pub explains : IsToldAt form text plan (state_after steps) (done_after steps) explanation waits
   pub status_is : status ≡ (if waits then 1 else 0)
   pub lines_are : lines ≡ shown ++ explanation

@@ -1,6 +1,7 @@
 // What is written of a clock text that is not refused.
 ghost use Rattle.std.specs.Prelude.{◌≡◌, IfOk, Ok};
 ghost use Rattle.armus_base.specs.Finals.{final_of};
+ghost use Rattle.armus_base.specs.Places.{done_by};
 ghost use Rattle.clock_semantics.specs.Unfolding.{ClockUnfolding, clock_unfolded};
 ghost use Rattle.pl_core.specs.calls.Worlds.{places_of, state_of};
 ghost use Rattle.program_io.specs.calls.ExitNumbers.{number_of_status};
@@ -50,7 +51,7 @@ impl<'t> CheckedClocks<'t> {
         requires plan { world.now.plan ≡ self.now.plan }
         requires end { end.now ≡ final_of self.now.plan (state_of world.now) }
         ensures { IfOk result (λ e. (u : ClockUnfolding) → clock_unfolded self.now.program.now.body ≡ Ok u →
-            AreToldActivities (form_with self.now.file self.now.extent) self.now.places.now self.now.program.now.body u world.now.plan (places_of world.now) e.lines e.has_waiting) }
+            AreToldActivities (form_with self.now.file self.now.extent) self.now.places.now self.now.program.now.body u world.now.plan (state_of world.now) (done_by (places_of world.now)) e.lines e.has_waiting) }
     {
         let explanation = clock_explanation_of(
             alloc,

@@ -1,6 +1,7 @@
 // What is written of a text of PL that is not refused.
 ghost use Rattle.std.specs.Prelude.{◌≡◌, IfOk};
 ghost use Rattle.armus_base.specs.Finals.{final_of};
+ghost use Rattle.armus_base.specs.Places.{done_by};
 ghost use Rattle.pl_core.specs.calls.Worlds.{places_of, state_of};
 ghost use Rattle.explain_deadlock.specs.RunEnds.{IsAccountOf};
 ghost use Rattle.world_runs.specs.calls.EndWorlds.{IsEndWorld};
@@ -66,7 +67,7 @@ impl<'t> CheckedText<'t> {
         requires facts { AreFactsOf self.now facts }
         requires plan { world.now.plan ≡ self.now.unfolded.plan }
         requires end { end.now ≡ final_of self.now.unfolded.plan (state_of world.now) }
-        ensures account { IfOk result (IsAccountOf self.now.places.now world.now.plan (places_of world.now)) }
+        ensures account { IfOk result (IsAccountOf self.now.places.now world.now.plan (state_of world.now) (done_by (places_of world.now))) }
     {
         let account = account_of(facts, world, end.ends.as_slice())?;
         Ok(account)
@@ -84,7 +85,7 @@ impl<'t> CheckedText<'t> {
         requires facts { AreFactsOf self.now facts }
         requires ended { IsEndWorld self.now.unfolded.plan world.now }
         requires end { end.now ≡ final_of self.now.unfolded.plan (state_of world.now) }
-        ensures { IfOk result (λ e. IsToldAt (form_with self.now.file self.now.extent) self.now.places.now world.now.plan (places_of world.now) e.lines e.has_waiting) }
+        ensures { IfOk result (λ e. IsToldAt (form_with self.now.file self.now.extent) self.now.places.now world.now.plan (state_of world.now) (done_by (places_of world.now)) e.lines e.has_waiting) }
     {
         let account = self.account(facts, world, end)?;
         let explanation = explanation_of(alloc, self.places, self.file, &account, world, end)?;

@@ -9,7 +9,7 @@ use Rattle.armus_base.specs.CheckedPlans.{IsCheckedPlan}
 use Rattle.armus_base.specs.Deadlocks.{WouldBeDead}
 use Rattle.armus_base.specs.calls.FinalLaws.{IsOfPlan}
 use Rattle.armus_base.specs.Finals.{final_of}
-use Rattle.armus_base.specs.Places.{state_at}
+use Rattle.armus_base.specs.Places.{done_by}
 use Rattle.armus_base.specs.Plans.{Action, Advances, Aim, Blocks, Drops, Forks, Makes, Passes, Plan, Refuses, Registers}
 use Rattle.armus_base.specs.Runs.{IsByCode, IsLegalRun, IsNextStep, places, state_after}
 use Rattle.armus_base.specs.States.{Step, awaited, if_published, updated}
@@ -102,9 +102,9 @@ avoided_explanation_exists file text p plan steps is unfolds ended =
     let run = serial_is_avoided plan steps checked ended.0 in
     let (layout, of_text, is_layout) = layout_exists text p is in
     let (refusals, each) = texts file layout p plan checked steps run in
-    let reach = leads_there plan steps (avoided_legal plan steps run) in
-    let (account, known) = account_exists text p plan (places steps) is unfolds reach in
-    let s = state_at plan (places steps) in
+    let there = leads_there plan steps (avoided_legal plan steps run) in
+    let s = state_after steps in
+    let (account, known) = account_exists text p plan s (done_by (places steps)) is unfolds there in
     let (report, reports) = report_exists (final_of plan s) Auto in (
       avoided_words (facts_of text file account reports.standings) s.phases refusals,
       somebody_stays reports.standings,

@@ -5,7 +5,7 @@ use Rattle.armus_base.specs.declared.event.Event.{Event}
 use Rattle.armus_base.specs.declared.ids.TaskId.{TaskId}
 use Rattle.armus_base.specs.Deadlocks.{IsDeadBy}
 use Rattle.armus_base.specs.Finals.{final_of}
-use Rattle.armus_base.specs.Places.{state_at}
+use Rattle.armus_base.specs.Places.{done_by}
 use Rattle.armus_base.specs.Plans.{Action, Advances, Aim, Blocks, Drops, Forks, Makes, Passes, Plan, Refuses, Registers, code_of}
 use Rattle.armus_base.specs.Runs.{places, state_after}
 use Rattle.armus_base.specs.States.{Step, if_published}
@@ -78,9 +78,10 @@ pub one_avoided_explanation : OneAvoidedExplanation
 one_avoided_explanation file text plan steps lines other stays also x y =
     let programs : x.is_account.program ≡ y.is_account.program =
     one_tree text x.is_account.program y.is_account.program x.is_account.known.reads y.is_account.known.reads in
-    let known = subst (λ (p : Program). IsAccount text p plan (places steps) x.account) programs x.is_account.known in
-    let accounts : x.account ≡ y.account = one_account text y.is_account.program plan (places steps) x.account y.account known y.is_account.known in
-    let s = state_at plan (places steps) in
+    let s = state_after steps in
+    let done = done_by (places steps) in
+    let known = subst (λ (p : Program). IsAccount text p plan s done x.account) programs x.is_account.known in
+    let accounts : x.account ≡ y.account = one_account text y.is_account.program plan s done x.account y.account known y.is_account.known in
     let all : x.standings ≡ y.standings = one_standings (IsDeadBy (final_of plan s).blocked) (final_of plan s).ends x.standings y.standings x.stand y.stand in
     let told : x.refusals ≡ y.refusals = one_refusals file text x.program y.program plan steps x.refusals y.refusals x.are_refusals y.are_refusals in (
       x.lines_are

@@ -2,14 +2,14 @@
 use Rattle.std.specs.Prelude.{◌≡◌, ℕ, Bool, List, Option}
 use Rattle.armus_base.specs.Deadlocks.{IsDeadBy}
 use Rattle.armus_base.specs.Finals.{final_of}
-use Rattle.armus_base.specs.Places.{state_at}
 use Rattle.armus_base.specs.Plans.{Plan}
-use Rattle.armus_base.specs.Runs.{places}
+use Rattle.armus_base.specs.Runs.{state_after}
 use Rattle.armus_base.specs.Serial.{IsSerialAvoidedEnd}
 use Rattle.armus_base.specs.States.{Step}
 use Rattle.pl_syntax.specs.Grammar.{IsText}
 use Rattle.pl_syntax.specs.declared.tree.Program.{Program}
 use Rattle.explain_facts.specs.Accounts.{IsLayout, Layout}
+use Rattle.explain_facts.specs.RunStates.{done_after}
 use Rattle.explain_facts.specs.declared.account.Account.{Account}
 use Rattle.explain_deadlock.specs.RunEnds.{IsAccountOf}
 use Rattle.report.specs.Standings.{AreStandings}
@@ -34,8 +34,8 @@ pub record IsAvoidedExplanation (file : Option (List ℕ)) (text : List ℕ) (pl
   pub refusals : List ℕ
   pub are_refusals : AreRefusalsOf file text program plan steps refusals
   pub account : Account
-  pub is_account : IsAccountOf text plan (places steps) account
+  pub is_account : IsAccountOf text plan (state_after steps) (done_after steps) account
   pub standings : List Standing
-  pub stand : AreStandings (IsDeadBy (final_of plan (state_at plan (places steps))).blocked) (final_of plan (state_at plan (places steps))).ends standings
-  pub lines_are : lines ≡ avoided_words (facts_of text file account standings) (state_at plan (places steps)).phases refusals
+  pub stand : AreStandings (IsDeadBy (final_of plan (state_after steps)).blocked) (final_of plan (state_after steps)).ends standings
+  pub lines_are : lines ≡ avoided_words (facts_of text file account standings) (state_after steps).phases refusals
   pub tells : stays ≡ somebody_stays standings

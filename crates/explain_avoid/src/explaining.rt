@@ -1,6 +1,7 @@
 // The explanation of a run that avoids deadlock.
 ghost use Rattle.std.specs.Prelude.{◌≡◌, ◌++◌, ◌<◌, ◌^◌, IfOk, OnOk, length, option_copied};
 ghost use Rattle.armus_base.specs.Finals.{final_of};
+ghost use Rattle.armus_base.specs.Places.{done_by};
 ghost use Rattle.pl_core.specs.calls.Worlds.{places_of, state_of};
 ghost use Rattle.report.specs.Counts.{counts_of};
 ghost use Rattle.report.specs.Lines.{counts_line};
@@ -145,7 +146,7 @@ pub fn avoided_explanation_of(
     account: &Account,
     run: &AvoidedRun,
 ) -> Result<AvoidedExplanation, NoMemory>
-    requires account { IsAccountOf places.now run.now.world.plan (places_of run.now.world) account.now }
+    requires account { IsAccountOf places.now run.now.world.plan (state_of run.now.world) (done_by (places_of run.now.world)) account.now }
     requires end { run.now.end ≡ final_of run.now.world.plan (state_of run.now.world) }
     ensures { IfOk result (IsExplainedRun (option_copied file.entry) places.now account.now run.now) }
 {

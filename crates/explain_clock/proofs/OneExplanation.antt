@@ -6,9 +6,8 @@ use Rattle.armus_base.specs.declared.ending.TaskEnd.TheVariants.{Blocked, Done, 
 use Rattle.armus_base.specs.declared.op.Op.{Op}
 use Rattle.armus_base.specs.declared.status.Status.{Status}
 use Rattle.armus_base.specs.Finals.{end_of, final_of, list_below}
-use Rattle.armus_base.specs.Places.{state_at}
 use Rattle.armus_base.specs.Plans.{Plan, code_of}
-use Rattle.armus_base.specs.Runs.{Place}
+use Rattle.armus_base.specs.States.{State}
 use Rattle.explain_facts.proofs.AtSomeOp.{at_some_op}
 use Rattle.clock_syntax.specs.Trees.{ClockTree}
 use Rattle.clock_semantics.specs.Unfolding.{ClockUnfolding}
@@ -43,15 +42,15 @@ same_facts :
 same_facts a a' f f' g g' h h' p u v w = cc
 
 one_facts :
-    (file : Option (List ℕ)) (text : List ℕ) (p : ClockTree) (u : ClockUnfolding) (plan : Plan) (a : ℕ → Place) (f g : ClockFacts) →
-    AreClockFacts file text p u plan a f → AreClockFacts file text p u plan a g → f ≡ g
-one_facts file text p u plan a f g x y =
+    (file : Option (List ℕ)) (text : List ℕ) (p : ClockTree) (u : ClockUnfolding) (plan : Plan) (s : State) (done : ℕ → ℕ) (f g : ClockFacts) →
+    AreClockFacts file text p u plan s done f → AreClockFacts file text p u plan s done g → f ≡ g
+one_facts file text p u plan s done f g x y =
     same_facts f.of_text g.of_text f.ends g.ends f.blocked g.blocked f.waits g.waits (one_text_facts file text p u f.of_text g.of_text x.text_facts y.text_facts)
-    (x.ends_are ∙ sym y.ends_are) (x.blocked_are ∙ sym y.blocked_are) (one_list (all_waits u) (all_op_origins u) plan a f.waits g.waits x.waits_are y.waits_are)
+    (x.ends_are ∙ sym y.ends_are) (x.blocked_are ∙ sym y.blocked_are) (one_list (all_waits u) (all_op_origins u) plan s done f.waits g.waits x.waits_are y.waits_are)
 
 pub one_clock_explanation : OneClockExplanation
-one_clock_explanation file text p u plan a lines others waits other x y =
-    let same = one_facts file text p u plan a x.facts y.facts x.are_facts y.are_facts in
+one_clock_explanation file text p u plan s done lines others waits other x y =
+    let same = one_facts file text p u plan s done x.facts y.facts x.are_facts y.are_facts in
     let own : IsClockCircle y.facts.blocked x.circle = subst (λ (f : ClockFacts). IsClockCircle f.blocked x.circle) same x.circle_is in
     let circles : x.circle ≡ y.circle = one_circle y.facts.blocked x.circle y.circle own y.circle_is in (
       x.lines_are ∙ ap (λ (f : ClockFacts). clock_lines f x.circle) same ∙ ap (clock_lines y.facts) circles ∙ sym y.lines_are,
@@ -77,16 +76,16 @@ wait_exists code own ops clocks done Done = (no_wait, record { statement_is = re
 wait_exists code own ops clocks done (Refused e) = (no_wait, record { statement_is = refl; pending_is = refl; ahead_is = refl })
 wait_exists code own ops clocks done Unforked = (no_wait, record { statement_is = refl; pending_is = refl; ahead_is = refl })
 
-module _ (waits : List (List ℕ)) (origins : List (List (Option ℕ))) (plan : Plan) (a : ℕ → Place) where
-  told_exists : (n : ℕ) → (ws : List ClockWait) × AreTold waits origins plan a n ws
-  told_exists zero = ([], told_none waits origins plan a)
+module _ (waits : List (List ℕ)) (origins : List (List (Option ℕ))) (plan : Plan) (s : State) (done : ℕ → ℕ) where
+  told_exists : (n : ℕ) → (ws : List ClockWait) × AreTold waits origins plan s done n ws
+  told_exists zero = ([], told_none waits origins plan s done)
   told_exists (suc n) =
       let (ws, told) = told_exists n in
       let (w, is) =
-      wait_exists (code_of plan n) (slice_index_or waits n []) (slice_index_or origins n []) (length plan.makers) (a n).done (end_of (state_at plan a) n) in (
+      wait_exists (code_of plan n) (slice_index_or waits n []) (slice_index_or origins n []) (length plan.makers) (done n) (end_of s n) in (
         ws ++ w ∷ [],
-        subst (λ k. AreTold waits origins plan a k (ws ++ w ∷ [])) (let same : n + 1 ≡ suc n = omega arith in same)
-            (told_more waits origins plan a n ws (ws ++ w ∷ []) w told refl is),
+        subst (λ k. AreTold waits origins plan s done k (ws ++ w ∷ [])) (let same : n + 1 ≡ suc n = omega arith in same)
+            (told_more waits origins plan s done n ws (ws ++ w ∷ []) w told refl is),
       )
 
 -- a text has some
@@ -97,12 +96,12 @@ pub are_facts_of_text : (file : Option (List ℕ)) (text : List ℕ) (p : ClockT
 are_facts_of_text file text p u = record { text_is = refl; file_is = refl; offsets_are = refl; begun_are = refl; things_are = refl }
 
 pub clock_explanation_exists : ClockExplanationExists
-clock_explanation_exists file text p u plan a reads unfolds plan_is =
-    let (ws, told) = told_exists (all_waits u) (all_op_origins u) plan a (length plan.parents) in
+clock_explanation_exists file text p u plan s done reads unfolds plan_is =
+    let (ws, told) = told_exists (all_waits u) (all_op_origins u) plan s done (length plan.parents) in
     let facts : ClockFacts = record {
       of_text = facts_of_text file text p u;
-      ends = (final_of plan (state_at plan a)).ends;
-      blocked = (final_of plan (state_at plan a)).blocked;
+      ends = (final_of plan s).ends;
+      blocked = (final_of plan s).blocked;
       waits = ws;
     } in
     let (circle, circle_is) = some_circle facts.blocked in (
@@ -117,7 +116,7 @@ clock_explanation_exists file text p u plan a reads unfolds plan_is =
           text_facts = are_facts_of_text file text p u;
           ends_are = refl;
           blocked_are = refl;
-          waits_are = told_all (all_waits u) (all_op_origins u) plan a (length plan.parents) ws refl told;
+          waits_are = told_all (all_waits u) (all_op_origins u) plan s done (length plan.parents) ws refl told;
         };
         circle = circle;
         circle_is = circle_is;

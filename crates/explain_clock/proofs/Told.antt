@@ -6,9 +6,8 @@ use Rattle.std.proofs.lemmas.List.{get_or_append_left, same_lists}
 use Rattle.std.proofs.lemmas.Option.{get_or_from_slice_get}
 use Rattle.std.proofs.Math.Seq.{get_or-append_seam}
 use Rattle.armus_base.specs.Finals.{end_of, list_below}
-use Rattle.armus_base.specs.Places.{state_at}
 use Rattle.armus_base.specs.Plans.{Plan, code_of}
-use Rattle.armus_base.specs.Runs.{Place}
+use Rattle.armus_base.specs.States.{State}
 use Rattle.armus_base.specs.declared.ending.TaskEnd.{TaskEnd}
 use Rattle.armus_base.specs.declared.ending.TaskEnd.TheVariants.{Blocked, Done, Refused, Unforked}
 use Rattle.armus_base.specs.declared.op.Op.{Op}
@@ -22,9 +21,9 @@ use Rattle.clock_source_map.specs.ClockOps.{is_await}
 pub list_at : {A : Type 0} (f : ℕ → A) (n t : ℕ) (xs : List A) (d : A) → xs ≡ list_below f n → t < n → slice_index_or xs t d ≡ f t
 list_at f n t xs d is lt = ap (λ ys. slice_index_or ys t d) is ∙ get_or_from_slice_get (list_below f n) t (f t) d (list_below-at f n t lt)
 
-module _ (waits : List (List ℕ)) (origins : List (List (Option ℕ))) (plan : Plan) (a : ℕ → Place) where
+module _ (waits : List (List ℕ)) (origins : List (List (Option ℕ))) (plan : Plan) (s : State) (done : ℕ → ℕ) where
   abbrev pub IsWait : ℕ → ClockWait → Type 0
-  IsWait t w = IsWaitBy (code_of plan t) (slice_index_or waits t []) (slice_index_or origins t []) (length plan.makers) (a t).done (end_of (state_at plan a) t) w
+  IsWait t w = IsWaitBy (code_of plan t) (slice_index_or waits t []) (slice_index_or origins t []) (length plan.makers) (done t) (end_of s t) w
 
   -- the first n activities wait so
   pub record AreTold (n : ℕ) (ws : List ClockWait) : Type 0 where
@@ -49,7 +48,7 @@ module _ (waits : List (List ℕ)) (origins : List (List (Option ℕ))) (plan : 
           let within : t < length ws = omega (arith, told.all) in
           subst (IsWait t) (sym (get_or_append_left ws (own ∷ []) d t within)) (told.each t d before)
 
-  pub told_all : (n : ℕ) (ws : List ClockWait) → n ≡ length plan.parents → AreTold n ws → AreWaitsAt waits origins plan a ws
+  pub told_all : (n : ℕ) (ws : List ClockWait) → n ≡ length plan.parents → AreTold n ws → AreWaitsAt waits origins plan s done ws
   told_all n ws same told = record {
     all = told.all ∙ same;
     each = λ t d lt. told.each t d (omega (arith, same, lt));
@@ -78,9 +77,9 @@ module _ (waits : List (List ℕ)) (origins : List (List (Option ℕ))) (plan : 
   one_wait code own ops clocks done (Refused e) w v x y = same_none w v x y
   one_wait code own ops clocks done Unforked w v x y = same_none w v x y
 
-  pub one_list : (ws vs : List ClockWait) → AreWaitsAt waits origins plan a ws → AreWaitsAt waits origins plan a vs → ws ≡ vs
+  pub one_list : (ws vs : List ClockWait) → AreWaitsAt waits origins plan s done ws → AreWaitsAt waits origins plan s done vs → ws ≡ vs
   one_list ws vs x y =
       same_lists ws vs (x.all ∙ sym y.all) (λ t d lt.
       let within : t < length plan.parents = omega (arith, x.all, lt) in
-      one_wait (code_of plan t) (slice_index_or waits t []) (slice_index_or origins t []) (length plan.makers) (a t).done (end_of (state_at plan a) t) (slice_index_or ws t d) (slice_index_or vs t d)
+      one_wait (code_of plan t) (slice_index_or waits t []) (slice_index_or origins t []) (length plan.makers) (done t) (end_of s t) (slice_index_or ws t d) (slice_index_or vs t d)
       (x.each t d within) (y.each t d within))

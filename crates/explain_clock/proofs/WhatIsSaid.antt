@@ -6,9 +6,8 @@ use Rattle.armus_base.specs.declared.event.Event.{Event}
 use Rattle.armus_base.specs.CheckedPlans.{IsCheckedPlan}
 use Rattle.armus_base.specs.calls.FinalLaws.{IsOfPlan}
 use Rattle.armus_base.specs.Finals.{end_by, end_of, is_awaited, statuses_on}
-use Rattle.armus_base.specs.Places.{state_at}
 use Rattle.armus_base.specs.Plans.{Passes, Plan}
-use Rattle.armus_base.specs.Runs.{IsFinal, Place}
+use Rattle.armus_base.specs.Runs.{IsFinal}
 use Rattle.armus_base.specs.States.{State}
 use Rattle.armus_base.proofs.DeadByStatuses.{run_is_of_plan}
 use Rattle.armus_base.proofs.Below.{length-list_below}
@@ -31,11 +30,8 @@ use Rattle.explain_clock.proofs.Named.{ascending, behind, from_behind, keepers_n
 use Rattle.explain_clock.proofs.Standing.{stands_in_none, stands_in_one, told_alone, told_once, told_there, told_with_it}
 use Rattle.explain_clock.proofs.Told.{list_at}
 
-module _ (file : Option (List ℕ)) (text : List ℕ) (p : ClockTree) (u : ClockUnfolding) (plan : Plan) (a : ℕ → Place) (lines : List ℕ) (waits : Bool)
-    (x : ExplainsActivities file text p u plan a lines waits) (final : IsFinal plan (state_at plan a)) where
-  abbrev end_state : State
-  end_state = state_at plan a
-
+module _ (file : Option (List ℕ)) (text : List ℕ) (p : ClockTree) (u : ClockUnfolding) (plan : Plan) (end_state : State) (done : ℕ → ℕ) (lines : List ℕ) (waits : Bool)
+    (x : ExplainsActivities file text p u plan end_state done lines waits) (final : IsFinal plan end_state) where
   checked : IsCheckedPlan plan
   checked = subst IsCheckedPlan (sym x.plan_is) (clock_plan_is_checked p (plan_of_moves u) (plan_is p u x.unfolds))
 
@@ -98,7 +94,7 @@ module _ (file : Option (List ℕ)) (text : List ℕ) (p : ClockTree) (u : Clock
       }
 
 pub each_has_its_paragraph : EachHasItsParagraph
-each_has_its_paragraph file text p u plan a lines waits x t final within = said file text p u plan a lines waits x final t within
+each_has_its_paragraph file text p u plan s done lines waits x t final within = said file text p u plan s done lines waits x final t within
 
 pub those_behind_are_named : ThoseBehindAreNamed
-those_behind_are_named file text p u plan a lines waits x t e final published = those_behind file text p u plan a lines waits x final t e published
+those_behind_are_named file text p u plan s done lines waits x t e final published = those_behind file text p u plan s done lines waits x final t e published

@@ -7,7 +7,7 @@ use Rattle.armus_base.specs.declared.event.Event.{Event}
 use Rattle.armus_base.specs.declared.ids.TaskId.{TaskId}
 use Rattle.armus_base.specs.Finals.{list_below}
 use Rattle.armus_base.specs.Plans.{Plan}
-use Rattle.armus_base.specs.Runs.{Place}
+use Rattle.armus_base.specs.States.{State}
 use Rattle.pl_syntax.specs.Printed.{line}
 use Rattle.clock_syntax.specs.Grammar.{IsClockText}
 use Rattle.clock_syntax.specs.Trees.{ClockTree}
@@ -153,13 +153,13 @@ clock_lines f circle =
     ++ flat_map (paragraph_saying f) (paragraph_sayings f circle)
     ++ clock_circle_hint f circle
 
--- the lines explain how the activities of a text, of the file with this name or of none, stand at these places of the plan of its program's unfolding
-pub record ExplainsActivities (file : Option (List ℕ)) (text : List ℕ) (p : ClockTree) (u : ClockUnfolding) (plan : Plan) (a : ℕ → Place) (lines : List ℕ) (waits : Bool) : Type 0 where
+-- the lines explain how the activities of a text, of the file with this name or of none, stand in this state of the plan of its program's unfolding
+pub record ExplainsActivities (file : Option (List ℕ)) (text : List ℕ) (p : ClockTree) (u : ClockUnfolding) (plan : Plan) (s : State) (done : ℕ → ℕ) (lines : List ℕ) (waits : Bool) : Type 0 where
   pub reads : IsClockText text p
   pub unfolds : clock_unfolded p ≡ Ok u
   pub plan_is : plan ≡ plan_of_moves u
   pub facts : ClockFacts
-  pub are_facts : AreClockFacts file text p u plan a facts
+  pub are_facts : AreClockFacts file text p u plan s done facts
   pub circle : List TaskId
   pub circle_is : IsClockCircle facts.blocked circle
   pub lines_are : lines ≡ clock_lines facts circle

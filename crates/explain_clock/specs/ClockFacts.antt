@@ -6,9 +6,8 @@ use Rattle.armus_base.specs.declared.op.Op.{Op}
 use Rattle.armus_base.specs.declared.op.Op.TheVariants.{Adv, Await, Drop}
 use Rattle.armus_base.specs.declared.status.Status.{Status}
 use Rattle.armus_base.specs.Finals.{end_of, final_of, list_below}
-use Rattle.armus_base.specs.Places.{state_at}
 use Rattle.armus_base.specs.Plans.{Plan, code_of}
-use Rattle.armus_base.specs.Runs.{Place}
+use Rattle.armus_base.specs.States.{State}
 use Rattle.pl_core.specs.Tasks.{IsAtOp}
 use Rattle.clock_syntax.specs.Trees.{ClockTree}
 use Rattle.clock_semantics.specs.Unfolding.{ClockUnfolding}
@@ -93,11 +92,11 @@ IsWaitBy code waits origins clocks done Done w = IsNoWait w
 IsWaitBy code waits origins clocks done (Refused e) w = IsNoWait w
 IsWaitBy code waits origins clocks done Unforked w = IsNoWait w
 
--- each activity waits so at these places
-pub record AreWaitsAt (waits : List (List ℕ)) (origins : List (List (Option ℕ))) (plan : Plan) (a : ℕ → Place) (ws : List ClockWait) : Type 0 where
+-- each activity waits so in this state, where its task has made so many actions
+pub record AreWaitsAt (waits : List (List ℕ)) (origins : List (List (Option ℕ))) (plan : Plan) (s : State) (done : ℕ → ℕ) (ws : List ClockWait) : Type 0 where
   pub all : length ws ≡ length plan.parents
   pub each : (t : ℕ) (d : ClockWait) → t < length plan.parents →
-      IsWaitBy (code_of plan t) (slice_index_or waits t []) (slice_index_or origins t []) (length plan.makers) (a t).done (end_of (state_at plan a) t) (slice_index_or ws t d)
+      IsWaitBy (code_of plan t) (slice_index_or waits t []) (slice_index_or origins t []) (length plan.makers) (done t) (end_of s t) (slice_index_or ws t d)
 
 -- ---- facts
 
@@ -109,12 +108,12 @@ pub record AreTextFacts (file : Option (List ℕ)) (text : List ℕ) (p : ClockT
   pub begun_are : f.begun ≡ all_begun u
   pub things_are : f.things ≡ all_things u
 
--- and these are those where a run of the plan of the unfolding has come to these places
-pub record AreClockFacts (file : Option (List ℕ)) (text : List ℕ) (p : ClockTree) (u : ClockUnfolding) (plan : Plan) (a : ℕ → Place) (f : ClockFacts) : Type 0 where
+-- and these are those where a run of the plan of the unfolding has come to this state
+pub record AreClockFacts (file : Option (List ℕ)) (text : List ℕ) (p : ClockTree) (u : ClockUnfolding) (plan : Plan) (s : State) (done : ℕ → ℕ) (f : ClockFacts) : Type 0 where
   pub text_facts : AreTextFacts file text p u f.of_text
-  pub ends_are : f.ends ≡ (final_of plan (state_at plan a)).ends
-  pub blocked_are : f.blocked ≡ (final_of plan (state_at plan a)).blocked
-  pub waits_are : AreWaitsAt (all_waits u) (all_op_origins u) plan a f.waits
+  pub ends_are : f.ends ≡ (final_of plan s).ends
+  pub blocked_are : f.blocked ≡ (final_of plan s).blocked
+  pub waits_are : AreWaitsAt (all_waits u) (all_op_origins u) plan s done f.waits
 
 -- ---- how an activity stands
 

@@ -2,6 +2,7 @@
 ghost use Rattle.std.specs.Prelude.{◌≡◌, ◌+◌, ◌<◌, ◌^◌, Ok, IfOk, length, option_copied};
 ghost use Rattle.armus_base.specs.Finals.{final_of};
 ghost use Rattle.armus_base.specs.calls.Statuses.{IsInOrder};
+ghost use Rattle.armus_base.specs.Places.{done_by};
 ghost use Rattle.pl_core.specs.calls.Worlds.{places_of, state_of};
 ghost use Rattle.clock_syntax.specs.Grammar.{IsClockText};
 ghost use Rattle.clock_syntax.specs.Trees.{clock_count};
@@ -114,7 +115,7 @@ pub fn clock_explanation_of(
     requires plan { clock_plan_of program.now.body ≡ Ok world.now.plan }
     requires end { end.now ≡ final_of world.now.plan (state_of world.now) }
     ensures { IfOk result (λ e. (u : ClockUnfolding) → clock_unfolded program.now.body ≡ Ok u →
-        ExplainsActivities (option_copied file.entry) places.now program.now.body u world.now.plan (places_of world.now) e.lines e.has_waiting) }
+        ExplainsActivities (option_copied file.entry) places.now program.now.body u world.now.plan (state_of world.now) (done_by (places_of world.now)) e.lines e.has_waiting) }
 {
     let plan = world.plan();
     let layout = ClockLayout::new(alloc, places.text(), program)?;

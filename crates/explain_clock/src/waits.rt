@@ -2,6 +2,7 @@
 ghost use Rattle.std.specs.Prelude.{◌≡◌, ◌+◌, ◌<◌, ◌≤◌, ◌^◌, ◌++◌, ◌∷◌, ℕ, false, IfOk, None, OnOk, [], count_by, drop, if◌then◌else◌, length, slice_index_or, take};
 ghost use Rattle.armus_base.specs.Finals.{end_of, list_below};
 ghost use Rattle.armus_base.specs.Plans.{code_of};
+ghost use Rattle.armus_base.specs.Places.{done_by};
 ghost use Rattle.pl_core.specs.calls.Worlds.{places_of, state_of};
 ghost use Rattle.explain_clock.specs.ClockFacts.{AreWaitsAt, IsWaitBy, IsWaitOf, is_pending, op_move, moves_from};
 ghost use Rattle.explain_clock.specs.inside.Passing.{pending_by};
@@ -205,7 +206,7 @@ pub(crate) fn waits_of(
     ends: &[TaskEnd],
 ) -> Result<Vec<Wait>, NoMemory>
     requires ends { ends.now ≡ list_below (end_of (state_of world.now)) (length world.now.plan.parents) }
-    ensures { IfOk result (λ ws. AreWaitsAt origins.now.waits ops.now world.now.plan (places_of world.now) ws.items) }
+    ensures { IfOk result (λ ws. AreWaitsAt origins.now.waits ops.now world.now.plan (state_of world.now) (done_by (places_of world.now)) ws.items) }
 {
     let plan = world.plan();
     let mut all = Vec::with_capacity(alloc, ends.len())?;

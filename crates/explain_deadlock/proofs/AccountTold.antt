@@ -8,7 +8,7 @@ use Rattle.armus_base.specs.declared.event.Event.{Event}
 use Rattle.armus_base.specs.declared.ids.TaskId.{TaskId}
 use Rattle.armus_base.specs.CheckedPlans.{IsCheckedPlan}
 use Rattle.armus_base.specs.Plans.{Plan}
-use Rattle.armus_base.specs.Runs.{Place}
+use Rattle.armus_base.specs.States.{State}
 use Rattle.pl_syntax.specs.declared.tree.Program.{Program}
 use Rattle.source_map.specs.Origins.{fork_origin}
 use Rattle.explain_facts.specs.Accounts.{HasWait, Layout, forked_by, forked_of}
@@ -36,21 +36,21 @@ module _ {A B : Type 0} (part : A → Option B) where
 
 -- a task has a wait only where it is blocked on the event of the wait
 pub wait_tells :
-    (l : Layout) (p : Program) (plan : Plan) (a : ℕ → Place) (t : ℕ) (end : TaskEnd) (o : Option Waiting) (w : Waiting) → HasWait l p plan a t end o → o ≡ Some w →
+    (l : Layout) (p : Program) (plan : Plan) (s : State) (done : ℕ → ℕ) (t : ℕ) (end : TaskEnd) (o : Option Waiting) (w : Waiting) → HasWait l p plan s done t end o → o ≡ Some w →
     end ≡ Blocked w.event
-wait_tells l p plan a t (Blocked e) (Some v) w is same =
+wait_tells l p plan s done t (Blocked e) (Some v) w is same =
     let one : v ≡ w = cc in sym (ap Blocked (sym (ap (λ (x : Waiting). x.event) one) ∙ is.event))
-wait_tells l p plan a t (Blocked e) None w is same = absurd is
-wait_tells l p plan a t Done o w is same = absurd (cc)
-wait_tells l p plan a t (Refused e) o w is same = absurd (cc)
-wait_tells l p plan a t Unforked o w is same = absurd (cc)
+wait_tells l p plan s done t (Blocked e) None w is same = absurd is
+wait_tells l p plan s done t Done o w is same = absurd (cc)
+wait_tells l p plan s done t (Refused e) o w is same = absurd (cc)
+wait_tells l p plan s done t Unforked o w is same = absurd (cc)
 
 -- a task that is blocked has a wait with its event
 pub blocked_tells :
-    (l : Layout) (p : Program) (plan : Plan) (a : ℕ → Place) (t : ℕ) (e : Event) (o : Option Waiting) → HasWait l p plan a t (Blocked e) o →
+    (l : Layout) (p : Program) (plan : Plan) (s : State) (done : ℕ → ℕ) (t : ℕ) (e : Event) (o : Option Waiting) → HasWait l p plan s done t (Blocked e) o →
     (w : Waiting) × (o ≡ Some w) × (w.event ≡ e)
-blocked_tells l p plan a t e None is = absurd is
-blocked_tells l p plan a t e (Some w) is = (w, refl, is.event)
+blocked_tells l p plan s done t e None is = absurd is
+blocked_tells l p plan s done t e (Some w) is = (w, refl, is.event)
 
 -- ---- forks
 

@@ -8,10 +8,8 @@ use Rattle.armus_base.specs.declared.ids.TaskId.{TaskId}
 use Rattle.armus_base.specs.declared.status.Status.{Status}
 use Rattle.armus_base.specs.Deadlocks.{IsDeadBy}
 use Rattle.armus_base.specs.Finals.{final_of}
-use Rattle.armus_base.specs.Places.{state_at}
 use Rattle.armus_base.specs.Plans.{Plan}
 use Rattle.armus_base.specs.Relations.{IsWalkCycle}
-use Rattle.armus_base.specs.Runs.{Place}
 use Rattle.armus_base.specs.States.{State}
 use Rattle.report.specs.Reports.{IsLeastDead, IsReportedCycle, IsSomeDead}
 use Rattle.verdict.specs.Cycles.{IsDeadStep}
@@ -44,10 +42,7 @@ abbrev first_byte : List ℕ → ℕ
 first_byte [] = 0
 first_byte (c ∷ cs) = c
 
-module _ (plan : Plan) (a : ℕ → Place) (f : FactsValue) (at : AreFactsAt plan a f) where
-  abbrev s : State
-  s = state_at plan a
-
+module _ (plan : Plan) (s : State) (done : ℕ → ℕ) (f : FactsValue) (at : AreFactsAt plan s done f) where
   abbrev blocked : List Status
   blocked = (final_of plan s).blocked
 
@@ -57,23 +52,23 @@ module _ (plan : Plan) (a : ℕ → Place) (f : FactsValue) (at : AreFactsAt pla
   -- a dead task has a next
   has_next : (t : TaskId) → IsDeadTask t → next_of f s.phases t.0 ≡ None → ⊥
   has_next t dead none =
-      let some = subst (λ (x : Situation). IsSome (next_by f (impeders_by_facts f s.phases t.0) (forking_of f t.0) x)) (sym (dead_is plan a f at t.0 dead).3) (next_of_dead plan a f at t.0 dead) in
+      let some = subst (λ (x : Situation). IsSome (next_by f (impeders_by_facts f s.phases t.0) (forking_of f t.0) x)) (sym (dead_is plan s done f at t.0 dead).3) (next_of_dead plan s done f at t.0 dead) in
       false≢true (subst IsSome none some)
 
   keeps : (t u : TaskId) → IsDeadTask t → IsNext f s.phases t u → IsDeadTask u
-  keeps t u dead step = next_dead plan a f at t u dead step
+  keeps t u dead step = next_dead plan s done f at t u dead step
 
   -- the walk begins with the least dead task
   starts_dead : IsSomeDead blocked → (start : TaskId) × (walk_start f ≡ Some start) × IsLeastDead blocked start
   starts_dead (t, dead) =
-      let within : (u : ℕ) → IsDeadBy blocked u → u < length f.standings = λ u d. (let lt = (dead_is plan a f at u d).0 in let e = all_stand plan a f at in omega arith) in
-      let passes : (u : ℕ) → IsDeadBy blocked u → is_deadlocked (situation_of f u) ≡ true = λ u d. ap is_deadlocked (dead_is plan a f at u d).3 in
+      let within : (u : ℕ) → IsDeadBy blocked u → u < length f.standings = λ u d. (let lt = (dead_is plan s done f at u d).0 in let e = all_stand plan s done f at in omega arith) in
+      let passes : (u : ℕ) → IsDeadBy blocked u → is_deadlocked (situation_of f u) ≡ true = λ u d. ap is_deadlocked (dead_is plan s done f at u d).3 in
       let (start, first) = some_first (tasks_that is_deadlocked f) (record { 0 = t }) (that_has f is_deadlocked (record { 0 = t }) (within t dead) (passes t dead)) in
       let is = that_is f is_deadlocked start (first_contains (tasks_that is_deadlocked f) start first) in (
         start,
         ap (λ o. first_or o (slice_get (tasks_that is_waiting f) 0)) first,
         record {
-          dead = deadlocked_dead plan a f at start.0 is.1;
+          dead = deadlocked_dead plan s done f at start.0 is.1;
           least = λ u d. that_least f is_deadlocked start first (record { 0 = u }) (within u d) (passes u d);
         },
       )
@@ -96,7 +91,7 @@ module _ (plan : Plan) (a : ℕ → Place) (f : FactsValue) (at : AreFactsAt pla
   reported v is some =
       let (start, starts, least) = starts_dead some in
       let (c, same, walk) = shown_circle start least.dead v (subst (λ o. IsVerdictFrom f s.phases o v) starts is) in
-      (c, same, (start, least, cycle_maps (IsNext f s.phases) IsDeadTask keeps start least.dead (IsDeadStep blocked) (next_is_step plan a f at) c walk))
+      (c, same, (start, least, cycle_maps (IsNext f s.phases) IsDeadTask keeps start least.dead (IsDeadStep blocked) (next_is_step plan s done f at) c walk))
 
   pub shown_dead : (shown : List TaskId) → IsVerdictFrom f s.phases (walk_start f) (Circle shown) → IsSomeDead blocked → ShowsCircle (IsDeadAndWaitsFor s) shown
   shown_dead shown is some =
@@ -104,8 +99,8 @@ module _ (plan : Plan) (a : ℕ → Place) (f : FactsValue) (at : AreFactsAt pla
       let walk : IsWalkCycle (IsNext f s.phases) start shown = subst (λ o. IsVerdictFrom f s.phases o (Circle shown)) starts is in
       record {
         some = walk.some;
-        steps = circle_steps (IsNext f s.phases) IsDeadTask keeps start least.dead (IsDeadAndWaitsFor s) (dead_waits plan a f at) shown walk;
-        back = circle_back (IsNext f s.phases) IsDeadTask keeps start least.dead (IsDeadAndWaitsFor s) (dead_waits plan a f at) shown walk;
+        steps = circle_steps (IsNext f s.phases) IsDeadTask keeps start least.dead (IsDeadAndWaitsFor s) (dead_waits plan s done f at) shown walk;
+        back = circle_back (IsNext f s.phases) IsDeadTask keeps start least.dead (IsDeadAndWaitsFor s) (dead_waits plan s done f at) shown walk;
       }
 
   -- ---- the lines of the impeders
@@ -135,21 +130,21 @@ module _ (plan : Plan) (a : ℕ → Place) (f : FactsValue) (at : AreFactsAt pla
   stands_first t deadlocked = by (next_of f s.phases t) refl
     where
       dead : IsDeadBy blocked t
-      dead = deadlocked_dead plan a f at t (ap is_deadlocked deadlocked)
+      dead = deadlocked_dead plan s done f at t (ap is_deadlocked deadlocked)
 
       by : (next : Option TaskId) → next_of f s.phases t ≡ next →
           (said : Said) × (slice_get (told_of f next (imps t)) 0 ≡ Some said)
           × ((i : Impeder) → Contains (imps t) i → same_said said (impeder_said f i) ≡ true → situation_of f i.t.0 ≡ Deadlocked)
       by None none = absurd (has_next (record { 0 = t }) dead none)
       by (Some u) next =
-          let (i, found, same) = next_found plan a f at (record { 0 = t }) u dead next in
+          let (i, found, same) = next_found plan s done f at (record { 0 = t }) u dead next in
           let there = find_contains (λ (k : Impeder). is_deadlocked (situation_of f k.t.0)) (imps t) i found in
           let number : i.t.0 ≡ u.0 = ap (λ (v : TaskId). v.0) same in
           let (j, first) = some_first (filter (is_this_impeder (Some u)) (imps t)) i (passed_from (is_this_impeder (Some u)) (imps t) i there (eq-eqb i.t.0 u.0 number)) in
           let own = (passed_is (is_this_impeder (Some u)) (imps t) j (first_contains (filter (is_this_impeder (Some u)) (imps t)) j first)).1 in
           let is_u : j.t.0 ≡ u.0 = eqb-true j.t.0 u.0 own in
           let also : situation_of f j.t.0 ≡ Deadlocked =
-          subst (λ k. situation_of f k ≡ Deadlocked) (sym is_u) (dead_is plan a f at u.0 (next_dead plan a f at (record { 0 = t }) u dead next)).3 in (
+          subst (λ k. situation_of f k ≡ Deadlocked) (sym is_u) (dead_is plan s done f at u.0 (next_dead plan s done f at (record { 0 = t }) u dead next)).3 in (
             impeder_said f j,
             first_told (Some u) (imps t) j first,
             λ k in' alike.
@@ -158,10 +153,10 @@ module _ (plan : Plan) (a : ℕ → Place) (f : FactsValue) (at : AreFactsAt pla
           )
 
 pub deadlock_is_reported : DeadlockIsReported
-deadlock_is_reported plan a f v at is some = reported plan a f at v is some
+deadlock_is_reported plan s done f v at is some = reported plan s done f at v is some
 
 pub shown_are_dead : ShownAreDead
-shown_are_dead plan a f shown at is some = shown_dead plan a f at shown is some
+shown_are_dead plan s done f shown at is some = shown_dead plan s done f at shown is some
 
 pub deadlock_stands_first : DeadlockStandsFirst
-deadlock_stands_first plan a f t at deadlocked = stands_first plan a f at t deadlocked
+deadlock_stands_first plan s done f t at deadlocked = stands_first plan s done f at t deadlocked

@@ -2,8 +2,8 @@
 use Rattle.std.proofs.Common.{refl}
 use Rattle.adaptive.specs.declared.analysis.Wanted.TheVariants.{Auto}
 use Rattle.armus_base.specs.Finals.{final_of}
-use Rattle.armus_base.specs.Places.{state_at}
-use Rattle.armus_base.specs.Runs.{places}
+use Rattle.armus_base.specs.Places.{done_by}
+use Rattle.armus_base.specs.Runs.{places, state_after}
 use Rattle.explain_facts.proofs.AccountExists.{account_exists}
 use Rattle.pl_plan.proofs.TextsAreNear.{text_is_checked}
 use Rattle.report.specs.Counts.{counts_of}
@@ -20,16 +20,16 @@ use Rattle.explain_deadlock.proofs.VerdictExists.{verdict_exists}
 
 pub explanation_exists : ExplanationExists
 explanation_exists file text p plan steps is unfolds run maximal =
-    let a = places steps in
-    let s = state_at plan a in
-    let reach = leads_there plan steps run in
-    let (account, known) = account_exists text p plan a is unfolds reach in
-    let has : IsAccountOf text plan a account = record { program = p; unfolds = unfolds; known = known } in
+    let s = state_after steps in
+    let done = done_by (places steps) in
+    let there = leads_there plan steps run in
+    let (account, known) = account_exists text p plan s done is unfolds there in
+    let has : IsAccountOf text plan s done account = record { program = p; unfolds = unfolds; known = known } in
     let (report, reports) = report_exists (final_of plan s) Auto in
     let f = facts_of text file account reports.standings in
-    let at : AreFactsAt plan a f = record { account = has; reachable = reach; stand = reports.stand } in
-    let fits = fits_plan plan a f at in
-    let wait = waits_for_some plan a f at (rests_at_end plan steps (text_is_checked text p plan is unfolds) run maximal) in
+    let at : AreFactsAt plan s done f = record { account = has; reached = there; stand = reports.stand } in
+    let fits = fits_plan plan s done f at in
+    let wait = waits_for_some plan s done f at (rests_at_end plan steps (text_is_checked text p plan is unfolds) run maximal) in
     let (verdict, found) = verdict_exists f s.phases plan fits wait in
     let counts = counts_line (counts_of reports.standings) in (
       explained_by f plan s.phases counts verdict,

@@ -11,14 +11,11 @@ use Rattle.armus_base.specs.CheckedPlans.{IsCheckedPlan}
 use Rattle.armus_base.specs.Deadlocks.{IsDeadBy, IsDeadIn}
 use Rattle.armus_base.specs.calls.FinalLaws.{IsOfPlan}
 use Rattle.armus_base.specs.Finals.{end_by, end_of, final_of, list_below}
-use Rattle.armus_base.specs.Places.{state_at}
 use Rattle.armus_base.specs.Plans.{Plan}
-use Rattle.armus_base.specs.Runs.{IsReachable, Place}
 use Rattle.armus_base.specs.States.{State}
 use Rattle.armus_base.proofs.Below.{length-list_below}
 use Rattle.armus_base.proofs.DeadByStatuses.{dead_by_final, run_is_of_plan}
 use Rattle.armus_base.proofs.Elements.{nothing_in_nil}
-use Rattle.armus_base.proofs.Reachable.{reachable_is_fixed}
 use Rattle.report.specs.Standings.{Stands}
 use Rattle.report.specs.declared.standing.Standing.{Standing}
 use Rattle.report.specs.declared.standing.Standing.TheVariants.{Done, Unforked}
@@ -69,15 +66,9 @@ second_some : (a b : Option TaskId) → IsSome b → IsSome (first_or a b)
 second_some None b some = some
 second_some (Some t) b some = refl
 
-module _ (plan : Plan) (a : ℕ → Place) (f : FactsValue) (at : AreFactsAt plan a f) where
-  abbrev has : IsAccountOf f.text plan a f.account
+module _ (plan : Plan) (s : State) (done : ℕ → ℕ) (f : FactsValue) (at : AreFactsAt plan s done f) where
+  abbrev has : IsAccountOf f.text plan s done f.account
   has = at.account
-
-  abbrev reach : IsReachable plan a
-  reach = at.reachable
-
-  abbrev s : State
-  s = state_at plan a
 
   abbrev n : ℕ
   n = length plan.parents
@@ -86,7 +77,7 @@ module _ (plan : Plan) (a : ℕ → Place) (f : FactsValue) (at : AreFactsAt pla
   checked_here = text_is_checked f.text has.program plan has.known.reads has.unfolds
 
   pub of_plan_here : IsOfPlan plan s
-  of_plan_here = subst (IsOfPlan plan) (reachable_is_fixed plan a checked_here reach).0 (run_is_of_plan plan reach.steps checked_here reach.run)
+  of_plan_here = subst (IsOfPlan plan) at.reached.there (run_is_of_plan plan at.reached.steps checked_here at.reached.run)
 
   abbrev IsDeadHere : ℕ → Type 0
   IsDeadHere t = IsDeadBy (final_of plan s).blocked t
@@ -108,15 +99,15 @@ module _ (plan : Plan) (a : ℕ → Place) (f : FactsValue) (at : AreFactsAt pla
       let (lt, there) = part_there (λ (x : TaskAccount). x.wait) f.account.tasks t w is in
       let within : t < n = omega (arith, lt, has.known.all_told) in
       let d : TaskAccount = record { drawn = None; fork = None; ended = None; wait = None; nexts = [] } in
-      (within, wait_tells has.known.layout has.program plan a t (end_of s t) (slice_index_or f.account.tasks t d).wait w (has.known.each t d within).wait (there d))
+      (within, wait_tells has.known.layout has.program plan s done t (end_of s t) (slice_index_or f.account.tasks t d).wait w (has.known.each t d within).wait (there d))
 
   -- and of a task that is blocked it tells the wait
   pub wait_told : (t : ℕ) (e : Event) → t < n → end_of s t ≡ Blocked e → (w : Waiting) × (wait_of f t ≡ Some w) × (w.event ≡ e)
   wait_told t e lt ended =
       let d : TaskAccount = record { drawn = None; fork = None; ended = None; wait = None; nexts = [] } in
-      let known : HasWait has.known.layout has.program plan a t (Blocked e) (slice_index_or f.account.tasks t d).wait =
-      subst (λ (end : TaskEnd). HasWait has.known.layout has.program plan a t end (slice_index_or f.account.tasks t d).wait) ended (has.known.each t d lt).wait in
-      let (w, there, event) = blocked_tells has.known.layout has.program plan a t e (slice_index_or f.account.tasks t d).wait known in
+      let known : HasWait has.known.layout has.program plan s done t (Blocked e) (slice_index_or f.account.tasks t d).wait =
+      subst (λ (end : TaskEnd). HasWait has.known.layout has.program plan s done t end (slice_index_or f.account.tasks t d).wait) ended (has.known.each t d lt).wait in
+      let (w, there, event) = blocked_tells has.known.layout has.program plan s done t e (slice_index_or f.account.tasks t d).wait known in
       (w, part_of (λ (x : TaskAccount). x.wait) f.account.tasks t d (omega (arith, lt, has.known.all_told)) ∙ there, event)
 
   pub published_is : (t : ℕ) (e : Event) → end_of s t ≡ Blocked e → s.published t ≡ Some e
@@ -190,7 +181,7 @@ module _ (plan : Plan) (a : ℕ → Place) (f : FactsValue) (at : AreFactsAt pla
       subst IsSome (sym (ap (option_map (λ (k : Impeder). k.t)) found)) refl
 
   -- a task whose event is not reached has an impeder
-  first_impeder : WaitersStay plan a → (t : ℕ) (e : Event) → t < n → end_of s t ≡ Blocked e → (imps : List Impeder) → impeders_by_facts f s.phases t ≡ imps →
+  first_impeder : WaitersStay s → (t : ℕ) (e : Event) → t < n → end_of s t ≡ Blocked e → (imps : List Impeder) → impeders_by_facts f s.phases t ≡ imps →
       IsSome (option_map (λ (i : Impeder). i.t) (slice_get imps 0))
   first_impeder rest t e lt ended [] none =
       absurd (rest t e (published_is t e ended)
@@ -201,7 +192,7 @@ module _ (plan : Plan) (a : ℕ → Place) (f : FactsValue) (at : AreFactsAt pla
   first_impeder rest t e lt ended (i ∷ imps) some = refl
 
   -- each task that waits has a next
-  pub waits_for_some : WaitersStay plan a → WaitForSome f s.phases
+  pub waits_for_some : WaitersStay s → WaitForSome f s.phases
   waits_for_some rest t waits =
       let (lt, e, ended, so) = waiting_is t waits in
       let imps = impeders_by_facts f s.phases t in
@@ -216,7 +207,7 @@ module _ (plan : Plan) (a : ℕ → Place) (f : FactsValue) (at : AreFactsAt pla
   pub fits_plan : FactsFitPlan f plan
   fits_plan = record {
     sized = all_stand;
-    waits = λ t w is. event_of_plan plan a checked_here reach t w.event (wait_is t w is).1;
+    waits = λ t w is. event_of_plan plan s done at.reached t w.event (wait_is t w is).1 checked_here;
     forkers = λ t x is.
         let (lt, there) = part_there (λ (y : TaskAccount). y.fork) f.account.tasks t x is in
         let within : t < n = omega (arith, lt, has.known.all_told) in

@@ -14,7 +14,7 @@ use Rattle.armus_base.specs.CheckedPlans.{HasFork}
 use Rattle.armus_base.specs.Deadlocks.{IsAtPhase, IsDeadBy, IsDeadIn, IsImpededWithin, IsPublishedOn}
 use Rattle.armus_base.specs.calls.FinalLaws.{Tells}
 use Rattle.armus_base.specs.Finals.{end_of, final_of}
-use Rattle.armus_base.specs.Places.{forked_at, forks, refused_at, some_before, state_at}
+use Rattle.armus_base.specs.Places.{done_by, forked_at, forks, refused_at, some_before, state_at}
 use Rattle.armus_base.specs.Plans.{Action, Forks, Plan, action_at, actions, parent_of}
 use Rattle.armus_base.specs.Runs.{IsMaximal, IsPlainRun, Place, places, state_after}
 use Rattle.armus_base.specs.States.{State, Step}
@@ -108,27 +108,30 @@ first_forked : (plan : Plan) (a : ℕ → Place) → (state_at plan a).forked 0 
 unfolding forked_at
 first_forked plan a = refl
 
-module _ (plan : Plan) (steps : List Step) (run : IsPlainRun plan steps) (maximal : IsMaximal plan steps) (f : FactsValue) (at : AreFactsAt plan (places steps) f) where
+module _ (plan : Plan) (steps : List Step) (run : IsPlainRun plan steps) (maximal : IsMaximal plan steps) (f : FactsValue) (at : AreFactsAt plan (state_after steps) (done_by (places steps)) f) where
   abbrev a : ℕ → Place
   a = places steps
 
   abbrev s : State
-  s = state_at plan a
+  s = state_after steps
+
+  abbrev done : ℕ → ℕ
+  done = done_by a
 
   abbrev n : ℕ
   n = length plan.parents
 
-  same : state_after steps ≡ s
-  same = places_fix_state plan steps (checked_here plan a f at) run.0
+  fixed : s ≡ state_at plan a
+  fixed = places_fix_state plan steps (checked_here plan s done f at) run.0
 
   -- each task has ended as its end tells
   told : (t : ℕ) (end : TaskEnd) → end_of s t ≡ end → Tells plan steps t end
-  told t end is = subst (Tells plan steps t) (ap (λ (x : State). end_of x t) same ∙ is) (ends_tell plan steps t (checked_here plan a f at) run.0 maximal)
+  told t end is = subst (Tells plan steps t) is (ends_tell plan steps t (checked_here plan s done f at) run.0 maximal)
 
   nobody_refused : (t : ℕ) (e : Event) → end_of s t ≡ EndsRefused e → ⊥
   nobody_refused t e is =
-      let refused : s.refused t ≡ Some e = ap (λ (x : State). x.refused t) (sym same) ∙ (told t (EndsRefused e) is).0 in
-      let none : s.refused t ≡ None = ap (refused_at plan t (a t).done) (plain_undropped plan steps run t) in
+      let refused : s.refused t ≡ Some e = (told t (EndsRefused e) is).0 in
+      let none : s.refused t ≡ None = ap (λ (x : State). x.refused t) fixed ∙ ap (refused_at plan t (a t).done) (plain_undropped plan steps run t) in
       cc
 
   inside : (t : ℕ) (x : Situation) → situation_of f t ≡ x → (x ≡ HasEnded → ⊥) → t < n
@@ -136,7 +139,7 @@ module _ (plan : Plan) (steps : List Step) (run : IsPlainRun plan steps) (maxima
       elim (cases_lt t n) [
         | inl lt ↦ lt
         | inr past ↦
-            absurd (other (sym is ∙ ap (λ y. situation_by y (forking_of f t)) (get_or_past f.standings t Done (let e = all_stand plan a f at in omega arith))))
+            absurd (other (sym is ∙ ap (λ y. situation_by y (forking_of f t)) (get_or_past f.standings t Done (let e = all_stand plan s done f at in omega arith))))
       ]
 
   -- the fork of a task that is told
@@ -147,7 +150,7 @@ module _ (plan : Plan) (steps : List Step) (run : IsPlainRun plan steps) (maxima
   fork_told t o pos lt is =
       let d : TaskAccount = record { drawn = None; fork = None; ended = None; wait = None; nexts = [] } in
       subst (λ (p : Option Forked). MatchOption p (HasFork plan t → ⊥) (λ x. HasFork plan t × (x.by.0 ≡ parent_of plan t))) (sym (fork_is t lt d) ∙ is)
-      (forkers_fork f.text at.account.program plan a f.account at.account.unfolds at.account.known t d pos lt)
+      (forkers_fork f.text at.account.program plan s done f.account at.account.unfolds at.account.known t d pos lt)
 
   -- a task not forked yet is not forked, and its forker has the fork in its code
   module _ (t : ℕ) (yet' : situation_of f t ≡ NotForkedYet) where
@@ -156,9 +159,9 @@ module _ (plan : Plan) (steps : List Step) (run : IsPlainRun plan steps) (maxima
 
     unforked : s.forked t ≡ false
     unforked =
-        let ended = unforked_ended (IsDeadBy (final_of plan s).blocked t) (end_of s t) (slice_index_or f.standings t Done) (forking_of f t) (stands_here plan a f at t below)
+        let ended = unforked_ended (IsDeadBy (final_of plan s).blocked t) (end_of s t) (slice_index_or f.standings t Done) (forking_of f t) (stands_here plan s done f at t below)
         (ap stands_unforked yet') in
-        ap (λ (x : State). x.forked t) (sym same) ∙ told t EndsUnforked ended
+        told t EndsUnforked ended
 
     some_fork : (x : Forked) × (forking_of f t ≡ Some x)
     some_fork = yet_has_fork (slice_index_or f.standings t Done) (forking_of f t) yet'
@@ -170,7 +173,7 @@ module _ (plan : Plan) (steps : List Step) (run : IsPlainRun plan steps) (maxima
     unfolding forker
     earlier =
         let d : TaskAccount = record { drawn = None; fork = None; ended = None; wait = None; nexts = [] } in
-        forker_before at.account.known.layout at.account.program plan (checked_here plan a f at) t some_fork.0 below
+        forker_before at.account.known.layout at.account.program plan (checked_here plan s done f at) t some_fork.0 below
         (sym (at.account.known.each t d below).fork ∙ (sym (fork_is t below d) ∙ some_fork.1))
 
     has_fork : HasFork plan t × (forker ≡ parent_of plan t)
@@ -182,11 +185,11 @@ module _ (plan : Plan) (steps : List Step) (run : IsPlainRun plan steps) (maxima
     not_done is =
         let ((j, there), parent) = has_fork in
         elim (has_ended (IsDeadBy (final_of plan s).blocked forker) (end_of s forker) (slice_index_or f.standings forker Done) (forking_of f forker)
-        (stands_here plan a f at forker (let lt = earlier in let l = below in omega arith)) is) [
+        (stands_here plan s done f at forker (let lt = earlier in let l = below in omega arith)) is) [
           | inl done ↦
               let none : action_at plan (parent_of plan t) (a (parent_of plan t)).done ≡ None =
               subst (λ (u : ℕ). action_at plan u (a u).done ≡ None) parent (told forker EndsDone done).1 in
-              let forked = made_fork plan a t j there (action_within plan (parent_of plan t) j (a (parent_of plan t)).done (Forks t) there none) in
+              let forked = ap (λ (x : State). x.forked t) fixed ∙ made_fork plan a t j there (action_within plan (parent_of plan t) j (a (parent_of plan t)).done (Forks t) there none) in
               false≢true (sym unforked ∙ forked)
           | inr refused ↦ nobody_refused forker refused.0 refused.1
         ]
@@ -200,13 +203,13 @@ module _ (plan : Plan) (steps : List Step) (run : IsPlainRun plan steps) (maxima
         elim (cases_eq forker 0) [
           | inl zero' ↦
               let ended = unforked_ended (IsDeadBy (final_of plan s).blocked forker) (end_of s forker) (slice_index_or f.standings forker Done) (forking_of f forker)
-              (stands_here plan a f at forker lt) (ap stands_unforked is) in
-              let out : s.forked forker ≡ false = ap (λ (x : State). x.forked forker) (sym same) ∙ told forker EndsUnforked ended in
-              false≢true (sym out ∙ (ap s.forked zero' ∙ first_forked plan a))
+              (stands_here plan s done f at forker lt) (ap stands_unforked is) in
+              let out : s.forked forker ≡ false = told forker EndsUnforked ended in
+              false≢true (sym out ∙ (ap s.forked zero' ∙ (ap (λ (x : State). x.forked 0) fixed ∙ first_forked plan a)))
           | inr some ↦
               let pos : 0 < forker = omega arith in
               fork_told forker None pos lt (never_has_none (slice_index_or f.standings forker Done) (forking_of f forker) is)
-              ((checked_here plan a f at).codes.works forker j (Forks t) pos action)
+              ((checked_here plan s done f at).codes.works forker j (Forks t) pos action)
         ]
 
   pub to_come : (t u : TaskId) → situation_of f t.0 ≡ NotForkedYet → IsNext f s.phases t u → IsToCome (situation_of f u.0)
@@ -220,7 +223,7 @@ module _ (plan : Plan) (steps : List Step) (run : IsPlainRun plan steps) (maxima
   -- ---- where a walk comes to an end
 
   waits : (t : ℕ) (x : Situation) → situation_of f t ≡ x → is_waiting x ≡ true → IsSome (next_of f s.phases t)
-  waits t x is w = waits_for_some plan a f at (rests_at_end plan steps (checked_here plan a f at) run.0 maximal) t (ap is_waiting is ∙ w)
+  waits t x is w = waits_for_some plan s done f at (rests_at_end plan steps (checked_here plan s done f at) run.0 maximal) t (ap is_waiting is ∙ w)
 
   none_some : {A : Type 0} (o : Option A) → o ≡ None → IsSome o → ⊥
   none_some o none some = false≢true (subst IsSome none some)
@@ -238,8 +241,8 @@ module _ (plan : Plan) (steps : List Step) (run : IsPlainRun plan steps) (maxima
   -- a task whose next has ended or is never forked is held
   before_end : (t u : TaskId) (x : Situation) → situation_of f t.0 ≡ x → IsNext f s.phases t u → ((situation_of f u.0 ≡ HasEnded) ⊎ (situation_of f u.0 ≡ NeverForked)) → x ≡ Held
   before_end t u Deadlocked is step end =
-      let dead = next_dead plan a f at t u (deadlocked_dead plan a f at t.0 (ap is_deadlocked is)) step in
-      let also = (dead_is plan a f at u.0 dead).3 in
+      let dead = next_dead plan s done f at t u (deadlocked_dead plan s done f at t.0 (ap is_deadlocked is)) step in
+      let also = (dead_is plan s done f at u.0 dead).3 in
       elim end [ inl e ↦ absurd (cc) | inr e ↦ absurd (cc) ]
   before_end t u Held is step end = refl
   before_end t u HasEnded is step end = absurd (let none = subst (λ (x : Situation). next_by f (impeders_by_facts f s.phases t.0) (forking_of f t.0) x ≡ Some u) is step in cc)
@@ -263,13 +266,10 @@ module _ (plan : Plan) (steps : List Step) (run : IsPlainRun plan steps) (maxima
 
 -- ---- the impeders of a held task
 
-module _ (plan : Plan) (a : ℕ → Place) (f : FactsValue) (at : AreFactsAt plan a f) (t : ℕ) (held : situation_of f t ≡ Held) (i : Impeder) (there : Contains (impeders_by_facts f (state_at plan a).phases t) i)
+module _ (plan : Plan) (s : State) (done : ℕ → ℕ) (f : FactsValue) (at : AreFactsAt plan s done f) (t : ℕ) (held : situation_of f t ≡ Held) (i : Impeder) (there : Contains (impeders_by_facts f s.phases t) i)
     (deadlocked : situation_of f i.t.0 ≡ Deadlocked) where
-  abbrev here : State
-  here = state_at plan a
-
-  dead : IsDeadIn here i.t.0
-  dead = dead_in_state plan a f at i.t.0 (deadlocked_dead plan a f at i.t.0 (ap is_deadlocked deadlocked))
+  dead : IsDeadIn s i.t.0
+  dead = dead_in_state plan s done f at i.t.0 (deadlocked_dead plan s done f at i.t.0 (ap is_deadlocked deadlocked))
 
   -- the deadlocked tasks, and the held one
   both : ℕ → Bool
@@ -299,12 +299,12 @@ module _ (plan : Plan) (a : ℕ → Place) (f : FactsValue) (at : AreFactsAt pla
       by true c on e' = inl (on refl)
       by false c on e' = inr e'
 
-  would_be_dead : IsDeadIn here t
+  would_be_dead : IsDeadIn s t
   would_be_dead =
-      let (lt, e, ended, so) = waiting_is plan a f at t (ap is_waiting held) in
-      let (phase, below) = impedes plan a f at t e lt ended i there in
-      let own : IsImpededWithin (IsPublishedOn here) (IsAtPhase here) both t =
-      record { event = e; waits = published_is plan a f at t e ended; by = i.t.0; inside = with_dead i.t.0 dead.inside; phase = i.phase; impedes = phase; below = below } in
+      let (lt, e, ended, so) = waiting_is plan s done f at t (ap is_waiting held) in
+      let (phase, below) = impedes plan s done f at t e lt ended i there in
+      let own : IsImpededWithin (IsPublishedOn s) (IsAtPhase s) both t =
+      record { event = e; waits = published_is plan s done f at t e ended; by = i.t.0; inside = with_dead i.t.0 dead.inside; phase = i.phase; impedes = phase; below = below } in
       record {
         tasks = both;
         inside = with_held;
@@ -312,7 +312,7 @@ module _ (plan : Plan) (a : ℕ → Place) (f : FactsValue) (at : AreFactsAt pla
           some = (t, with_held);
           each = λ u inside.
               elim (of_both u inside) [
-                | inl same ↦ subst (λ v. IsImpededWithin (IsPublishedOn here) (IsAtPhase here) both v) (sym same) own
+                | inl same ↦ subst (λ v. IsImpededWithin (IsPublishedOn s) (IsAtPhase s) both v) (sym same) own
                 | inr among ↦
                     let one = dead.deadlocked.each u among in
                     record { event = one.event; waits = one.waits; by = one.by; inside = with_dead one.by one.inside; phase = one.phase; impedes = one.impedes; below = one.below }
@@ -322,14 +322,14 @@ module _ (plan : Plan) (a : ℕ → Place) (f : FactsValue) (at : AreFactsAt pla
 
   never : ⊥
   never =
-      let (lt, e, ended, so) = waiting_is plan a f at t (ap is_waiting held) in
+      let (lt, e, ended, so) = waiting_is plan s done f at t (ap is_waiting held) in
       elim so [
         | inl (is_dead, same) ↦ (let two : Held ≡ Deadlocked = sym held ∙ same in cc)
-        | inr (alive, same) ↦ alive ((dead_by_final plan here t (of_plan_here plan a f at)).1 would_be_dead)
+        | inr (alive, same) ↦ alive ((dead_by_final plan s t (of_plan_here plan s done f at)).1 would_be_dead)
       ]
 
 pub held_not_by_dead : HeldAreNotImpededByDead
-held_not_by_dead plan a f t i at held there deadlocked = never plan a f at t held i there deadlocked
+held_not_by_dead plan s done f t i at held there deadlocked = never plan s done f at t held i there deadlocked
 
 pub forkers_to_come : ForkersAreToCome
 forkers_to_come plan steps f t u run maximal at yet' step = to_come plan steps run maximal f at t u yet' step

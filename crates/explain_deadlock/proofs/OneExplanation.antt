@@ -3,7 +3,6 @@ use Rattle.std.proofs.Common.{◌≡◌, ℕ, Bool, List, sym, ap, ◌∙◌, su
 use Rattle.std.specs.Prelude.{Option}
 use Rattle.armus_base.specs.declared.ending.Final.{Final}
 use Rattle.armus_base.specs.Finals.{final_of}
-use Rattle.armus_base.specs.Places.{state_at}
 use Rattle.armus_base.specs.Plans.{Plan}
 use Rattle.armus_base.specs.States.{Phases}
 use Rattle.pl_syntax.specs.declared.tree.Program.{Program}
@@ -40,11 +39,10 @@ ended_once text file account plan end phases lines other waits also x y =
     explained_once (facts_of text file account y.standings) plan phases (counts_line (counts_of y.standings)) lines other waits also again y.explains
 
 pub one_explanation : OneExplanation
-one_explanation file text plan a lines other waits also x y =
+one_explanation file text plan s done lines other waits also x y =
     let programs : x.is_account.program ≡ y.is_account.program =
     one_tree text x.is_account.program y.is_account.program x.is_account.known.reads y.is_account.known.reads in
-    let known = subst (λ (p : Program). IsAccount text p plan a x.account) programs x.is_account.known in
-    let same : x.account ≡ y.account = one_account text y.is_account.program plan a x.account y.account known y.is_account.known in
-    let s = state_at plan a in
+    let known = subst (λ (p : Program). IsAccount text p plan s done x.account) programs x.is_account.known in
+    let same : x.account ≡ y.account = one_account text y.is_account.program plan s done x.account y.account known y.is_account.known in
     let again = subst (λ (account : Account). IsExplanation text file account plan (final_of plan s) s.phases lines waits) same x.explains in
     ended_once text file y.account plan (final_of plan s) s.phases lines other waits also again y.explains

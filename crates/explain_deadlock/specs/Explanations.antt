@@ -4,10 +4,8 @@ use Rattle.explain_facts.specs.declared.account.Account.{Account}
 use Rattle.armus_base.specs.Deadlocks.{IsDeadBy}
 use Rattle.armus_base.specs.declared.ending.Final.{Final}
 use Rattle.armus_base.specs.Finals.{final_of}
-use Rattle.armus_base.specs.Places.{state_at}
 use Rattle.armus_base.specs.Plans.{Plan}
-use Rattle.armus_base.specs.Runs.{Place}
-use Rattle.armus_base.specs.States.{Phases}
+use Rattle.armus_base.specs.States.{Phases, State}
 use Rattle.report.specs.Counts.{counts_of}
 use Rattle.report.specs.Lines.{counts_line}
 use Rattle.report.specs.Standings.{AreStandings}
@@ -38,8 +36,8 @@ pub record IsExplanation (text : List ℕ) (file : Option (List ℕ)) (account :
   pub stand : AreStandings (IsDeadBy end.blocked) end.ends standings
   pub explains : Explains (facts_of text file account standings) plan phases (counts_line (counts_of standings)) lines waits
 
--- the lines explain how the tasks of the text's plan stand at these places, to which a run has come, and tell whether somebody waits for ever
-pub record IsExplanationAt (file : Option (List ℕ)) (text : List ℕ) (plan : Plan) (a : ℕ → Place) (lines : List ℕ) (waits : Bool) : Type 0 where
+-- the lines explain how the tasks of the text's plan stand in this state, to which a run has come, and tell whether somebody waits for ever
+pub record IsExplanationAt (file : Option (List ℕ)) (text : List ℕ) (plan : Plan) (s : State) (done : ℕ → ℕ) (lines : List ℕ) (waits : Bool) : Type 0 where
   pub account : Account
-  pub is_account : IsAccountOf text plan a account
-  pub explains : IsExplanation text file account plan (final_of plan (state_at plan a)) (state_at plan a).phases lines waits
+  pub is_account : IsAccountOf text plan s done account
+  pub explains : IsExplanation text file account plan (final_of plan s) s.phases lines waits

@@ -5,10 +5,9 @@ use Rattle.armus_base.specs.declared.event.Event.{Event}
 use Rattle.armus_base.specs.CheckedPlans.{IsCheckedPlan}
 use Rattle.armus_base.specs.Counts.{IsDistinct}
 use Rattle.armus_base.specs.Finals.{final_of}
-use Rattle.armus_base.specs.Places.{state_at}
 use Rattle.armus_base.specs.Plans.{IsMakerOf, Plan, code_of}
-use Rattle.armus_base.specs.Runs.{IsLegalRun, IsPlainRun, Place, places, state_after}
-use Rattle.armus_base.specs.States.{IsMember, IsReached, Phases, Step}
+use Rattle.armus_base.specs.Runs.{IsLegalRun, IsPlainRun, places, state_after}
+use Rattle.armus_base.specs.States.{IsMember, IsReached, Phases, State, Step}
 use Rattle.pl_core.specs.Tasks.{IsAtOp}
 use Rattle.pl_syntax.specs.declared.tree.Program.{Program}
 use Rattle.source_map.specs.Origins.{op_origin}
@@ -72,9 +71,9 @@ EachImpederIsTold =
 -- where a task is dead, the verdict is a circle: the cycle of the report
 abbrev pub DeadlockIsReported : Type 0
 DeadlockIsReported =
-    (plan : Plan) (a : ℕ → Place) (f : FactsValue) (v : WaitVerdict) → AreFactsAt plan a f → IsVerdict f (state_at plan a).phases v →
-    IsSomeDead (final_of plan (state_at plan a)).blocked →
-    (cycle : List TaskId) × (v ≡ Circle cycle) × IsReportedCycle (final_of plan (state_at plan a)).blocked cycle
+    (plan : Plan) (s : State) (done : ℕ → ℕ) (f : FactsValue) (v : WaitVerdict) → AreFactsAt plan s done f → IsVerdict f s.phases v →
+    IsSomeDead (final_of plan s).blocked →
+    (cycle : List TaskId) × (v ≡ Circle cycle) × IsReportedCycle (final_of plan s).blocked cycle
 
 -- ---- the notes
 

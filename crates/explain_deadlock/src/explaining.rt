@@ -2,6 +2,7 @@
 ghost use Rattle.explain_deadlock.specs.Explanations.{Explains, IsExplanationAt};
 ghost use Rattle.std.specs.Prelude.{◌≡◌, ◌++◌, IfOk, OnOk, option_copied};
 ghost use Rattle.armus_base.specs.Finals.{final_of};
+ghost use Rattle.armus_base.specs.Places.{done_by};
 ghost use Rattle.explain_deadlock.specs.Notes.{verdict_end};
 ghost use Rattle.explain_deadlock.specs.RunEnds.{IsAccountOf};
 ghost use Rattle.explain_deadlock.specs.calls.RunEnds.{WaitersStay};
@@ -114,10 +115,10 @@ pub fn explanation_of(
     world: &World,
     end: &Final,
 ) -> Result<Explanation, NoMemory>
-    requires account { IsAccountOf places.now world.now.plan (places_of world.now) account.now }
-    requires rest { WaitersStay world.now.plan (places_of world.now) }
+    requires account { IsAccountOf places.now world.now.plan (state_of world.now) (done_by (places_of world.now)) account.now }
+    requires rest { WaitersStay (state_of world.now) }
     requires end { end.now ≡ final_of world.now.plan (state_of world.now) }
-    ensures { IfOk result (λ e. IsExplanationAt (option_copied file.entry) places.now world.now.plan (places_of world.now) e.lines e.has_waiting) }
+    ensures { IfOk result (λ e. IsExplanationAt (option_copied file.entry) places.now world.now.plan (state_of world.now) (done_by (places_of world.now)) e.lines e.has_waiting) }
 {
     let plan = world.plan();
     let outline = outline_of(alloc, end)?;

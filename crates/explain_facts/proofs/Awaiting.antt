@@ -11,18 +11,18 @@ use Rattle.armus_base.specs.CheckedPlans.{IsCheckedPlan}
 use Rattle.armus_base.specs.Finals.{end_by, end_of}
 use Rattle.armus_base.specs.Places.{published_after, state_at}
 use Rattle.armus_base.specs.Plans.{Aim, Blocks, Plan, action_at, actions, actions_of, code_of}
-use Rattle.armus_base.specs.Runs.{IsReachable, Place, state_after}
+use Rattle.armus_base.specs.Runs.{Place, state_after}
 use Rattle.armus_base.specs.States.{State}
 use Rattle.armus_base.proofs.DeadByStatuses.{run_is_of_plan}
 use Rattle.armus_base.proofs.Members.{published_member}
 use Rattle.armus_base.proofs.Published.{published_after_is}
-use Rattle.armus_base.proofs.Reachable.{reachable_is_fixed}
 use Rattle.pl_core.specs.Tasks.{IsAtOp, actions_before}
 use Rattle.pl_plan.specs.Unfolding.{a_plain, plan_of}
 use Rattle.pl_syntax.specs.Tree.{await}
 use Rattle.pl_syntax.specs.declared.tree.Program.{Program}
 use Rattle.source_map.specs.Origins.{op_origin, written_statements}
 use Rattle.source_map.proofs.WrittenStatements.{awaits_come_from_awaits}
+use Rattle.explain_facts.specs.RunStates.{IsReachedState}
 
 -- an op of one action in front
 module _ (o : Op) (ops : List Op) (one : (j : ℕ) → actions_before (o ∷ ops) (suc j) ≡ suc (actions_before ops j)) where
@@ -118,19 +118,16 @@ waits_at_await p plan a t op e unfolds ended at =
     let written : slice_get (slice_index_or plan.codes t []) op ≡ Some (Await q off) = subst (λ (ops : List Op). slice_get ops op ≡ Some (Await q off)) (code_is plan.codes t) here in
     let (n, x, origin, statement) = awaits_come_from_awaits p plan unfolds t op q off written in (n, x, off, origin, statement)
 
-module _ (plan : Plan) (a : ℕ → Place) (checked : IsCheckedPlan plan) (reach : IsReachable plan a) (t : ℕ) (e : Event) (ended : end_of (state_at plan a) t ≡ Blocked e) where
-  same : state_after reach.steps ≡ state_at plan a
-  same = (reachable_is_fixed plan a checked reach).0
+module _ (plan : Plan) (s : State) (done : ℕ → ℕ) (there : IsReachedState plan s done) (t : ℕ) (e : Event) (ended : end_of s t ≡ Blocked e) where
+  published : s.published t ≡ Some e
+  published = published_of (s.forked t) (s.published t) (s.refused t) e ended
 
-  published : (state_at plan a).published t ≡ Some e
-  published = published_of ((state_at plan a).forked t) ((state_at plan a).published t) ((state_at plan a).refused t) e ended
-
-  member : (m : ℕ) × ((state_after reach.steps).phases t e.p.0 ≡ Some m)
-  member = published_member plan reach.steps reach.run t e (ap (λ (s : State). s.published t) same ∙ published)
+  member : (m : ℕ) × ((state_after there.steps).phases t e.p.0 ≡ Some m)
+  member = published_member plan there.steps there.run t e (ap (λ (x : State). x.published t) there.there ∙ published)
 
   -- who waits is a member of the phaser of its event, which is one of the plan
-  pub waiter_is_member : (m : ℕ) × ((state_at plan a).phases t e.p.0 ≡ Some m)
-  waiter_is_member = (member.0, ap (λ (s : State). s.phases t e.p.0) (sym same) ∙ member.1)
+  pub waiter_is_member : (m : ℕ) × (s.phases t e.p.0 ≡ Some m)
+  waiter_is_member = (member.0, ap (λ (x : State). x.phases t e.p.0) (sym there.there) ∙ member.1)
 
-  pub event_of_plan : e.p.0 < length plan.makers
-  event_of_plan = (run_is_of_plan plan reach.steps checked reach.run).phaser t e.p.0 member.0 member.1
+  pub event_of_plan : IsCheckedPlan plan → e.p.0 < length plan.makers
+  event_of_plan checked = (run_is_of_plan plan there.steps checked there.run).phaser t e.p.0 member.0 member.1

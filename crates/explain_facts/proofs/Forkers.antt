@@ -28,7 +28,7 @@ unfolding parent_of
 parent_is plan t u is = sym (ap number_or_zero is)
 
 pub forkers_fork : ForkersFork
-forkers_fork text p plan a account unfolds known t d pos lt =
+forkers_fork text p plan s done account unfolds known t d pos lt =
     let near = text_is_near text p known.reads in
     let checked = text_is_checked text p plan known.reads unfolds in
     let (u, drawn) = checked.tables.drawn t pos lt in

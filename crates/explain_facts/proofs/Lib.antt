@@ -1,5 +1,6 @@
 pub mod DrawnTasks
 pub mod NamesSeen
+pub mod AtPlaces
 pub mod Awaiting
 pub mod Told
 pub mod Firsts

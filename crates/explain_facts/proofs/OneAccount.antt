@@ -1,4 +1,4 @@
--- The places of a text's plan have one account at most.
+-- A state of a text's plan has one account at most.
 use Rattle.std.proofs.Common.{◌≡◌, ℕ, zero, suc, ◌+◌, ◌<◌, ◌≤◌, List, [], ◌∷◌, Option, Some, None, drop, length, map, sym, ap, subst, ◌∙◌, inl, inr, arith}
 use Rattle.std.specs.Prelude.{slice_index_or}
 use Rattle.std.proofs.lemmas.Bool.{cases_lt}
@@ -9,9 +9,8 @@ use Rattle.armus_base.specs.declared.event.Event.{Event}
 use Rattle.armus_base.specs.declared.op.Op.{Op}
 use Rattle.armus_base.specs.declared.op.Op.TheVariants as op
 use Rattle.armus_base.specs.Finals.{end_of, given_below}
-use Rattle.armus_base.specs.Places.{state_at}
 use Rattle.armus_base.specs.Plans.{Plan, code_of}
-use Rattle.armus_base.specs.Runs.{Place}
+use Rattle.armus_base.specs.States.{State}
 use Rattle.pl_core.specs.Tasks.{IsAtOp, actions_before}
 use Rattle.pl_syntax.specs.declared.tree.Program.{Program}
 use Rattle.pl_syntax.proofs.OneListOfEnds.{one_list_of_ends}
@@ -82,10 +81,10 @@ same_waiting :
     let w : Waiting = record { at = at'; words = words'; event = event'; phase = phase'; turns = turns' } in v ≡ w
 same_waiting at at' words words' event event' phase phase' turns turns' a b c d e = cc
 
-module _ (l : Layout) (p : Program) (plan : Plan) (a : ℕ → Place) (t : ℕ) where
-  one_waiting : (e : Event) (v w : Waiting) → IsWaiting l p plan a t e v → IsWaiting l p plan a t e w → v ≡ w
+module _ (l : Layout) (p : Program) (plan : Plan) (s : State) (done : ℕ → ℕ) (t : ℕ) where
+  one_waiting : (e : Event) (v w : Waiting) → IsWaiting l p plan s done t e v → IsWaiting l p plan s done t e w → v ≡ w
   one_waiting e v w x y =
-      let same = one_op (code_of plan t) (a t).done x.op y.op x.stands y.stands in
+      let same = one_op (code_of plan t) (done t) x.op y.op x.stands y.stands in
       let origin : Some x.n ≡ Some y.n = sym x.origin ∙ (ap (op_origin p t) same ∙ y.origin) in
       let number : x.n ≡ y.n = cc in
       let phases : Some v.phase ≡ Some w.phase = sym x.phase ∙ y.phase in
@@ -94,7 +93,7 @@ module _ (l : Layout) (p : Program) (plan : Plan) (a : ℕ → Place) (t : ℕ) 
       (x.words ∙ (ap (λ n. words_of (statement_in (written_statements p.body) n)) number ∙ sym y.words)) (x.event ∙ sym y.event) phase
       (x.turns ∙ (ap (λ k. placed_turns l (op_turns p t k)) same ∙ sym y.turns))
 
-  one_wait : (end : TaskEnd) (v w : Option Waiting) → HasWait l p plan a t end v → HasWait l p plan a t end w → v ≡ w
+  one_wait : (end : TaskEnd) (v w : Option Waiting) → HasWait l p plan s done t end v → HasWait l p plan s done t end w → v ≡ w
   one_wait (Blocked e) (Some v) (Some w) x y = ap Some (one_waiting e v w x y)
   one_wait (Blocked e) None w x y = absurd x
   one_wait (Blocked e) (Some v) None x y = absurd y
@@ -102,11 +101,11 @@ module _ (l : Layout) (p : Program) (plan : Plan) (a : ℕ → Place) (t : ℕ) 
   one_wait (Refused e) v w x y = x ∙ sym y
   one_wait Unforked v w x y = x ∙ sym y
 
-  one_list_of_nexts : (v w : List NextOp) → AreNextOps l p plan a t v → AreNextOps l p plan a t w → v ≡ w
+  one_list_of_nexts : (v w : List NextOp) → AreNextOps l p plan done t v → AreNextOps l p plan done t w → v ≡ w
   one_list_of_nexts v w x y =
       x.are
       ∙ (ap (λ i. given_below (λ q. next_op l p t q (first_on q i (drop i (code_of plan t)))) (length plan.makers))
-      (one_op (code_of plan t) (a t).done x.op y.op x.stands y.stands)
+      (one_op (code_of plan t) (done t) x.op y.op x.stands y.stands)
       ∙ sym y.are)
 
   same_task :
@@ -116,10 +115,10 @@ module _ (l : Layout) (p : Program) (plan : Plan) (a : ℕ → Place) (t : ℕ) 
       let w : TaskAccount = record { drawn = drawn'; fork = fork'; ended = ended'; wait = wait'; nexts = nexts' } in v ≡ w
   same_task drawn drawn' fork fork' ended ended' wait wait' nexts nexts' a b c d e = cc
 
-  one_task : (v w : TaskAccount) → IsTaskAccount l p plan a t v → IsTaskAccount l p plan a t w → v ≡ w
+  one_task : (v w : TaskAccount) → IsTaskAccount l p plan s done t v → IsTaskAccount l p plan s done t w → v ≡ w
   one_task v w x y =
       same_task v.drawn w.drawn v.fork w.fork v.ended w.ended v.wait w.wait v.nexts w.nexts (x.drawn ∙ sym y.drawn) (x.fork ∙ sym y.fork) (x.ended ∙ sym y.ended)
-      (one_wait (end_of (state_at plan a) t) v.wait w.wait x.wait y.wait) (one_list_of_nexts v.nexts w.nexts x.nexts y.nexts)
+      (one_wait (end_of s t) v.wait w.wait x.wait y.wait) (one_list_of_nexts v.nexts w.nexts x.nexts y.nexts)
 
 -- ---- accounts
 
@@ -131,13 +130,13 @@ same_account :
 same_account tasks tasks' phasers phasers' names names' immediate immediate' a b c d = cc
 
 pub one_account : OneAccount
-one_account text p plan a account other x y =
+one_account text p plan s done account other x y =
     let layout : x.layout ≡ y.layout = one_layout p x.layout y.layout x.is_layout y.is_layout (x.of_text ∙ sym y.of_text) in
     let long : length account.tasks ≡ length other.tasks = x.all_told ∙ sym y.all_told in
     same_account account.tasks other.tasks account.phasers other.phasers account.names other.names account.immediate other.immediate
     (same_lists account.tasks other.tasks long
-    (λ k d lt. one_task y.layout p plan a k (slice_index_or account.tasks k d) (slice_index_or other.tasks k d)
-    (subst (λ (l : Layout). IsTaskAccount l p plan a k (slice_index_or account.tasks k d)) layout (x.each k d (omega (arith, lt, x.all_told))))
+    (λ k d lt. one_task y.layout p plan s done k (slice_index_or account.tasks k d) (slice_index_or other.tasks k d)
+    (subst (λ (l : Layout). IsTaskAccount l p plan s done k (slice_index_or account.tasks k d)) layout (x.each k d (omega (arith, lt, x.all_told))))
     (y.each k d (omega (arith, lt, x.all_told)))))
     (x.phasers ∙ (ap (λ (l : Layout). map (statement_place l) (phaser_origins p)) layout ∙ sym y.phasers))
     (x.names ∙ sym y.names)

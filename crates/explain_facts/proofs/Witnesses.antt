@@ -8,9 +8,10 @@ use Rattle.armus_base.specs.declared.ending.TaskEnd.TheVariants.{Blocked}
 use Rattle.armus_base.specs.declared.event.Event.{Event}
 use Rattle.armus_base.specs.declared.offset.Offset.{Offset}
 use Rattle.armus_base.specs.Finals.{end_of}
-use Rattle.armus_base.specs.Places.{state_at}
+use Rattle.armus_base.specs.Places.{done_by, state_at}
 use Rattle.armus_base.specs.Plans.{Plan}
-use Rattle.armus_base.specs.Runs.{Place}
+use Rattle.armus_base.specs.Runs.{Place, places}
+use Rattle.armus_base.specs.States.{State}
 use Rattle.pl_plan.specs.Unfolding.{Coming, a_fork, a_loop, a_plain, a_turn, plan_of}
 use Rattle.pl_plan.specs.Tests.{of_new_task}
 use Rattle.pl_syntax.specs.BodyEnds.{EndsAt, end_tokens}
@@ -30,7 +31,9 @@ use Rattle.explain_facts.specs.AwaitWords.{await_text}
 use Rattle.explain_facts.specs.calls.Laws.{DrawnHaveNames, StatementsHavePlaces, WaitersHaveAwaits}
 use Rattle.explain_facts.specs.declared.account.Drawn.{Drawn}
 use Rattle.explain_facts.specs.declared.account.Waiting.{Waiting}
+use Rattle.explain_facts.proofs.AtPlaces.{to_places}
 use Rattle.explain_facts.proofs.Awaiting.{waits_at_await}
+use Rattle.pl_plan.proofs.TextsAreNear.{text_is_checked}
 
 -- ---- layouts
 
@@ -68,7 +71,7 @@ statements_have_places p l is = (
 
 waiting_is :
     (l : Layout) (p : Program) (plan : Plan) (a : ℕ → Place) (t : ℕ) (e : Event) (o : Option Waiting) → plan_of p ≡ Ok plan →
-    end_of (state_at plan a) t ≡ Blocked e → HasWait l p plan a t (Blocked e) o →
+    end_of (state_at plan a) t ≡ Blocked e → HasWait l p plan (state_at plan a) (done_by a) t (Blocked e) o →
     (w : Waiting) × (n : ℕ) × (x : List ℕ) × (off : Offset) × (o ≡ Some w) × (slice_get (written_statements p.body) n ≡ Some (a_plain (await x off)))
     × (w.words ≡ await_text x off) × (w.at ≡ statement_place l (suc n))
 waiting_is l p plan a t e None unfolds ended is = absurd is
@@ -87,10 +90,13 @@ waiting_is l p plan a t e (Some w) unfolds ended is =
     )
 
 pub waiters_have_awaits : WaitersHaveAwaits
-waiters_have_awaits text p plan a account unfolds known t d lt e ended =
-    let task = known.each t d lt in
-    waiting_is known.layout p plan a t e (slice_index_or account.tasks t d).wait unfolds ended
-    (subst (λ (end : TaskEnd). HasWait known.layout p plan a t end (slice_index_or account.tasks t d).wait) ended task.wait)
+waiters_have_awaits text p plan s counts account unfolds there known t d lt e ended =
+    let checked = text_is_checked text p plan known.reads unfolds in
+    let wait = (slice_index_or account.tasks t d).wait in
+    let has = subst (λ (end : TaskEnd). HasWait known.layout p plan s counts t end wait) ended (known.each t d lt).wait in
+    let (blocked, waits) =
+    to_places plan s counts checked there (λ (x : State) (g : ℕ → ℕ). (end_of x t ≡ Blocked e) × HasWait known.layout p plan x g t (Blocked e) wait) (ended, has) in
+    waiting_is known.layout p plan (places there.steps) t e wait unfolds blocked waits
 
 -- ---- who is drawn
 
@@ -108,7 +114,7 @@ drawing a_loop e = absurd cc
 drawing a_turn e = absurd cc
 
 pub drawn_have_names : DrawnHaveNames
-drawn_have_names text p plan a account unfolds known t d lt =
+drawn_have_names text p plan s counts account unfolds known t d lt =
     let (u, parent, origin) = tasks_have_origins p plan unfolds t lt in
     let (some, stands) = visits_are_of_text p u origin.by origin.among in
     let (x, is) = drawing origin.by.coming origin.passes in

@@ -1,4 +1,4 @@
--- What is known of the tasks of a text where its run has come to given places.
+-- What is known of the tasks of a text in a state to which its run has come.
 use Rattle.std.specs.Prelude.{◌≡◌, ℕ, zero, suc, ◌<◌, ◌==◌, List, [], ◌∷◌, Option, Some, None, drop, if◌then◌else◌, length, map, option_map, slice_index_or, unwrap_or}
 use Rattle.std.specs.List.{slice_get}
 use Rattle.armus_base.specs.declared.ending.TaskEnd.{TaskEnd}
@@ -10,9 +10,8 @@ use Rattle.armus_base.specs.declared.offset.Offset.TheVariants.{Here}
 use Rattle.armus_base.specs.declared.op.Op.{Op}
 use Rattle.armus_base.specs.declared.op.Op.TheVariants.{Make, Reg, Fork, Adv, Drop, Await}
 use Rattle.armus_base.specs.Finals.{end_of, given_below}
-use Rattle.armus_base.specs.Places.{state_at}
 use Rattle.armus_base.specs.Plans.{Plan, code_of}
-use Rattle.armus_base.specs.Runs.{Place}
+use Rattle.armus_base.specs.States.{State}
 use Rattle.pl_core.specs.Tasks.{IsAtOp}
 use Rattle.pl_plan.specs.Unfolding.{Coming, a_plain}
 use Rattle.pl_syntax.specs.BodyEnds.{AreEnds}
@@ -107,25 +106,25 @@ words_of _ = []
 abbrev pub placed_turns : Layout → List LoopTurn → List Turn
 placed_turns l turns = map (λ (turn : LoopTurn). record { turn = turn.turn; at = statement_place l turn.statement }) turns
 
--- where task t waits for the event: at the op of its code at which it stands, which comes from statement n
-pub record IsWaiting (l : Layout) (p : Program) (plan : Plan) (a : ℕ → Place) (t : ℕ) (e : Event) (w : Waiting) : Type 0 where
+-- where task t waits for the event in state s: at the op of its code at which it stands, of which it has done so many actions, and which comes from statement n
+pub record IsWaiting (l : Layout) (p : Program) (plan : Plan) (s : State) (done : ℕ → ℕ) (t : ℕ) (e : Event) (w : Waiting) : Type 0 where
   pub op : ℕ
-  pub stands : IsAtOp (code_of plan t) (a t).done op
+  pub stands : IsAtOp (code_of plan t) (done t) op
   pub n : ℕ
   pub origin : op_origin p t op ≡ Some n
   pub at : w.at ≡ statement_place l n
   pub words : w.words ≡ words_of (statement_in (written_statements p.body) n)
   pub event : w.event ≡ e
-  pub phase : (state_at plan a).phases t e.p.0 ≡ Some w.phase
+  pub phase : s.phases t e.p.0 ≡ Some w.phase
   pub turns : w.turns ≡ placed_turns l (op_turns p t op)
 
 -- a task has a wait just where it has ended so
-abbrev pub HasWait : Layout → Program → Plan → (ℕ → Place) → ℕ → TaskEnd → Option Waiting → Type 0
-HasWait l p plan a t (Blocked e) (Some w) = IsWaiting l p plan a t e w
-HasWait l p plan a t (Blocked e) None = ⊥
-HasWait l p plan a t Done w = w ≡ None
-HasWait l p plan a t (Refused e) w = w ≡ None
-HasWait l p plan a t Unforked w = w ≡ None
+abbrev pub HasWait : Layout → Program → Plan → State → (ℕ → ℕ) → ℕ → TaskEnd → Option Waiting → Type 0
+HasWait l p plan s done t (Blocked e) (Some w) = IsWaiting l p plan s done t e w
+HasWait l p plan s done t (Blocked e) None = ⊥
+HasWait l p plan s done t Done w = w ≡ None
+HasWait l p plan s done t (Refused e) w = w ≡ None
+HasWait l p plan s done t Unforked w = w ≡ None
 
 -- ---- what comes next
 
@@ -159,9 +158,9 @@ next_op l p t q None = None
 next_op l p t q (Some (does, i)) = Some (record { p = record { 0 = q }; does = does; at = op_place l p t (op_origin p t i) })
 
 -- what task t does next to each phaser, in order of number: by the ops of its code from the one on at which it stands
-pub record AreNextOps (l : Layout) (p : Program) (plan : Plan) (a : ℕ → Place) (t : ℕ) (nexts : List NextOp) : Type 0 where
+pub record AreNextOps (l : Layout) (p : Program) (plan : Plan) (done : ℕ → ℕ) (t : ℕ) (nexts : List NextOp) : Type 0 where
   pub op : ℕ
-  pub stands : IsAtOp (code_of plan t) (a t).done op
+  pub stands : IsAtOp (code_of plan t) (done t) op
   pub are : nexts ≡ given_below (λ q. next_op l p t q (first_on q op (drop op (code_of plan t)))) (length plan.makers)
 
 -- ---- awaits at which nobody ever has to wait
@@ -190,21 +189,21 @@ immediate_awaits l p plan = given_below (λ i. immediate_await l p plan (suc i))
 -- ---- the account
 
 -- what is known of task t
-pub record IsTaskAccount (l : Layout) (p : Program) (plan : Plan) (a : ℕ → Place) (t : ℕ) (account : TaskAccount) : Type 0 where
+pub record IsTaskAccount (l : Layout) (p : Program) (plan : Plan) (s : State) (done : ℕ → ℕ) (t : ℕ) (account : TaskAccount) : Type 0 where
   pub drawn : account.drawn ≡ drawn_of l p t
   pub fork : account.fork ≡ forked_of l p plan t
   pub ended : account.ended ≡ ended_of l p t
-  pub wait : HasWait l p plan a t (end_of (state_at plan a) t) account.wait
-  pub nexts : AreNextOps l p plan a t account.nexts
+  pub wait : HasWait l p plan s done t (end_of s t) account.wait
+  pub nexts : AreNextOps l p plan done t account.nexts
 
--- the account of the text, which is that of this program, whose plan has been run up to these places
-pub record IsAccount (text : List ℕ) (p : Program) (plan : Plan) (a : ℕ → Place) (account : Account) : Type 0 where
+-- the account of the text, which is that of this program, whose plan has been run up to this state, where each task has done so many actions of its code
+pub record IsAccount (text : List ℕ) (p : Program) (plan : Plan) (s : State) (done : ℕ → ℕ) (account : Account) : Type 0 where
   pub reads : IsText text p
   pub layout : Layout
   pub of_text : layout.text ≡ text
   pub is_layout : IsLayout p layout
   pub all_told : length account.tasks ≡ length plan.parents
-  pub each : (t : ℕ) (d : TaskAccount) → t < length plan.parents → IsTaskAccount layout p plan a t (slice_index_or account.tasks t d)
+  pub each : (t : ℕ) (d : TaskAccount) → t < length plan.parents → IsTaskAccount layout p plan s done t (slice_index_or account.tasks t d)
   pub phasers : account.phasers ≡ map (statement_place layout) (phaser_origins p)
   pub names : account.names ≡ program_names p
   pub immediate : account.immediate ≡ immediate_awaits layout p plan

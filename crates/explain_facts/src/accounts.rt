@@ -2,6 +2,7 @@
 ghost use Rattle.std.specs.Prelude.{◌≡◌, ℕ, ◌<◌, IfOk, Ok, OnOk, length, map, slice_index_or};
 ghost use Rattle.armus_base.specs.CheckedPlans.{IsCheckedPlan};
 ghost use Rattle.armus_base.specs.Finals.{end_of, list_below};
+ghost use Rattle.armus_base.specs.Places.{done_by};
 ghost use Rattle.armus_base.specs.Runs.{IsReachable};
 ghost use Rattle.pl_core.specs.calls.Worlds.{places_of, state_of};
 ghost use Rattle.pl_plan.specs.Unfolding.{plan_of};
@@ -32,7 +33,7 @@ fn wait_of(
     requires reachable { IsReachable world.now.plan (places_of world.now) }
     requires task { t.0 < length world.now.plan.parents }
     requires end { end_of (state_of world.now) t.0 ≡ end.now }
-    ensures { IfOk result (HasWait (kept_layout facts.now) facts.now.program.now world.now.plan (places_of world.now) t.0 end.now) }
+    ensures { IfOk result (HasWait (kept_layout facts.now) facts.now.program.now world.now.plan (state_of world.now) (done_by (places_of world.now)) t.0 end.now) }
 {
     match end {
         TaskEnd::Blocked(event) => Ok(Some(waiting_of(facts, world, t, *event)?)),
@@ -53,7 +54,7 @@ fn task_account(
     requires reachable { IsReachable world.now.plan (places_of world.now) }
     requires task { t.0 < length world.now.plan.parents }
     requires end { end_of (state_of world.now) t.0 ≡ end.now }
-    ensures { IfOk result (IsTaskAccount (kept_layout facts.now) facts.now.program.now world.now.plan (places_of world.now) t.0) }
+    ensures { IfOk result (IsTaskAccount (kept_layout facts.now) facts.now.program.now world.now.plan (state_of world.now) (done_by (places_of world.now)) t.0) }
 {
     let drawn = facts.drawn(t)?;
     let wait = wait_of(facts, world, t, end)?;
@@ -76,7 +77,7 @@ fn task_accounts(
     requires known { AreKnownFacts facts.now }
     requires unfolds { plan_of facts.now.program.now ≡ Ok world.now.plan }
     requires ends { ends.now ≡ list_below (end_of (state_of world.now)) (length world.now.plan.parents) }
-    ensures { IfOk result (AreTold (kept_layout facts.now) facts.now.program.now world.now.plan (places_of world.now) (length world.now.plan.parents)) }
+    ensures { IfOk result (AreTold (kept_layout facts.now) facts.now.program.now world.now.plan (state_of world.now) (done_by (places_of world.now)) (length world.now.plan.parents)) }
 {
     let plan = world.plan();
     let mut all = Vec::with_capacity(facts.alloc, ends.len())?;
@@ -109,7 +110,7 @@ pub fn account_of(
     requires known { AreKnownFacts facts }
     requires unfolds { plan_of facts.program.now ≡ Ok world.now.plan }
     requires ends { ends.now ≡ list_below (end_of (state_of world.now)) (length world.now.plan.parents) }
-    ensures account { IfOk result (IsAccount facts.entry.places.now facts.entry.program.now world.now.plan (places_of world.now)) }
+    ensures account { IfOk result (IsAccount facts.entry.places.now facts.entry.program.now world.now.plan (state_of world.now) (done_by (places_of world.now))) }
 {
     let tasks = task_accounts(&facts, world, ends)?;
     let phasers = phaser_places(&facts)?;

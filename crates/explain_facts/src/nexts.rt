@@ -1,6 +1,7 @@
 // What a task does next to each phaser.
 ghost use Rattle.std.specs.Prelude.{◌≡◌, ℕ, ◌==◌, ◌+◌, ◌<◌, ◌^◌, IfOk, None, Some, drop, if◌then◌else◌, length, option_map, replicate, slice_index_or};
 ghost use Rattle.armus_base.specs.Finals.{given_below};
+ghost use Rattle.armus_base.specs.Places.{done_by};
 ghost use Rattle.armus_base.specs.CheckedPlans.{IsCheckedPlan};
 ghost use Rattle.pl_core.specs.calls.Worlds.{places_of};
 ghost use Rattle.source_map.specs.Origins.{op_origins};
@@ -149,7 +150,7 @@ pub(crate) fn nexts_of(
     requires known { AreKnownFacts facts.now }
     requires checked { IsCheckedPlan world.now.plan }
     requires task { t.0 < length world.now.plan.parents }
-    ensures { IfOk result (AreNextOps (kept_layout facts.now) facts.now.program.now world.now.plan (places_of world.now) t.0) }
+    ensures { IfOk result (AreNextOps (kept_layout facts.now) facts.now.program.now world.now.plan (done_by (places_of world.now)) t.0) }
 {
     let plan = world.plan();
     let from = world.op(t);

@@ -3,6 +3,7 @@ ghost use Rattle.std.specs.Prelude.{◌≡◌, ◌<◌, IfOk, length, option_map
 ghost use Rattle.armus_base.specs.declared.ending.TaskEnd.TheVariants.{Blocked};
 ghost use Rattle.armus_base.specs.CheckedPlans.{IsCheckedPlan};
 ghost use Rattle.armus_base.specs.Finals.{end_of};
+ghost use Rattle.armus_base.specs.Places.{done_by};
 ghost use Rattle.armus_base.specs.Runs.{IsReachable};
 ghost use Rattle.source_map.specs.Origins.{op_origin, statement_in, written_statements};
 ghost use Rattle.source_map.specs.Turns.{op_turns};
@@ -69,7 +70,7 @@ pub(crate) fn waiting_of(
     requires reachable { IsReachable world.now.plan (places_of world.now) }
     requires task { t.0 < length world.now.plan.parents }
     requires waits { end_of (state_of world.now) t.0 ≡ Blocked event }
-    ensures { IfOk result (IsWaiting (kept_layout facts.now) facts.now.program.now world.now.plan (places_of world.now) t.0 event) }
+    ensures { IfOk result (IsWaiting (kept_layout facts.now) facts.now.program.now world.now.plan (state_of world.now) (done_by (places_of world.now)) t.0 event) }
 {
     let op = world.op(t);
     let Some(n) = facts.origins.op(facts.program, t, op) else {

@@ -5,13 +5,12 @@ use Rattle.armus_base.specs.Deadlocks.{IsDeadBy, IsDeadIn}
 use Rattle.armus_base.specs.declared.ids.TaskId.{TaskId}
 use Rattle.armus_base.specs.calls.FinalLaws.{IsOfPlan}
 use Rattle.armus_base.specs.Finals.{final_of}
-use Rattle.armus_base.specs.Places.{state_at}
 use Rattle.armus_base.specs.Plans.{Plan}
-use Rattle.armus_base.specs.Runs.{Place, places}
+use Rattle.armus_base.specs.Runs.{state_after}
 use Rattle.armus_base.specs.States.{State}
 use Rattle.armus_base.proofs.DeadByStatuses.{dead_by_final, run_is_of_plan}
-use Rattle.armus_base.proofs.Stepping.{places_fix}
 use Rattle.adaptive.specs.declared.analysis.Wanted.{Wanted}
+use Rattle.explain_facts.specs.RunStates.{done_after}
 use Rattle.explain_deadlock.specs.declared.outcome.WaitVerdict.TheVariants.{Circle}
 use Rattle.explain_deadlock.specs.Notes.{verdict_end}
 use Rattle.explain_deadlock.specs.Paragraphs.{paragraphs}
@@ -46,12 +45,12 @@ module _ (form : Form) (text : Text) (status number : ℕ) (lines report : Text)
   abbrev plan : Plan
   plan = e.plan
 
-  abbrev a : ℕ → Place
-  a = places e.steps
+  abbrev s : State
+  s = state_after e.steps
 
   -- the state that is explained is the one that is reported
-  same_state : run.state ≡ state_at plan a
-  same_state = sym (run.every e.steps e.ended.run e.ended.maximal) ∙ (places_fix plan (checked_plan text plan e.ended.plan_is) e.steps e.ended.run.0).0
+  same_state : run.state ≡ s
+  same_state = sym (run.every e.steps e.ended.run e.ended.maximal)
 
   of_plan : IsOfPlan plan run.state
   of_plan =
@@ -71,13 +70,13 @@ module _ (form : Form) (text : Text) (status number : ℕ) (lines report : Text)
       let v = x.explains.verdict in
       let r = run.report_is in
       record {
-        rest = verdict_line f v ++ paragraphs f (state_at plan a).phases (shown_of v) ++ verdict_end f plan (state_at plan a).phases v;
+        rest = verdict_line f v ++ paragraphs f s.phases (shown_of v) ++ verdict_end f plan s.phases v;
         others = task_lines r.standings ++ r.cycle_text ++ r.graph_text;
         lines_are = x.explains.is_it
-            ∙ first_of_four (counts_line (counts_of x.standings)) (verdict_line f v) (paragraphs f (state_at plan a).phases (shown_of v))
-            (verdict_end f plan (state_at plan a).phases v)
+            ∙ first_of_four (counts_line (counts_of x.standings)) (verdict_line f v) (paragraphs f s.phases (shown_of v))
+            (verdict_end f plan s.phases v)
             ∙ ap
-            (λ s. counts_line (counts_of s) ++ (verdict_line f v ++ paragraphs f (state_at plan a).phases (shown_of v) ++ verdict_end f plan (state_at plan a).phases v))
+            (λ ss. counts_line (counts_of ss) ++ (verdict_line f v ++ paragraphs f s.phases (shown_of v) ++ verdict_end f plan s.phases v))
             (sym stands);
         report_is = r.lines ∙ first_of_four (counts_line (counts_of r.standings)) (task_lines r.standings) r.cycle_text r.graph_text;
       }
@@ -85,12 +84,12 @@ module _ (form : Form) (text : Text) (status number : ℕ) (lines report : Text)
   abbrev facts : FactsValue
   facts = facts_of text form.file e.explains.tells.account e.explains.tells.explains.standings
 
-  facts_at : AreFactsAt plan a facts
+  facts_at : AreFactsAt plan s (done_after e.steps) facts
   facts_at =
-      record { account = e.explains.tells.is_account; reachable = leads_there plan e.steps e.ended.run.0; stand = e.explains.tells.explains.stand }
+      record { account = e.explains.tells.is_account; reached = leads_there plan e.steps e.ended.run.0; stand = e.explains.tells.explains.stand }
 
   -- some task is dead where the report has status 1
-  dead_there : number ≡ 1 → IsSomeDead (final_of plan (state_at plan a)).blocked
+  dead_there : number ≡ 1 → IsSomeDead (final_of plan s).blocked
   dead_there one =
       let (t, dead) = some_dead run.state number run.status_is one in
       subst (λ (s : State). IsSomeDead (final_of plan s).blocked) same_state (t, (dead_by_final plan run.state t of_plan).1 dead)
@@ -98,10 +97,10 @@ module _ (form : Form) (text : Text) (status number : ℕ) (lines report : Text)
   shows_cycle : number ≡ 1 → (cycle : List TaskId) × (run.report_is.cycle_text ≡ cycle_line cycle) × (e.explains.tells.explains.explains.verdict ≡ Circle cycle)
   shows_cycle one =
       let x = e.explains.tells.explains.explains in
-      let (cycle, is, reported) = deadlock_is_reported plan a facts x.verdict facts_at x.found (dead_there one) in
-      let told : IsCycleText (final_of plan (state_at plan a)).blocked run.report_is.cycle_text =
+      let (cycle, is, reported) = deadlock_is_reported plan s (done_after e.steps) facts x.verdict facts_at x.found (dead_there one) in
+      let told : IsCycleText (final_of plan s).blocked run.report_is.cycle_text =
       subst (λ (s : State). IsCycleText (final_of plan s).blocked run.report_is.cycle_text) same_state run.report_is.cycle in
-      (cycle, one_cycle_text (final_of plan (state_at plan a)).blocked run.report_is.cycle_text (cycle_line cycle) told (inr (cycle, reported, refl)), is)
+      (cycle, one_cycle_text (final_of plan s).blocked run.report_is.cycle_text (cycle_line cycle) told (inr (cycle, reported, refl)), is)
 
   status_too : number ≡ 1 → status ≡ 1
   status_too one =

@@ -10,16 +10,14 @@ use Rattle.armus_base.specs.declared.ids.TaskId.{TaskId}
 use Rattle.armus_base.specs.CheckedPlans.{IsCheckedPlan}
 use Rattle.armus_base.specs.Deadlocks.{IsDeadBy}
 use Rattle.armus_base.specs.Finals.{end_of, final_of, list_below}
-use Rattle.armus_base.specs.Places.{state_at}
 use Rattle.armus_base.specs.Plans.{Plan}
-use Rattle.armus_base.specs.Runs.{IsLegalRun, places, state_after}
+use Rattle.armus_base.specs.Runs.{IsLegalRun, state_after}
 use Rattle.armus_base.specs.Serial.{IsSerialAvoidedEnd, IsSerialAvoidedFinal}
 use Rattle.armus_base.specs.States.{State}
 use Rattle.armus_base.proofs.Below.{length-list_below, list_below-at}
 use Rattle.armus_base.proofs.NobodyIsDead.{avoided_legal}
 use Rattle.armus_base.proofs.OneSerialEnd.{one_serial_end}
 use Rattle.armus_base.proofs.SerialIsAvoided.{serial_is_avoided}
-use Rattle.armus_base.proofs.Stepping.{places_fix}
 use Rattle.adaptive.specs.declared.analysis.Wanted.{Wanted}
 use Rattle.report.specs.Counts.{counts_of}
 use Rattle.report.specs.Lines.{counts_line, task_lines}
@@ -115,14 +113,14 @@ module _ (form : Form) (text : Text) (status number : ℕ) (lines report : Text)
   legal = avoided_legal plan x.steps (serial_is_avoided plan x.steps checked ended.0)
 
   -- the state that is explained is the one that is reported
-  same_state : state_at plan (places x.steps) ≡ run.state
+  same_state : state_after x.steps ≡ run.state
   same_state =
-      sym (places_fix plan checked x.steps legal).0 ∙ ap state_after (one_serial_end plan x.steps serial.steps checked ended serial.ended) ∙ serial.there
+      ap state_after (one_serial_end plan x.steps serial.steps checked ended serial.ended) ∙ serial.there
 
   stands : x.explains.tells.standings ≡ run.report_is.standings
   stands =
-      let own : AreStandings (IsDeadBy (final_of plan (state_at plan (places x.steps))).blocked) (final_of plan (state_at plan (places x.steps))).ends x.explains.tells.standings =
-      subst (λ (q : Plan). AreStandings (IsDeadBy (final_of q (state_at q (places x.steps))).blocked) (final_of q (state_at q (places x.steps))).ends x.explains.tells.standings)
+      let own : AreStandings (IsDeadBy (final_of plan (state_after x.steps)).blocked) (final_of plan (state_after x.steps)).ends x.explains.tells.standings =
+      subst (λ (q : Plan). AreStandings (IsDeadBy (final_of q (state_after x.steps)).blocked) (final_of q (state_after x.steps)).ends x.explains.tells.standings)
       plans x.explains.tells.stand in
       one_standings (IsDeadBy (final_of plan run.state).blocked) (final_of plan run.state).ends x.explains.tells.standings run.report_is.standings
       (subst (λ (s : State). AreStandings (IsDeadBy (final_of plan s).blocked) (final_of plan s).ends x.explains.tells.standings) same_state own)
@@ -136,7 +134,7 @@ module _ (form : Form) (text : Text) (status number : ℕ) (lines report : Text)
   abbrev behind : List Standing → Text
   behind standings =
       waiting_line names (tasks_with waits_at_the_end standings) ++ x.explains.tells.refusals
-      ++ paragraphs (facts_of text form.file x.explains.tells.account x.explains.tells.standings) (state_at x.plan (places x.steps)).phases []
+      ++ paragraphs (facts_of text form.file x.explains.tells.account x.explains.tells.standings) (state_after x.steps).phases []
 
   begin_alike : BeginAlike run.report_is.standings x.explains.whole report
   begin_alike =
@@ -144,13 +142,13 @@ module _ (form : Form) (text : Text) (status number : ℕ) (lines report : Text)
       let r = run.report_is in
       record {
         rest = refused_line names (tasks_with was_refused own) ++ waiting_line names (tasks_with waits_at_the_end own) ++ x.explains.tells.refusals
-            ++ paragraphs (facts_of text form.file x.explains.tells.account own) (state_at x.plan (places x.steps)).phases [];
+            ++ paragraphs (facts_of text form.file x.explains.tells.account own) (state_after x.steps).phases [];
         others = task_lines r.standings ++ r.cycle_text ++ r.graph_text;
         lines_are = x.explains.tells.lines_are
             ∙ first_of_five (counts_line (counts_of own)) (refused_line names (tasks_with was_refused own)) (waiting_line names (tasks_with waits_at_the_end own))
-            x.explains.tells.refusals (paragraphs (facts_of text form.file x.explains.tells.account own) (state_at x.plan (places x.steps)).phases [])
+            x.explains.tells.refusals (paragraphs (facts_of text form.file x.explains.tells.account own) (state_after x.steps).phases [])
             ∙ ap (λ s. counts_line (counts_of s) ++ (refused_line names (tasks_with was_refused own) ++ waiting_line names (tasks_with waits_at_the_end own) ++ x.explains.tells.refusals
-            ++ paragraphs (facts_of text form.file x.explains.tells.account own) (state_at x.plan (places x.steps)).phases [])) stands;
+            ++ paragraphs (facts_of text form.file x.explains.tells.account own) (state_after x.steps).phases [])) stands;
         report_is = r.lines ∙ first_of_four (counts_line (counts_of r.standings)) (task_lines r.standings) r.cycle_text r.graph_text;
       }
 
@@ -163,7 +161,7 @@ module _ (form : Form) (text : Text) (status number : ℕ) (lines report : Text)
         rest = behind own;
         lines_are = x.explains.tells.lines_are
             ∙ two_of_five (counts_line (counts_of own)) (refused_line names (tasks_with was_refused own)) (waiting_line names (tasks_with waits_at_the_end own))
-            x.explains.tells.refusals (paragraphs (facts_of text form.file x.explains.tells.account own) (state_at x.plan (places x.steps)).phases [])
+            x.explains.tells.refusals (paragraphs (facts_of text form.file x.explains.tells.account own) (state_after x.steps).phases [])
             ∙ ap (λ z. counts_line (counts_of z) ++ refused_line names (tasks_with was_refused z) ++ behind own) stands;
         ascend = refused_ascend s;
         exact = λ t. (named_refused s t, λ named. refused_named s t named.0 named.1);

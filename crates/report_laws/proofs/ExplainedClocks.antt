@@ -7,13 +7,11 @@ use Rattle.armus_base.specs.declared.ending.TaskEnd.TheVariants as ends
 use Rattle.armus_base.specs.declared.event.Event.{Event}
 use Rattle.armus_base.specs.Deadlocks.{IsDeadBy}
 use Rattle.armus_base.specs.Finals.{end_by, end_of, final_of}
-use Rattle.armus_base.specs.Places.{state_at}
 use Rattle.armus_base.specs.Plans.{Plan}
-use Rattle.armus_base.specs.Runs.{IsMaximal, IsPlainRun, places, state_after}
+use Rattle.armus_base.specs.Runs.{IsMaximal, IsPlainRun, state_after}
 use Rattle.armus_base.specs.States.{State}
 use Rattle.armus_base.proofs.AvoidanceAgrees.{plain_unrefused}
 use Rattle.armus_base.proofs.DeadByStatuses.{dead_by_final, run_is_of_plan}
-use Rattle.armus_base.proofs.Stepping.{places_fix}
 use Rattle.armus_base.specs.calls.FinalLaws.{IsOfPlan}
 use Rattle.armus_base.specs.declared.ids.TaskId.{TaskId}
 use Rattle.armus_base.specs.declared.status.Status.{Status}
@@ -139,15 +137,12 @@ module _ (form : Form) (text : Text) (status number : ℕ) (lines report : Text)
   there =
       run.every x.steps (subst (λ (q : Plan). IsPlainRun q x.steps) (sym plans) x.ended.run) (subst (λ (q : Plan). IsMaximal q x.steps) (sym plans) x.ended.maximal)
 
-  same_state : state_at moves (places x.steps) ≡ run.state
-  same_state = sym (places_fix moves (checked_moves x.program x.unfolded x.ended.unfolds) x.steps x.ended.run.0).0 ∙ there
-
   abbrev all : List TaskEnd
   all = x.explains.tells.facts.ends
 
   ends_are : all ≡ (final_of plan run.state).ends
   ends_are =
-      x.explains.tells.are_facts.ends_are ∙ ap (λ (s : State). (final_of moves s).ends) same_state ∙ ap (λ (q : Plan). (final_of q run.state).ends) (sym plans)
+      x.explains.tells.are_facts.ends_are ∙ ap (λ (s : State). (final_of moves s).ends) there ∙ ap (λ (q : Plan). (final_of q run.state).ends) (sym plans)
 
   abbrev standings : List Standing
   standings = run.report_is.standings
@@ -205,7 +200,7 @@ module _ (form : Form) (text : Text) (status number : ℕ) (lines report : Text)
 
   blocked_are : x.explains.tells.facts.blocked ≡ (final_of plan run.state).blocked
   blocked_are =
-      x.explains.tells.are_facts.blocked_are ∙ ap (λ (s : State). (final_of moves s).blocked) same_state ∙ ap (λ (q : Plan). (final_of q run.state).blocked) (sym plans)
+      x.explains.tells.are_facts.blocked_are ∙ ap (λ (s : State). (final_of moves s).blocked) there ∙ ap (λ (q : Plan). (final_of q run.state).blocked) (sym plans)
 
   circle_is : IsClockCircle (final_of plan run.state).blocked x.explains.tells.circle
   circle_is = subst (λ (ss : List Status). IsClockCircle ss x.explains.tells.circle) blocked_are x.explains.tells.circle_is

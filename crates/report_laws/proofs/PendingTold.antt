@@ -12,12 +12,10 @@ use Rattle.armus_base.specs.declared.offset.Offset.TheVariants.{Here}
 use Rattle.armus_base.specs.declared.op.Op.TheVariants as op
 use Rattle.armus_base.specs.Finals.{end_of}
 use Rattle.armus_base.specs.Numbers.{phaser}
-use Rattle.armus_base.specs.Places.{state_at}
 use Rattle.armus_base.specs.Plans.{Plan, code_of}
 use Rattle.armus_base.specs.Runs.{places, state_after}
 use Rattle.armus_base.specs.States.{State, Step}
 use Rattle.armus_base.proofs.Lists.{some_at}
-use Rattle.armus_base.proofs.Stepping.{places_fix}
 use Rattle.pl_core.specs.Tasks.{IsAtOp}
 use Rattle.clock_syntax.specs.Trees.{ClockTree}
 use Rattle.clock_semantics.specs.Moves.{Move, code_of_moves, made_by, opens}
@@ -127,13 +125,11 @@ module _ (form : Form) (text : Text) (status : ℕ) (lines : Text) (x : IsClockE
 
   told : (t : ℕ) → t < activities u → (w : ClockWait) × (slice_get facts.waits t ≡ Some w) × IsTold t (end_of (state_after g) t) w
   told t inside =
-      let fixed : state_after g ≡ state_at plan (places g) = (places_fix plan (checked_moves x.program u e) g x.ended.run.0).0 in
       let are = x.explains.tells.are_facts.waits_are in
       let (w, found) = some_at facts.waits t (omega (arith, inside, are.all)) in (
         w,
         found,
-        subst (λ (z : State). IsTold t (end_of z t) w) (sym fixed)
-            (subst (IsTold t (end_of (state_at plan (places g)) t)) (get_or_from_slice_get facts.waits t w w found) (are.each t w inside)),
+        subst (IsTold t (end_of (state_after g) t)) (get_or_from_slice_get facts.waits t w w found) (are.each t w inside),
       )
 
   module _ (s : ClockState) (end : IsDirectEnd u s) (t : ℕ) (inside : t < activities u) where

@@ -5,9 +5,8 @@ use Rattle.armus_base.specs.declared.ending.TaskEnd.TheVariants.{Blocked, Done, 
 use Rattle.armus_base.specs.declared.event.Event.{Event}
 use Rattle.armus_base.specs.Counts.{IsDistinct}
 use Rattle.armus_base.specs.Finals.{end_of}
-use Rattle.armus_base.specs.Places.{state_at}
 use Rattle.armus_base.specs.Plans.{Plan}
-use Rattle.armus_base.specs.Runs.{IsFinal, Place}
+use Rattle.armus_base.specs.Runs.{IsFinal}
 use Rattle.armus_base.specs.States.{State}
 use Rattle.clock_syntax.specs.Trees.{ClockTree}
 use Rattle.clock_semantics.specs.Unfolding.{ClockUnfolding, clock_unfolded, plan_of_moves}
@@ -50,9 +49,9 @@ IsSaidOf f circle t (Refused e) = ⊥
 -- the explanation of a final state says so of each activity
 abbrev pub EachHasItsParagraph : Type 0
 EachHasItsParagraph =
-    (file : Option (List ℕ)) (text : List ℕ) (p : ClockTree) (u : ClockUnfolding) (plan : Plan) (a : ℕ → Place) (lines : List ℕ) (waits : Bool)
-    (x : ExplainsActivities file text p u plan a lines waits) (t : ℕ) → IsFinal plan (state_at plan a) → t < length plan.parents →
-    IsSaidOf x.facts x.circle t (end_of (state_at plan a) t)
+    (file : Option (List ℕ)) (text : List ℕ) (p : ClockTree) (u : ClockUnfolding) (plan : Plan) (s : State) (done : ℕ → ℕ) (lines : List ℕ) (waits : Bool)
+    (x : ExplainsActivities file text p u plan s done lines waits) (t : ℕ) → IsFinal plan s → t < length plan.parents →
+    IsSaidOf x.facts x.circle t (end_of s t)
 
 -- ---- who is named
 
@@ -79,6 +78,6 @@ pub record NamesThoseBehind (f : ClockFacts) (s : State) (e : Event) : Type 0 wh
 -- the explanation of a final state names those to each who waits
 abbrev pub ThoseBehindAreNamed : Type 0
 ThoseBehindAreNamed =
-    (file : Option (List ℕ)) (text : List ℕ) (p : ClockTree) (u : ClockUnfolding) (plan : Plan) (a : ℕ → Place) (lines : List ℕ) (waits : Bool)
-    (x : ExplainsActivities file text p u plan a lines waits) (t : ℕ) (e : Event) → IsFinal plan (state_at plan a) → (state_at plan a).published t ≡ Some e →
-    NamesThoseBehind x.facts (state_at plan a) e
+    (file : Option (List ℕ)) (text : List ℕ) (p : ClockTree) (u : ClockUnfolding) (plan : Plan) (s : State) (done : ℕ → ℕ) (lines : List ℕ) (waits : Bool)
+    (x : ExplainsActivities file text p u plan s done lines waits) (t : ℕ) (e : Event) → IsFinal plan s → s.published t ≡ Some e →
+    NamesThoseBehind x.facts s e

@@ -5,11 +5,11 @@ use Rattle.armus_base.specs.declared.ids.TaskId.{TaskId}
 use Rattle.armus_base.specs.Counts.{IsDistinct}
 use Rattle.armus_base.specs.Deadlocks.{IsDeadIn}
 use Rattle.armus_base.specs.Finals.{final_of}
-use Rattle.armus_base.specs.Places.{state_at}
 use Rattle.armus_base.specs.Plans.{Plan}
 use Rattle.armus_base.specs.Relations.{IsWalk}
-use Rattle.armus_base.specs.Runs.{IsLegalRun, IsMaximal, IsPlainRun, Place, places}
+use Rattle.armus_base.specs.Runs.{IsLegalRun, IsMaximal, IsPlainRun, state_after}
 use Rattle.armus_base.specs.States.{Phases, State, Step}
+use Rattle.explain_facts.specs.RunStates.{done_after}
 use Rattle.pl_plan.specs.Unfolding.{plan_of}
 use Rattle.pl_syntax.specs.Grammar.{IsText}
 use Rattle.pl_syntax.specs.declared.tree.Program.{Program}
@@ -31,17 +31,17 @@ use Rattle.explain_deadlock.specs.Verdicts.{IsVerdict, somebody_waits}
 
 -- ---- one explanation
 
--- there is one explanation at most of the places of a text's plan
+-- there is one explanation at most of a state of a text's plan
 abbrev pub OneExplanation : Type 0
 OneExplanation =
-    (file : Option (List ℕ)) (text : List ℕ) (plan : Plan) (a : ℕ → Place) (lines other : List ℕ) (waits also : Bool) →
-    IsExplanationAt file text plan a lines waits → IsExplanationAt file text plan a other also → (lines ≡ other) × (waits ≡ also)
+    (file : Option (List ℕ)) (text : List ℕ) (plan : Plan) (s : State) (done : ℕ → ℕ) (lines other : List ℕ) (waits also : Bool) →
+    IsExplanationAt file text plan s done lines waits → IsExplanationAt file text plan s done other also → (lines ≡ other) × (waits ≡ also)
 
 -- and the end of each maximal run of a text's plan has one
 abbrev pub ExplanationExists : Type 0
 ExplanationExists =
     (file : Option (List ℕ)) (text : List ℕ) (p : Program) (plan : Plan) (steps : List Step) → IsText text p → plan_of p ≡ Ok plan → IsLegalRun plan steps →
-    IsMaximal plan steps → (lines : List ℕ) × (waits : Bool) × IsExplanationAt file text plan (places steps) lines waits
+    IsMaximal plan steps → (lines : List ℕ) × (waits : Bool) × IsExplanationAt file text plan (state_after steps) (done_after steps) lines waits
 
 -- nothing is said in two paragraphs
 abbrev pub NothingIsSaidTwice : Type 0
@@ -50,7 +50,7 @@ NothingIsSaidTwice = (f : FactsValue) (shown : List TaskId) → IsDistinct (sayi
 -- in the paragraph of a deadlocked task a group of deadlocked impeders stands first
 abbrev pub DeadlockStandsFirst : Type 0
 DeadlockStandsFirst =
-    (plan : Plan) (a : ℕ → Place) (f : FactsValue) (t : ℕ) → AreFactsAt plan a f → situation_of f t ≡ Deadlocked → let phases = (state_at plan a).phases in
+    (plan : Plan) (s : State) (done : ℕ → ℕ) (f : FactsValue) (t : ℕ) → AreFactsAt plan s done f → situation_of f t ≡ Deadlocked → let phases = s.phases in
     (said : Said) × (slice_get (told_of f (next_of f phases t) (impeders_by_facts f phases t)) 0 ≡ Some said)
     × ((i : Impeder) → Contains (impeders_by_facts f phases t) i → same_said said (impeder_said f i) ≡ true → situation_of f i.t.0 ≡ Deadlocked)
 
@@ -68,8 +68,8 @@ IsDeadAndWaitsFor s t u = IsDeadIn s t.0 × (e : Event) × (s.published t.0 ≡ 
 -- no impeder of a held task is deadlocked
 abbrev pub HeldAreNotImpededByDead : Type 0
 HeldAreNotImpededByDead =
-    (plan : Plan) (a : ℕ → Place) (f : FactsValue) (t : ℕ) (i : Impeder) → AreFactsAt plan a f → situation_of f t ≡ Held →
-    Contains (impeders_by_facts f (state_at plan a).phases t) i → situation_of f i.t.0 ≡ Deadlocked → ⊥
+    (plan : Plan) (s : State) (done : ℕ → ℕ) (f : FactsValue) (t : ℕ) (i : Impeder) → AreFactsAt plan s done f → situation_of f t ≡ Held →
+    Contains (impeders_by_facts f s.phases t) i → situation_of f i.t.0 ≡ Deadlocked → ⊥
 
 -- a task that stands so has not come to its end, and somebody forks it: it waits, or is not forked yet
 pub record IsToCome (s : Situation) : Type 0 where
@@ -79,14 +79,14 @@ pub record IsToCome (s : Situation) : Type 0 where
 -- at the end of a maximal run who would fork a task that is not forked yet waits, or is not forked yet itself
 abbrev pub ForkersAreToCome : Type 0
 ForkersAreToCome =
-    (plan : Plan) (steps : List Step) (f : FactsValue) (t u : TaskId) → IsPlainRun plan steps → IsMaximal plan steps → AreFactsAt plan (places steps) f →
-    situation_of f t.0 ≡ NotForkedYet → IsNext f (state_at plan (places steps)).phases t u → IsToCome (situation_of f u.0)
+    (plan : Plan) (steps : List Step) (f : FactsValue) (t u : TaskId) → IsPlainRun plan steps → IsMaximal plan steps → AreFactsAt plan (state_after steps) (done_after steps) f →
+    situation_of f t.0 ≡ NotForkedYet → IsNext f (state_after steps).phases t u → IsToCome (situation_of f u.0)
 
 -- and where the walk comes to an end, it is a held task that waits for one that has ended or is never forked
 abbrev pub ChainsEnd : Type 0
 ChainsEnd =
-    (plan : Plan) (steps : List Step) (f : FactsValue) (held last : TaskId) → IsPlainRun plan steps → IsMaximal plan steps → AreFactsAt plan (places steps) f →
-    IsVerdict f (state_at plan (places steps)).phases (Chain held last) →
+    (plan : Plan) (steps : List Step) (f : FactsValue) (held last : TaskId) → IsPlainRun plan steps → IsMaximal plan steps → AreFactsAt plan (state_after steps) (done_after steps) f →
+    IsVerdict f (state_after steps).phases (Chain held last) →
     (situation_of f held.0 ≡ Held) × ((situation_of f last.0 ≡ HasEnded) ⊎ (situation_of f last.0 ≡ NeverForked))
 
 -- there are tasks, each of them stands so to the one behind it, and the last to the first
@@ -98,5 +98,5 @@ pub record ShowsCircle (R : TaskId → TaskId → Type 0) (shown : List TaskId) 
 -- where a task is dead, all shown tasks are, and each is impeded by the one behind it, the last by the first
 abbrev pub ShownAreDead : Type 0
 ShownAreDead =
-    (plan : Plan) (a : ℕ → Place) (f : FactsValue) (shown : List TaskId) → AreFactsAt plan a f → IsVerdict f (state_at plan a).phases (Circle shown) →
-    IsSomeDead (final_of plan (state_at plan a)).blocked → ShowsCircle (IsDeadAndWaitsFor (state_at plan a)) shown
+    (plan : Plan) (s : State) (done : ℕ → ℕ) (f : FactsValue) (shown : List TaskId) → AreFactsAt plan s done f → IsVerdict f s.phases (Circle shown) →
+    IsSomeDead (final_of plan s).blocked → ShowsCircle (IsDeadAndWaitsFor s) shown

@@ -5,6 +5,7 @@ use Rattle.armus_base.specs.Finals.{end_of, is_awaited}
 use Rattle.armus_base.specs.calls.Statuses.{IsInOrder}
 use Rattle.armus_base.proofs.Below.{length-list_below}
 use Rattle.armus_base.proofs.StatusesAre.{statuses_are}
+use Rattle.armus_base.specs.Places.{done_by}
 use Rattle.pl_core.specs.calls.Worlds.{places_of, state_of}
 use Rattle.clock_semantics.specs.Unfolding.{plan_of_moves}
 use Rattle.clock_source_map.proofs.AllOrigins.{unfolding_of_plan}
@@ -56,9 +57,9 @@ returns c = λ u is.
             c.in_ok-layout.layout.origins f.of_text refl c.in_ok-layout.ensures.offsets c.text.ensures.text origins;
         ends_are = ap (λ (e : Final). e.ends) c.requires.end;
         blocked_are = ap (λ (e : Final). e.blocked) c.requires.end;
-        waits_are = subst (λ (os : List (List (Option ℕ))). AreWaitsAt (all_waits u) os c.args.world.now.plan (places_of c.args.world.now) c.in_ok-waits.waits.items)
+        waits_are = subst (λ (os : List (List (Option ℕ))). AreWaitsAt (all_waits u) os c.args.world.now.plan (state_of c.args.world.now) (done_by (places_of c.args.world.now)) c.in_ok-waits.waits.items)
             (c.as_slice.ensures.items ∙ c.in_ok-ops.ensures u is)
-            (subst (λ w. AreWaitsAt w c.as_slice.result.now c.args.world.now.plan (places_of c.args.world.now) c.in_ok-waits.waits.items) origins.waits c.in_ok-waits.ensures);
+            (subst (λ w. AreWaitsAt w c.as_slice.result.now c.args.world.now.plan (state_of c.args.world.now) (done_by (places_of c.args.world.now)) c.in_ok-waits.waits.items) origins.waits c.in_ok-waits.ensures);
       };
       circle = told.0.0;
       circle_is = told.0.1;

@@ -1,5 +1,6 @@
 use Rattle.std.proofs.Common.{◌<◌, ◌∙◌, ap, arith, length, sym}
 use Rattle.armus_base.specs.Finals.{end_of}
+use Rattle.armus_base.specs.Places.{done_by}
 use Rattle.armus_base.proofs.Below.{length-list_below}
 use Rattle.pl_core.specs.calls.Worlds.{places_of, state_of}
 use Rattle.explain_facts.specs.calls.Known.{kept_layout}
@@ -20,5 +21,5 @@ task_account-requires-clause-end c =
 
 pub loop-t-preserved : goal.loop-t-preserved
 loop-t-preserved c =
-    told_more (kept_layout c.args.facts.now) c.args.facts.now.program.now c.args.world.now.plan (places_of c.args.world.now) c.loop-t.t c.loop-t.all.items
+    told_more (kept_layout c.args.facts.now) c.args.facts.now.program.now c.args.world.now.plan (state_of c.args.world.now) (done_by (places_of c.args.world.now)) c.loop-t.t c.loop-t.all.items
     c.push.new.self.items c.in_ok-task_account.field-0 c.loop-t.invariant c.in_ok-push.ensures.items c.in_ok-task_account.ensures
