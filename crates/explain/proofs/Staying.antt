@@ -8,7 +8,7 @@ use Rattle.armus_base.specs.declared.ending.TaskEnd.TheVariants as ends
 use Rattle.armus_base.specs.declared.event.Event.{Event}
 use Rattle.armus_base.specs.calls.FinalLaws.{IsOfPlan}
 use Rattle.armus_base.specs.Finals.{end_by, end_of, final_of}
-use Rattle.armus_base.specs.Places.{refused_at, state_at}
+use Rattle.armus_base.specs.Places.{refused_at}
 use Rattle.armus_base.specs.Plans.{Plan}
 use Rattle.armus_base.specs.Runs.{IsLegalRun, places, state_after}
 use Rattle.armus_base.specs.Serial.{IsSerialAvoidedEnd}

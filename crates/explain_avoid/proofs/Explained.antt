@@ -6,7 +6,7 @@ use Rattle.armus_base.specs.Deadlocks.{IsDeadBy}
 use Rattle.armus_base.specs.Finals.{end_of, final_of, list_below}
 use Rattle.armus_base.specs.Places.{done_by, state_at}
 use Rattle.armus_base.specs.Plans.{Plan}
-use Rattle.armus_base.specs.Runs.{Place, places, state_after}
+use Rattle.armus_base.specs.Runs.{Place, state_after}
 use Rattle.armus_base.specs.States.{State}
 use Rattle.armus_base.proofs.NobodyIsDead.{avoided_legal}
 use Rattle.armus_base.proofs.PlacesFixState.{places_fix_state}

@@ -1,5 +1,5 @@
 // The serial avoided run, with a paragraph for each refusal.
-ghost use Rattle.std.specs.Prelude.{◌≡◌, ◌+◌, ◌<◌, ◌^◌, ℕ, IfOk, Ok, OnOk, false, length, option_copied, true};
+ghost use Rattle.std.specs.Prelude.{◌≡◌, ◌+◌, ◌<◌, ℕ, IfOk, Ok, OnOk, false, length, option_copied, true};
 ghost use Rattle.avoider.specs.calls.Decisions.{IsBeforeStep};
 ghost use Rattle.pl_core.specs.calls.Stands.{IsAtAwaitOf, IsEnabled};
 ghost use Rattle.pl_core.specs.calls.Worlds.{WorldValue};

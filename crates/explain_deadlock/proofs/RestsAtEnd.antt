@@ -1,5 +1,5 @@
 -- Where a maximal run has ended, no task that waits may go on.
-use Rattle.std.proofs.Common.{Some, List, ap, subst, refl}
+use Rattle.std.proofs.Common.{List, ap, subst, refl}
 use Rattle.armus_base.specs.declared.ending.TaskEnd.TheVariants.{Blocked}
 use Rattle.armus_base.specs.CheckedPlans.{IsCheckedPlan}
 use Rattle.armus_base.specs.calls.FinalLaws.{Tells}

@@ -1,5 +1,5 @@
 -- The explanation of the serial avoided run of a text, and the report of `avoid` with one worker.
-use Rattle.std.proofs.Common.{◌≡◌, ◌∙◌, ◌++◌, ◌<◌, ℕ, Bool, true, List, [], ap, append_assoc, arith, get_or, inl, inr, length, refl, subst, sym}
+use Rattle.std.proofs.Common.{◌≡◌, ◌∙◌, ◌++◌, ◌<◌, ℕ, Bool, true, List, [], ap, append_assoc, arith, get_or, inl, inr, length, refl, subst}
 use Rattle.std.specs.Prelude.{AllPairs, Contains, Some, if◌then◌else◌, slice_get, slice_index_or}
 use Rattle.std.proofs.lemmas.List.Kept.{AllPairs-filter}
 use Rattle.std.proofs.lemmas.Option.{get_or_from_slice_get, slice_get-get_or, slice_get_within}

@@ -40,7 +40,7 @@ use Rattle.explain.specs.ClockExplained.{IsClockExplanationOf}
 use Rattle.report_laws.proofs.Explained.{some_dead}
 use Rattle.explain.specs.Explained.{SomeWaits}
 use Rattle.explain.specs.Requests.{Form}
-use Rattle.explain.proofs.ClockEnds.{checked_moves, clocks_tell_waiting}
+use Rattle.explain.proofs.ClockEnds.{clocks_tell_waiting}
 use Rattle.report_laws.specs.ExplainedClocks.{CountAlike, ExplainsAsClock}
 use Rattle.report_laws.specs.ReportedStandings.{AreStandingsIn}
 use Rattle.report_laws.proofs.OneAnswer.{one_clock_plan}

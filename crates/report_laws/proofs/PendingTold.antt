@@ -14,7 +14,7 @@ use Rattle.armus_base.specs.Finals.{end_of}
 use Rattle.armus_base.specs.Numbers.{phaser}
 use Rattle.armus_base.specs.Plans.{Plan, code_of}
 use Rattle.armus_base.specs.Runs.{places, state_after}
-use Rattle.armus_base.specs.States.{State, Step}
+use Rattle.armus_base.specs.States.{Step}
 use Rattle.armus_base.proofs.Lists.{some_at}
 use Rattle.pl_core.specs.Tasks.{IsAtOp}
 use Rattle.clock_syntax.specs.Trees.{ClockTree}
@@ -43,7 +43,6 @@ use Rattle.explain_clock.proofs.PendingRows.{row_within}
 use Rattle.program_io.specs.Texts.{Text}
 use Rattle.explain.specs.ClockExplained.{IsClockExplanationOf}
 use Rattle.explain.specs.Requests.{Form}
-use Rattle.explain.proofs.ClockEnds.{checked_moves}
 use Rattle.report_laws.specs.MovesMade.{MakesMoveAt}
 use Rattle.report_laws.specs.PendingTold.{PendingIsRemembered}
 use Rattle.report_laws.specs.WaitsTold.{IsOpOfMove}
