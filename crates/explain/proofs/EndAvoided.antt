@@ -22,7 +22,7 @@ pub refusals_same : (form : Form) (a b : Text) (p q : Program) (plan : Plan) (r 
     → IsRunWithRefusals form.file b q plan r
 refusals_same form a b p q plan r same_text same_program run =
     subst (λ (x : Text). IsRunWithRefusals form.file x q plan r) same_text
-        (subst (λ (x : Program). IsRunWithRefusals form.file a x plan r) same_program run)
+    (subst (λ (x : Program). IsRunWithRefusals form.file a x plan r) same_program run)
 
 pub end_avoided : (form : Form) (text : Text) (p : Program) (plan : Plan) (r : AvoidedRun) (run : IsRunWithRefusals form.file text p plan r) → IsText text p
     → plan_of p ≡ Ok plan → (account : Account) (x : AvoidedExplanation) (status : ℕ) (lines : Text) → IsAccountOf text r.world.plan (places_of r.world) account

@@ -65,12 +65,7 @@ impl<'p> Avoiding<'p> {
                     &pending,
                     cycle.tasks.as_slice(),
                 )?;
-                put_freed(
-                    text.facts,
-                    &mut self.refusals,
-                    &self.world,
-                    &pending.phases,
-                )?;
+                put_freed(text.facts, &mut self.refusals, &self.world, &pending.phases)?;
                 Ok(())
             }
         }

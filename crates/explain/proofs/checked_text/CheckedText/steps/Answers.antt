@@ -14,7 +14,7 @@ returns c =
     let text = c.args.self.now in
     let facts = c.in_ok-facts.facts in
     let run = stepped_same facts.places.now text.places.now facts.program.now text.program.now text.unfolded.plan c.in_ok-ran.ran
-        c.in_ok-facts.ensures.facts.text c.in_ok-facts.ensures.facts.program c.in_ok-ran.ensures.run in
+    c.in_ok-facts.ensures.facts.text c.in_ok-facts.ensures.facts.program c.in_ok-ran.ensures.run in
     record {
       steps = stepped_explained (form_with text.file text.extent) text.places.now text.program.now text.unfolded.plan c.requires.known.reads c.requires.known.plan
           c.in_ok-ran.ran run c.in_ok-explanation.explanation (number_of_status c.in_ok-answer.answer.status) c.in_ok-answer.answer.lines
