@@ -18,7 +18,6 @@ use Rattle.armus_base.proofs.NobodyIsDead.{avoided_legal}
 use Rattle.armus_base.proofs.RefusedEnds.{refused_ends}
 use Rattle.armus_base.proofs.SerialFinalIsAvoided.{serial_final_is_avoided}
 use Rattle.armus_base.proofs.SerialIsAvoided.{serial_is_avoided}
-use Rattle.armus_base.proofs.Stepping.{places_fix}
 use Rattle.pl_plan.proofs.TextsAreNear.{text_is_checked}
 use Rattle.report.specs.Standings.{AreStandings, Stands}
 use Rattle.report.specs.declared.standing.Standing.{Standing}
@@ -139,20 +138,18 @@ each_is_told_once file text plan steps lines stays x =
     let run : IsLegalRun plan steps = avoided_legal plan steps (serial_is_avoided plan steps checked x.ended.0) in
     let f = facts_of text file x.account x.standings in
     let s = state_after steps in
-    let stand : AreStandings (IsDeadBy (final_of plan s).blocked) (final_of plan s).ends x.standings =
-    subst (λ (z : State). AreStandings (IsDeadBy (final_of plan z).blocked) (final_of plan z).ends x.standings) (sym (places_fix plan checked steps run).0) x.stand in
     let refused = λ (t : ℕ). refused_ends plan s t checked (serial_final_is_avoided plan s checked (record { steps = steps; ended = x.ended; there = refl })) in
     let in_run = each_is_refused_once plan steps run in
     record {
       named = λ t. (
-        λ m. (refused t.0).1 (named_end plan s f stand t m),
-        λ some. let at = (refused t.0).0 some in end_named plan s f stand t at.0 at.1.0 at.1.1,
+        λ m. (refused t.0).1 (named_end plan s f x.stand t m),
+        λ some. let at = (refused t.0).0 some in end_named plan s f x.stand t at.0 at.1.0 at.1.1,
       );
       refused = in_run.1;
       once = in_run.0;
       told = paragraph_for_each file x.are_refusals.layout x.program plan steps x.refusals x.are_refusals.each;
       not_behind = λ t said some there.
-          let at = (refused t.0).0 some in none_ended f t said (refused_ended plan s f stand t at.0 at.1.0 at.1.1) there;
+          let at = (refused t.0).0 some in none_ended f t said (refused_ended plan s f x.stand t at.0 at.1.0 at.1.1) there;
       behind = λ t below not_done not_refused.
-          one_behind f t (explained plan s f stand t below not_done (λ e is. not_refused ((refused t.0).1 (below, (e, is)))));
+          one_behind f t (explained plan s f x.stand t below not_done (λ e is. not_refused ((refused t.0).1 (below, (e, is)))));
     }
