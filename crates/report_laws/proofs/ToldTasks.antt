@@ -99,7 +99,7 @@ not_both HasEnded waits unforked = cc
 not_both NotForkedYet waits unforked = cc
 not_both NeverForked waits unforked = cc
 
-module _ (plan : Plan) (s : State) (done : ℕ → ℕ) (f : FactsValue) (at : AreFactsAt plan s done f) where
+module _ (plan : Plan) (s : State) (counts : ℕ → ℕ) (f : FactsValue) (at : AreFactsAt plan s counts f) where
   abbrev n : ℕ
   n = length plan.parents
 
@@ -122,13 +122,13 @@ module _ (plan : Plan) (s : State) (done : ℕ → ℕ) (f : FactsValue) (at : A
       that test there =
           let passed = passed_is (λ (u : TaskId). test (situation_of f u.0)) (list_below (λ u. record { 0 = u }) (length f.standings)) t there in
           let below = below_is (λ (u : ℕ). record { 0 = u }) (length f.standings) t passed.0 in
-          (subst (λ k. t.0 < k) (all_stand plan s done f at) (subst (λ k. k < length f.standings) (ap (λ (u : TaskId). u.0) below.2) below.1), passed.1)
+          (subst (λ k. t.0 < k) (all_stand plan s counts f at) (subst (λ k. k < length f.standings) (ap (λ (u : TaskId). u.0) below.2) below.1), passed.1)
 
   -- and has not ended as done
   explained_goes : (t : TaskId) → Contains (explained_tasks f) t → end_of s t.0 ≡ ends.Done → ⊥
   explained_goes t m done =
       let (below, stands) = explained_is t m in
-      let is : standing t.0 ≡ way.Done = subst (λ e. Stands (IsDeadHere t.0) e (standing t.0)) done (stands_here plan s done f at t.0 below) in
+      let is : standing t.0 ≡ way.Done = subst (λ e. Stands (IsDeadHere t.0) e (standing t.0)) done (stands_here plan s counts f at t.0 below) in
       explained_stands (situation_of f t.0) stands (ap (λ x. situation_by x (forking_of f t.0)) is)
 
   module _ (unrefused : (t : ℕ) (e : Event) → end_of s t ≡ ends.Refused e → ⊥) where
@@ -137,7 +137,7 @@ module _ (plan : Plan) (s : State) (done : ℕ → ℕ) (f : FactsValue) (at : A
     goes_explained t below not_done = by (end_of s t.0) refl
       where
         counted : t.0 < length f.standings
-        counted = subst (λ k. t.0 < k) (sym (all_stand plan s done f at)) below
+        counted = subst (λ k. t.0 < k) (sym (all_stand plan s counts f at)) below
 
         by : (end : TaskEnd) → end_of s t.0 ≡ end → Contains (explained_tasks f) t
         by ends.Done is = absurd (not_done is)
@@ -145,9 +145,9 @@ module _ (plan : Plan) (s : State) (done : ℕ → ℕ) (f : FactsValue) (at : A
         by (ends.Blocked e) is =
             Contains-append_left (tasks_that is_waiting f) (tasks_that stands_unforked f) t
             (that_has f is_waiting t counted
-            (elim (blocked_waits plan s done f at t.0 e below is) [ inl dead ↦ ap is_waiting dead.1 | inr held ↦ ap is_waiting held.1 ]))
+            (elim (blocked_waits plan s counts f at t.0 e below is) [ inl dead ↦ ap is_waiting dead.1 | inr held ↦ ap is_waiting held.1 ]))
         by ends.Unforked is =
-            let so : standing t.0 ≡ way.Unforked = subst (λ e. Stands (IsDeadHere t.0) e (standing t.0)) is (stands_here plan s done f at t.0 below) in
+            let so : standing t.0 ≡ way.Unforked = subst (λ e. Stands (IsDeadHere t.0) e (standing t.0)) is (stands_here plan s counts f at t.0 below) in
             Contains-append_right (tasks_that is_waiting f) (tasks_that stands_unforked f) t
             (that_has f stands_unforked t counted (ap (λ x. stands_unforked (situation_by x (forking_of f t.0))) so ∙ unforked_stands (forking_of f t.0)))
 
@@ -168,7 +168,7 @@ module _ (plan : Plan) (s : State) (done : ℕ → ℕ) (f : FactsValue) (at : A
   -- ---- its tasks stand alike
 
   standing_there : (t : TaskId) → t.0 < n → slice_get f.standings t.0 ≡ Some (standing t.0)
-  standing_there t below = slice_get-get_or f.standings t.0 way.Done (subst (λ k. t.0 < k) (sym (all_stand plan s done f at)) below)
+  standing_there t below = slice_get-get_or f.standings t.0 way.Done (subst (λ k. t.0 < k) (sym (all_stand plan s counts f at)) below)
 
   stand_alike : (t u : TaskId) (x : Said) → Contains (tasks_of f x) t → Contains (tasks_of f x) u → standing t.0 ≡ standing u.0
   stand_alike t u x m m' = by (explained_is t (said_there x t m).0).1 (explained_is u (said_there x u m').0).1
@@ -177,10 +177,10 @@ module _ (plan : Plan) (s : State) (done : ℕ → ℕ) (f : FactsValue) (at : A
       waiters waits =
           let same = (wait_alike f s.phases x t u m m' waits).0 in
           let also = ap is_waiting same ∙ waits in
-          let (lt, e, ended, so) = waiting_is plan s done f at t.0 waits in
-          let (lu, d, ended_too, too) = waiting_is plan s done f at u.0 also in
-          let (w, there, w_is) = wait_told plan s done f at t.0 e lt ended in
-          let (v, there_too, v_is) = wait_told plan s done f at u.0 d lu ended_too in
+          let (lt, e, ended, so) = waiting_is plan s counts f at t.0 waits in
+          let (lu, d, ended_too, too) = waiting_is plan s counts f at u.0 also in
+          let (w, there, w_is) = wait_told plan s counts f at t.0 e lt ended in
+          let (v, there_too, v_is) = wait_told plan s counts f at u.0 d lu ended_too in
           let said : own_said f t.0 ≡ own_said f u.0 = sym (said_there x t m).1 ∙ (said_there x u m').1 in
           let events : Some w.event ≡ Some v.event =
           sym (event_told f t.0 (situation_of f t.0) waits ∙ some_event (wait_of f t.0) w there)
@@ -188,8 +188,8 @@ module _ (plan : Plan) (s : State) (done : ℕ → ℕ) (f : FactsValue) (at : A
           ∙ event_told f u.0 (situation_of f u.0) also
           ∙ some_event (wait_of f u.0) v there_too in
           let one : d ≡ e = sym v_is ∙ (let same_event : v.event ≡ w.event = cc in same_event) ∙ w_is in
-          let stands = subst (λ end. Stands (IsDeadHere t.0) end (standing t.0)) ended (stands_here plan s done f at t.0 lt) in
-          let stands_too = subst (λ end. Stands (IsDeadHere u.0) end (standing u.0)) (ended_too ∙ ap ends.Blocked one) (stands_here plan s done f at u.0 lu) in
+          let stands = subst (λ end. Stands (IsDeadHere t.0) end (standing t.0)) ended (stands_here plan s counts f at t.0 lt) in
+          let stands_too = subst (λ end. Stands (IsDeadHere u.0) end (standing u.0)) (ended_too ∙ ap ends.Blocked one) (stands_here plan s counts f at u.0 lu) in
           alike_by (IsDeadHere t.0) (IsDeadHere u.0) e (standing t.0) (standing u.0) (forking_of f t.0) (forking_of f u.0) stands stands_too (sym same)
 
       by : (is_waiting (situation_of f t.0) ≡ true) ⊎ (stands_unforked (situation_of f t.0) ≡ true)
@@ -203,16 +203,16 @@ module _ (plan : Plan) (s : State) (done : ℕ → ℕ) (f : FactsValue) (at : A
 
   module _ (t : TaskId) (e : Event) (published : IsPublishedOn s t.0 e) where
     below : t.0 < n
-    below = (of_plan_here plan s done f at).published t.0 e published
+    below = (of_plan_here plan s counts f at).published t.0 e published
 
     ended : end_of s t.0 ≡ ends.Blocked e
-    ended = blocked_is plan s done f at t.0 e published
+    ended = blocked_is plan s counts f at t.0 e published
 
     waits : is_waiting (situation_of f t.0) ≡ true
-    waits = elim (blocked_waits plan s done f at t.0 e below ended) [ inl dead ↦ ap is_waiting dead.1 | inr held ↦ ap is_waiting held.1 ]
+    waits = elim (blocked_waits plan s counts f at t.0 e below ended) [ inl dead ↦ ap is_waiting dead.1 | inr held ↦ ap is_waiting held.1 ]
 
     within : t.0 < length f.standings
-    within = subst (λ k. t.0 < k) (sym (all_stand plan s done f at)) below
+    within = subst (λ k. t.0 < k) (sym (all_stand plan s counts f at)) below
 
     abbrev tasks : List TaskId
     tasks = tasks_of f (own_said f t.0)
@@ -245,10 +245,10 @@ module _ (plan : Plan) (s : State) (done : ℕ → ℕ) (f : FactsValue) (at : A
       exact = λ u. (
         λ m.
             let (w, wait, lt, k, phase, less) = ((each_impeder_told f s.phases t.0).1 u).0 m in
-            (w.event, k, published_is plan s done f at t.0 w.event (wait_is plan s done f at t.0 w wait).1, phase, less),
+            (w.event, k, published_is plan s counts f at t.0 w.event (wait_is plan s counts f at t.0 w wait).1, phase, less),
         λ (d, k, on, phase, less).
-            let (w, wait, is) = wait_told plan s done f at t.0 d below (blocked_is plan s done f at t.0 d on) in
-            let there = subst (λ j. u.0 < j) (sym (all_stand plan s done f at)) ((of_plan_here plan s done f at).member u.0 d.p.0 k phase) in
+            let (w, wait, is) = wait_told plan s counts f at t.0 d below (blocked_is plan s counts f at t.0 d on) in
+            let there = subst (λ j. u.0 < j) (sym (all_stand plan s counts f at)) ((of_plan_here plan s counts f at).member u.0 d.p.0 k phase) in
             ((each_impeder_told f s.phases t.0).1 u).1
             (w, wait, there, k, subst (λ (x : Event). s.phases u.0 x.p.0 ≡ Some k) (sym is) phase, subst (λ (x : Event). k < x.n) (sym is) less),
       );
@@ -261,13 +261,13 @@ module _ (form : Form) (text : Text) (status : ℕ) (lines : Text) (e : IsExplan
   abbrev end_state : State
   end_state = state_after e.steps
 
-  abbrev counts : ℕ → ℕ
-  counts = done_after e.steps
+  abbrev end_counts : ℕ → ℕ
+  end_counts = done_after e.steps
 
   abbrev facts : FactsValue
   facts = facts_of text form.file e.explains.tells.account e.explains.tells.explains.standings
 
-  facts_there : AreFactsAt own_plan end_state counts facts
+  facts_there : AreFactsAt own_plan end_state end_counts facts
   facts_there =
       record { account = e.explains.tells.is_account; reached = leads_there own_plan e.steps e.ended.run.0; stand = e.explains.tells.explains.stand }
 
@@ -290,16 +290,16 @@ module _ (form : Form) (text : Text) (status : ℕ) (lines : Text) (e : IsExplan
         lines_are = (x.verdict, x.is_it);
         once = nothing_twice facts shown;
         told = λ t below not_done.
-            paragraph_there own_plan end_state counts facts facts_there shown t (goes_explained own_plan end_state counts facts facts_there none_refused t below not_done);
+            paragraph_there own_plan end_state end_counts facts facts_there shown t (goes_explained own_plan end_state end_counts facts facts_there none_refused t below not_done);
         only = λ t y m.
-            let (among, is) = said_there own_plan end_state counts facts facts_there y t m in
-            (is, (explained_is own_plan end_state counts facts facts_there t among).0, explained_goes own_plan end_state counts facts facts_there t among);
+            let (among, is) = said_there own_plan end_state end_counts facts facts_there y t m in
+            (is, (explained_is own_plan end_state end_counts facts facts_there t among).0, explained_goes own_plan end_state end_counts facts facts_there t among);
         alike = λ t u y m m'.
-            standing_there own_plan end_state counts facts facts_there t (explained_is own_plan end_state counts facts facts_there t (said_there own_plan end_state counts facts facts_there y t m).0).0
-            ∙ ap Some (stand_alike own_plan end_state counts facts facts_there t u y m m')
-            ∙ sym (standing_there own_plan end_state counts facts facts_there u
-            (explained_is own_plan end_state counts facts facts_there u (said_there own_plan end_state counts facts facts_there y u m').0).0);
-        named = λ t v published. names own_plan end_state counts facts facts_there t v published;
+            standing_there own_plan end_state end_counts facts facts_there t (explained_is own_plan end_state end_counts facts facts_there t (said_there own_plan end_state end_counts facts facts_there y t m).0).0
+            ∙ ap Some (stand_alike own_plan end_state end_counts facts facts_there t u y m m')
+            ∙ sym (standing_there own_plan end_state end_counts facts facts_there u
+            (explained_is own_plan end_state end_counts facts facts_there u (said_there own_plan end_state end_counts facts facts_there y u m').0).0);
+        named = λ t v published. names own_plan end_state end_counts facts facts_there t v published;
       }
 
 pub each_task_is_told : EachTaskIsTold
