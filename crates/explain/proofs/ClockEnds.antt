@@ -4,7 +4,6 @@ use Rattle.std.specs.Prelude.{◌↔◌, Err, Ok}
 use Rattle.std.specs.List.{list_any}
 use Rattle.armus_base.specs.CheckedPlans.{IsCheckedPlan}
 use Rattle.armus_base.specs.calls.FinalLaws.{IsOfPlan}
-use Rattle.armus_base.specs.declared.ending.TaskEnd.TheVariants as ends
 use Rattle.armus_base.specs.declared.event.Event.{Event}
 use Rattle.armus_base.specs.Finals.{end_by, end_of, list_below}
 use Rattle.armus_base.specs.Plans.{Plan}

@@ -1,5 +1,5 @@
 -- What the words behind the program's name ask for, and the lines that do not come of a text.
-use Rattle.std.specs.Prelude.{Bool, true, false, not, ◌==◌, if◌then◌else◌, List, [], ◌∷◌, ◌++◌, codes, Option, Some, None}
+use Rattle.std.specs.Prelude.{Bool, false, not, ◌==◌, if◌then◌else◌, List, [], ◌∷◌, ◌++◌, codes, Option, Some, None}
 use Rattle.std.specs.Str.{bytes_eq}
 use Rattle.pl_syntax.specs.Printed.{line}
 use Rattle.program_io.specs.Texts.{Text}

@@ -1,5 +1,5 @@
 -- How much of an explanation is shown.
-use Rattle.std.specs.Prelude.{◌≡◌, ℕ, zero, suc, ◌-◌, ◌==◌, ◌&&◌, not, Bool, true, false, [], ◌∷◌, ◌++◌, codes, count_by, decimal, drop, eqb, if◌then◌else◌, length, nat_lt, slice_index, take}
+use Rattle.std.specs.Prelude.{◌≡◌, ℕ, zero, suc, ◌-◌, ◌==◌, ◌&&◌, not, Bool, false, [], ◌∷◌, ◌++◌, codes, count_by, decimal, drop, eqb, if◌then◌else◌, length, nat_lt, slice_index, take}
 use Rattle.std.specs.List.{starts_with}
 use Rattle.pl_syntax.specs.Printed.{line}
 use Rattle.source_map.specs.TextPlaces.{is_line_feed}

@@ -1,5 +1,5 @@
 -- In an explanation of a run each task that was refused has its paragraph among the refusals, and each other task that is not done has one behind.
-use Rattle.std.proofs.Common.{◌≡◌, ◌∙◌, ℕ, ◌<◌, true, false, [], ◌++◌, Option, Some, None, ap, inl, inr, length, map, refl, subst, sym}
+use Rattle.std.proofs.Common.{◌≡◌, ◌∙◌, ℕ, ◌<◌, true, [], ◌++◌, Option, Some, None, ap, inl, inr, length, map, refl, subst, sym}
 use Rattle.std.specs.Prelude.{Contains, slice_index_or}
 use Rattle.std.proofs.lemmas.Bool.{false≢true}
 use Rattle.std.proofs.lemmas.List.Elements.{Contains-append_cases, Contains-append_left, Contains-append_right}

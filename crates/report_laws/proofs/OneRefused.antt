@@ -14,7 +14,7 @@ use Rattle.schedule.specs.Replays.{IsFirstFault}
 use Rattle.schedule.proofs.OneReplay.{one_first_fault}
 use Rattle.schedule.proofs.OneSchedule.{one_reading, one_split}
 use Rattle.command_line.specs.declared.command.Command.{Command}
-use Rattle.command_line.specs.declared.command.Command.TheVariants.{Check, Replay, Gen, Clock}
+use Rattle.command_line.specs.declared.command.Command.TheVariants.{Replay, Gen, Clock}
 use Rattle.program_io.specs.Texts.{Text}
 use Rattle.armus_top.specs.Clocks.{IsClockRefused}
 use Rattle.armus_top.specs.Commands.{IsRefusedFor, IsRefusedInput}

@@ -1,5 +1,5 @@
 -- The serial plain run: of the tasks that may go on, the one with the least number makes the next step.
-use Rattle.std.specs.Prelude.{ℕ, List, []}
+use Rattle.std.specs.Prelude.{List}
 use Rattle.armus_base.specs.Plans.{Plan}
 use Rattle.armus_base.specs.Runs.{IsMaximal}
 use Rattle.armus_base.specs.States.{Step}

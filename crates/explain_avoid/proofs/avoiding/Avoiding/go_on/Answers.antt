@@ -1,4 +1,4 @@
-use Rattle.std.proofs.Common.{◌≢◌, false, inr, refl, sym}
+use Rattle.std.proofs.Common.{◌≢◌, inr, refl, sym}
 use Rattle.std.specs.Prelude.{option_copied}
 use Rattle.std.proofs.lemmas.Bool.{false≢true}
 use Rattle.armus_base.specs.Plans.{Aim, Blocks}
