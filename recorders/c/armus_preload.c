@@ -1,7 +1,7 @@
 /* The recorder of C and C++ programs on Linux: a library that is loaded before the program's own (LD_PRELOAD), so that nothing in the program changes. A thread that
  * may wait writes into its own slot for what and from where; a watcher looks at all slots every 50 ms, asks the kernel whether those threads sleep at what they say,
- * and announces who stood in the same wait at two looks. Seen are pthread barriers, joins, mutexes, read-write locks, conditions, semaphores, the teams, tasks and locks
- * of GCC's OpenMP, and what waits at an address by syscall(SYS_futex), as std::barrier and std::latch do.
+ * and announces who stood in the same wait at two looks. Seen are pthread barriers, joins, mutexes, read-write locks, conditions, semaphores, what is called once, the
+ * teams, tasks and locks of GCC's OpenMP, and what waits at an address by syscall(SYS_futex), as std::barrier and std::latch do.
  *
  * The recorder takes no signal, holds no lock, has no cancellation point of its own, and begins with the program's first thread or first wait. */
 #define _GNU_SOURCE
@@ -10,6 +10,7 @@
 #include <elf.h>
 #include <errno.h>
 #include <fcntl.h>
+#include <link.h>
 #include <linux/futex.h>
 #include <pthread.h>
 #include <sched.h>
@@ -34,8 +35,8 @@
 #include <time.h>
 #include <unistd.h>
 
-enum kind { BARRIER, JOIN, MUTEX, RWLOCK, CONDITION, SEMAPHORE, CRITICAL, OMP_LOCK, TEAM, TEAM_END, TASKS, ORDERED, IDLE, ADDRESS, KINDS };
-static const char *const kind_names[KINDS] = {"barrier", "end-of", "mutex", "rwlock", "condition", "semaphore", "critical", "lock", "team", "team-end", "tasks", "ordered", "idle", "address"};
+enum kind { BARRIER, JOIN, MUTEX, RWLOCK, CONDITION, SEMAPHORE, ONCE, CRITICAL, OMP_LOCK, TEAM, TEAM_END, TASKS, ORDERED, IDLE, ADDRESS, KINDS };
+static const char *const kind_names[KINDS] = {"barrier", "end-of", "mutex", "rwlock", "condition", "semaphore", "once", "critical", "lock", "team", "team-end", "tasks", "ordered", "idle", "address"};
 enum state { FREE, LIVE, ENDING };
 enum { MQUEUE_MAGIC = 0x19800202 };       /* the file system of message queues */
 enum { CHUNK = 256, CHUNKS = 256, OBJECTS = 4096, LINE = 512, NAME = 40, MILLISECOND = 1000000, PERIOD = 50, LONGEST = 1000 };
@@ -83,7 +84,10 @@ static unsigned ended_count;
 
 static struct slot *_Atomic chunks[CHUNKS];
 static _Atomic(unsigned) thread_numbers, team_numbers;
-static __thread struct slot *mine __attribute__((tls_model("initial-exec")));
+#define OWN static __thread __attribute__((tls_model("initial-exec")))
+OWN struct slot *mine;
+struct once { void *control; void (*routine)(void); struct once *outer; };
+OWN struct once *calls_once, *runs_once;    /* the call that this thread is in; the routine that it runs */
 static _Atomic(int) active = -1;    /* -1 not begun, 0 off, 1 on */
 static int out = -1;
 static char address[256];
@@ -95,7 +99,8 @@ static _Atomic(bool) is_watched;                               /* there is a wat
 static _Atomic(bool) main_has_left;                            /* by pthread_exit, so that the last thread ends the process */
 static _Atomic(int) living;                                    /* threads that were made here and have not ended */
 
-/* ---- the functions of the libraries behind this one */
+/* ---- the functions of the libraries behind this one. They are looked for before the program begins: later that would wait for whoever loads a library, and its
+ * constructor may wait for the thread that asks. */
 #define UNBRACKETED(...) __VA_ARGS__
 #define REAL(result, name, ...) \
     static result (*_Atomic real_##name##_found)(__VA_ARGS__); \
@@ -106,7 +111,8 @@ static _Atomic(int) living;                                    /* threads that w
             atomic_store_explicit(&real_##name##_found, found, memory_order_relaxed); \
         } \
         return found; \
-    }
+    } \
+    __attribute__((constructor)) static void find_##name(void) { real_##name(); }
 
 static void *behind(const char *name) {
     void *found = NULL;
@@ -134,6 +140,163 @@ REAL(int, thrd_join, thrd_t, int *)
 REAL(int, mtx_lock, mtx_t *)
 REAL(int, mtx_trylock, mtx_t *)
 REAL(int, cnd_wait, cnd_t *, mtx_t *)
+REAL(int, pthread_once, pthread_once_t *, void (*)(void))
+REAL(void, call_once, once_flag *, void (*)(void))
+REAL(int, dlclose, void *)
+
+/* ---- the functions of OpenMP. A program that has none may load a library that has, at any time and for itself alone; two libraries may have one each. So whose function a
+ * call is meant for is told by the place of the call: that of a library that its own library wants, or, where there is none, of any. */
+enum { LIBRARIES = 1024, SITES = 512 };
+struct library { ElfW(Addr) base; const ElfW(Dyn) *dynamic; const char *path; bool reached; };
+struct search { const char *name; const void *from; void *found; int caller; };
+struct site { const void *from; const char *name; void *found; struct site *next; };
+static struct library libraries[LIBRARIES];     /* used by one thread at a time: the one that the loader lets look */
+static int library_count;
+static _Atomic(struct site *) sites[SITES];
+
+static bool holds(const struct dl_phdr_info *info, const void *address) {
+    bool found = false;
+    for (int i = 0; i < info->dlpi_phnum; i++) {
+        const ElfW(Phdr) *part = &info->dlpi_phdr[i];
+        found |= part->p_type == PT_LOAD && (uintptr_t)address - (info->dlpi_addr + part->p_vaddr) < part->p_memsz;
+    }
+    return found;
+}
+
+static int list_library(struct dl_phdr_info *info, size_t size, void *word) {
+    struct search *search = word;
+    struct library *one = &libraries[library_count];
+    (void)size;
+    if (library_count == LIBRARIES || holds(info, sites)) {
+        return 0;                                              /* not the recorder itself */
+    }
+    *one = (struct library){.base = info->dlpi_addr, .path = info->dlpi_name};
+    for (int i = 0; i < info->dlpi_phnum; i++) {
+        if (info->dlpi_phdr[i].p_type == PT_DYNAMIC) {
+            one->dynamic = (const ElfW(Dyn) *)(info->dlpi_addr + info->dlpi_phdr[i].p_vaddr);
+        }
+    }
+    if (holds(info, search->from)) {
+        search->caller = library_count;
+    }
+    library_count++;
+    return 0;
+}
+
+/* What a tag of a library says, as an address; the loader has added the base to most of them. */
+static const void *told_by(const struct library *one, ElfW(Sxword) tag) {
+    for (const ElfW(Dyn) *d = one->dynamic; d != NULL && d->d_tag != DT_NULL; d++) {
+        if (d->d_tag == tag) {
+            return (const void *)(d->d_un.d_ptr + (d->d_un.d_ptr < one->base ? one->base : 0));
+        }
+    }
+    return NULL;
+}
+
+/* The function of a name, in its newest version, that a library has. */
+static void *function_in(const struct library *one, const char *name) {
+    const uint32_t *table = told_by(one, DT_GNU_HASH);
+    const ElfW(Sym) *symbols = told_by(one, DT_SYMTAB);
+    const char *texts = told_by(one, DT_STRTAB);
+    const ElfW(Half) *versions = told_by(one, DT_VERSYM);
+    uint32_t hash = 5381;
+    for (const char *c = name; *c != 0; c++) {
+        hash = hash * 33 + (unsigned char)*c;
+    }
+    if (table == NULL || symbols == NULL || texts == NULL || table[0] == 0) {
+        return NULL;
+    }
+    const uint32_t *buckets = table + 4 + table[2] * (sizeof(ElfW(Addr)) / sizeof *table), *hashes = buckets + table[0];
+    uint32_t i = buckets[hash % table[0]];
+    for (bool is_last = i < table[1]; !is_last; i++) {
+        uint32_t own = hashes[i - table[1]];
+        if ((own | 1) == (hash | 1) && symbols[i].st_shndx != SHN_UNDEF && strcmp(texts + symbols[i].st_name, name) == 0 && (versions == NULL || (versions[i] & 0x8000) == 0)) {
+            return (void *)(one->base + symbols[i].st_value);
+        }
+        is_last = own & 1;
+    }
+    return NULL;
+}
+
+static const char *base_name(const char *path) {
+    const char *stroke = strrchr(path, '/');
+    return stroke != NULL ? stroke + 1 : path;
+}
+
+/* Puts those that a library wants behind the ones that are known to be wanted. */
+static int reach_wanted(const struct library *one, int *reached, int n) {
+    const char *texts = told_by(one, DT_STRTAB);
+    for (const ElfW(Dyn) *d = one->dynamic; texts != NULL && d != NULL && d->d_tag != DT_NULL; d++) {
+        for (int i = 0; d->d_tag == DT_NEEDED && i < library_count; i++) {
+            if (!libraries[i].reached && strcmp(base_name(libraries[i].path), base_name(texts + d->d_un.d_val)) == 0) {
+                libraries[i].reached = true;
+                reached[n++] = i;
+            }
+        }
+    }
+    return n;
+}
+
+/* Called once, while no library comes or goes. */
+static int look_for(struct dl_phdr_info *info, size_t size, void *word) {
+    static int reached[LIBRARIES];
+    struct search *search = word;
+    (void)info, (void)size;
+    library_count = 0;
+    search->caller = -1;
+    dl_iterate_phdr(list_library, search);
+    int n = search->caller >= 0;
+    if (n > 0) {
+        libraries[search->caller].reached = true;
+        reached[0] = search->caller;
+    }
+    for (int i = 0; i < n && search->found == NULL; i++) {
+        search->found = function_in(&libraries[reached[i]], search->name);
+        n = reach_wanted(&libraries[reached[i]], reached, n);
+    }
+    for (int i = 0; i < library_count && search->found == NULL; i++) {
+        search->found = function_in(&libraries[i], search->name);
+    }
+    return 1;
+}
+
+/* The function that a call is meant for; nothing where no library has it. */
+static __attribute__((noinline)) void *of_openmp(const char *name, const void *from) {
+    _Atomic(struct site *) *bucket = &sites[((uintptr_t)from * UINT64_C(0x9e3779b97f4a7c15) >> 32) % SITES];
+    for (const struct site *one = atomic_load_explicit(bucket, memory_order_acquire); one != NULL; one = one->next) {
+        if (one->from == from && one->name == name) {
+            return one->found;
+        }
+    }
+    struct search search = {.name = name, .from = from};
+    dl_iterate_phdr(look_for, &search);
+    struct site *made = search.found != NULL ? malloc(sizeof *made) : NULL;
+    if (made != NULL) {
+        *made = (struct site){from, name, search.found, atomic_load(bucket)};
+        while (!atomic_compare_exchange_weak(bucket, &made->next, made)) {
+            continue;
+        }
+    }
+    return search.found;
+}
+
+/* A library may have gone: each call is looked for anew. What was known is not given back, since another thread may read it. */
+int dlclose(void *library) {
+    int result = real_dlclose()(library);
+    for (int i = 0; i < SITES; i++) {
+        atomic_store(&sites[i], NULL);
+    }
+    return result;
+}
+
+#define FROM __builtin_extract_return_addr(__builtin_return_address(0))
+#define OPENMP(result, name, ...) \
+    static result (*_Atomic real_##name##_found)(__VA_ARGS__); \
+    static inline result (*real_##name(const void *from))(__VA_ARGS__) { \
+        result (*found)(__VA_ARGS__) = atomic_load_explicit(&real_##name##_found, memory_order_relaxed); \
+        return __builtin_expect(found != NULL, 1) ? found : (result (*)(__VA_ARGS__))of_openmp(#name, from); \
+    } \
+    __attribute__((constructor)) static void find_##name(void) { atomic_store(&real_##name##_found, (result (*)(__VA_ARGS__))dlsym(RTLD_NEXT, #name)); }
 
 /* ---- slots */
 static struct slot *slot_at(unsigned i) {
@@ -169,6 +332,7 @@ static struct slot *taken_slot(void) {
 }
 
 static void begin_watching(void);
+static void takes(struct slot *s, const void *lock);
 
 static __attribute__((noinline)) struct slot *new_slot(void) {
     if (atomic_load_explicit(&active, memory_order_relaxed) < 0) {
@@ -182,6 +346,9 @@ static __attribute__((noinline)) struct slot *new_slot(void) {
         if (s != NULL) {
             atomic_store(&s->tid, (pid_t)syscall(SYS_gettid));
             atomic_store(&s->handle, pthread_self());
+            for (const struct once *runs = runs_once; runs != NULL; runs = runs->outer) {
+                takes(s, runs->control);
+            }
             mine = s;
         }
     }
@@ -212,7 +379,7 @@ static inline void wait_ends(void *slot) {
     }
 }
 
-/* ---- the owners of OpenMP's locks, which do not know them. One word has the number of a slot and the address of the lock, so that both are of one moment; a lock that is
+/* ---- the owners of OpenMP's locks, which do not know them, and of what is called once. One word has the number of a slot and the address of the lock, so that both are of one moment; a lock that is
  * pushed out by another has no owner that is known. */
 enum { OWNED = 1024, ADDRESS_BITS = 48 };
 static _Atomic(uint64_t) owned[OWNED];
@@ -289,16 +456,41 @@ static bool read_memory(const void *from, void *to, size_t size) {
     return process_vm_readv(watcher_tid, &a, 1, &b, 1, 0) == (ssize_t)size;
 }
 
-static const char *base_name(const char *path) {
-    const char *stroke = strrchr(path, '/');
-    return stroke != NULL ? stroke + 1 : path;
-}
-
 static bool is_library_of_threads(const char *path) {
     const char *base = base_name(path);
     return strncmp(base, "libstdc++", 9) == 0 || strncmp(base, "libgomp", 7) == 0 || strncmp(base, "libc.so", 7) == 0 || strncmp(base, "libc++", 6) == 0
         || strncmp(base, "libpthread", 10) == 0 || strncmp(base, "libarmus", 8) == 0 || strncmp(base, "libgcc", 6) == 0 || strncmp(base, "ld-linux", 8) == 0
         || strncmp(base, "libomp", 6) == 0 || strncmp(base, "libiomp", 7) == 0;
+}
+
+/* The kernel's line of the mapping that has this address. */
+enum { MAPPED = 512 };
+static bool mapping_of(unsigned long address, char *line) {
+    FILE *maps = fopen("/proc/thread-self/maps", "re");
+    bool found = false;
+    while (!found && maps != NULL && fgets(line, MAPPED, maps) != NULL) {
+        unsigned long from, to;
+        found = sscanf(line, "%lx-%lx", &from, &to) == 2 && from <= address && address < to;
+    }
+    if (maps != NULL) {
+        fclose(maps);
+    }
+    return found;
+}
+
+/* The file that a piece of code is of. Where the loader can tell it without a lock, it does: the thread that has the lock may wait for others in a constructor, and a
+ * child that is forked meanwhile would never get it. */
+static bool file_of(const void *code, Dl_info *info) {
+#if __GLIBC_PREREQ(2, 35)
+    struct dl_find_object found;
+    if (_dl_find_object((void *)(uintptr_t)code, &found) != 0) {
+        return false;
+    }
+    *info = (Dl_info){.dli_fname = found.dlfo_link_map->l_name, .dli_fbase = found.dlfo_map_start};
+    return info->dli_fname != NULL;
+#else
+    return dladdr(code, info) != 0 && info->dli_fname != NULL;
+#endif
 }
 
 /* The addresses of the program's own calls: the one from which it waits, or, where that is a library of threads, the words of the stack that stand behind a call in
@@ -310,7 +502,7 @@ static bool is_own_call(uintptr_t word, unsigned known, Dl_info *info) {
     unsigned char before[6];
     Dl_info found;
     const char *at = (const char *)word;
-    if (word <= 4096 || dladdr(at, &found) == 0 || found.dli_fname == NULL || is_library_of_threads(found.dli_fname) || (known > 0 && found.dli_fbase != info->dli_fbase)
+    if (word <= 4096 || !file_of(at, &found) || is_library_of_threads(found.dli_fname) || (known > 0 && found.dli_fbase != info->dli_fbase)
         || !read_memory(at - 6, before, 6) || !(before[1] == 0xe8 || (before[4] == 0xff && (before[5] & 0xf8) == 0xd0) || (before[0] == 0xff && before[1] == 0x15))) {
         return false;
     }
@@ -338,7 +530,7 @@ static unsigned callers(const void *frame, const void **calls, unsigned n, Dl_in
 static unsigned own_calls(const void *from, const void *frame, bool searches, const void **calls, Dl_info *info) {
     static uintptr_t words[WORDS];
     unsigned n = 0, size = sizeof words;
-    if (from != NULL && dladdr(from, info) != 0 && info->dli_fname != NULL && !is_library_of_threads(info->dli_fname)) {
+    if (from != NULL && file_of(from, info) && !is_library_of_threads(info->dli_fname)) {
         calls[n++] = from;
         n = frame != NULL ? callers(frame, calls, n, info) : n;
     }
@@ -359,6 +551,7 @@ static unsigned own_calls(const void *from, const void *frame, bool searches, co
 static void place_of(char *to, size_t size, const void *from, const void *frame, bool searches, bool is_return) {
     static char program[256];
     const void *calls[CALLS];
+    char line[MAPPED];
     Dl_info info;
     unsigned n = from != NULL ? own_calls(from, frame, searches && frame != NULL, calls, &info) : 0;
     if (program[0] == 0) {
@@ -369,7 +562,11 @@ static void place_of(char *to, size_t size, const void *from, const void *frame,
         snprintf(to, size, "%s", program[0] ? base_name(program) : "main");
         return;
     }
-    const char *file = info.dli_fname[0] == '/' ? info.dli_fname : program;
+    const char *file = info.dli_fname[0] == 0 || strchr(info.dli_fname, '/') == NULL ? program : info.dli_fname;
+    if (file[0] != '/' && mapping_of((unsigned long)info.dli_fbase, line) && strchr(line, '/') != NULL) {
+        line[strcspn(line, "\n")] = 0;                        /* the library was named from a folder that may be another one now */
+        file = strchr(line, '/');
+    }
     bool fixed = ((const Elf64_Ehdr *)info.dli_fbase)->e_type == ET_EXEC;
     int k = snprintf(to, size, "%.180s", strlen(file) > 180 ? base_name(file) : file);
     for (unsigned i = 0; i < n; i++) {
@@ -407,22 +604,11 @@ static bool is_over(pid_t tid) {
 static bool is_shared(unsigned long address) {
     static unsigned long own[64];                              /* addresses that are known to be the process's own */
     unsigned long *known = &own[address / 64 % 64];
-    char line[512];
+    char line[MAPPED], may[5];
     if (*known == address) {
         return false;
     }
-    FILE *maps = fopen("/proc/thread-self/maps", "re");
-    bool shared = true;
-    while (maps != NULL && fgets(line, sizeof line, maps) != NULL) {
-        unsigned long from, to;
-        char may[5];
-        if (sscanf(line, "%lx-%lx %4s", &from, &to, may) == 3 && from <= address && address < to) {
-            shared = may[3] != 'p';
-        }
-    }
-    if (maps != NULL) {
-        fclose(maps);
-    }
+    bool shared = !mapping_of(address, line) || sscanf(line, "%*s %4s", may) != 1 || may[3] != 'p';
     *known = shared ? 0 : address;
     return shared;
 }
@@ -433,7 +619,7 @@ static bool is_of_openmp(unsigned long code) {
     static unsigned long known;
     Dl_info info;
     if (code != known) {
-        if (dladdr((const void *)code, &info) == 0 || info.dli_fname == NULL || strncmp(base_name(info.dli_fname), "libgomp", 7) != 0) {
+        if (!file_of((const void *)code, &info) || strncmp(base_name(info.dli_fname), "libgomp", 7) != 0) {
             return false;
         }
         known = code;
@@ -445,7 +631,7 @@ static bool is_of_openmp(unsigned long code) {
 /* Whether the thread sleeps without a limit in a futex call at an address of the object; of OpenMP's objects, whose addresses are not known, in its own code. */
 static bool sleeps(const struct slot *s) {
     static const size_t sizes[KINDS] = {[BARRIER] = sizeof(pthread_barrier_t), [JOIN] = 4096, [MUTEX] = sizeof(pthread_mutex_t), [RWLOCK] = sizeof(pthread_rwlock_t),
-        [CONDITION] = sizeof(pthread_cond_t), [SEMAPHORE] = sizeof(sem_t), [ADDRESS] = 8};
+        [CONDITION] = sizeof(pthread_cond_t), [SEMAPHORE] = sizeof(sem_t), [ONCE] = sizeof(pthread_once_t), [ADDRESS] = 8};
     char line[256];
     unsigned long words[6], stack, code;
     long number;
@@ -614,7 +800,7 @@ static struct slot *owner_of(const struct slot *s) {
     } else if (s->kind == RWLOCK) {
         pthread_rwlock_t l;
         owner = read_memory(s->object, &l, sizeof l) ? l.__data.__cur_writer : 0;
-    } else if (s->kind == CRITICAL || s->kind == OMP_LOCK) {
+    } else if (s->kind == CRITICAL || s->kind == OMP_LOCK || s->kind == ONCE) {
         return owner_of_lock(s->object);
     } else if (s->kind == JOIN) {
         struct slot *last = NULL;                              /* one that has ended may have had the same address */
@@ -1172,6 +1358,65 @@ int thrd_join(thrd_t thread, int *to) { CANCELLABLE(JOIN, (const void *)(uintptr
 int cnd_wait(cnd_t *c, mtx_t *m) { CANCELLABLE(CONDITION, c, real_cnd_wait()(c, m)); }
 int sem_wait(sem_t *t) { CANCELLABLE(SEMAPHORE, t, real_sem_wait()(t)); }
 
+/* ---- what is called once: whoever comes while another thread makes the call waits for that one. When the call ends in any way, by an exception or a cancellation too, it is
+ * nobody's any more; then one of those that wait may make it anew. */
+enum { UNDER_WAY = 1, DONE = 2 };
+_Static_assert(sizeof(once_flag) == sizeof(pthread_once_t), "both are one word, in which glibc counts");
+
+static void routine_ends(void *word) {
+    const struct once *call = word;
+    runs_once = call->outer;
+    gives_back(call->control);
+}
+
+/* The call is this thread's. */
+static void run_routine(void) {
+    const struct once *call = calls_once;
+    struct once runs = {call->control, call->routine, runs_once};
+    calls_once = call->outer;
+    runs_once = &runs;
+    wait_ends(mine);
+    takes(mine, runs.control);
+    pthread_cleanup_push(routine_ends, &runs);
+    runs.routine();
+    pthread_cleanup_pop(1);
+}
+
+static inline int state_of(void *control) { return __atomic_load_n((int *)control, __ATOMIC_ACQUIRE); }
+
+static inline struct slot *once_begins(struct once *call, const void *from, const void *frame) {
+    struct slot *s = state_of(call->control) & UNDER_WAY ? own_slot() : mine;
+    calls_once = call;
+    wait_begins(s, ONCE, call->control, from, frame);
+    return s;
+}
+
+static inline void once_ends(const struct once *call, struct slot *s) {
+    calls_once = call->outer;
+    wait_ends(s);
+}
+
+int pthread_once(pthread_once_t *control, void (*routine)(void)) {
+    if (__builtin_expect(state_of(control) & DONE, 1)) {
+        return 0;
+    }
+    struct once call = {control, routine, calls_once};
+    struct slot *s = once_begins(&call, HERE);
+    int result = real_pthread_once()(control, run_routine);
+    once_ends(&call, s);
+    return result;
+}
+
+void call_once(once_flag *control, void (*routine)(void)) {
+    if (__builtin_expect(state_of(control) & DONE, 1)) {
+        return;
+    }
+    struct once call = {control, routine, calls_once};
+    struct slot *s = once_begins(&call, HERE);
+    real_call_once()(control, run_routine);
+    once_ends(&call, s);
+}
+
 int pthread_barrier_wait(pthread_barrier_t *b) {
     struct slot *s = own_slot();
     wait_begins(s, BARRIER, b, HERE);
@@ -1186,15 +1431,9 @@ TRIED_FIRST(RWLOCK, pthread_rwlock_t, pthread_rwlock_wrlock, pthread_rwlock_tryw
 TRIED_FIRST(MUTEX, mtx_t, mtx_lock, mtx_trylock, thrd_busy)
 
 /* ---- teams of GCC's OpenMP. Its members are known: a thread waits for each of the team that has not come yet. */
-struct region { void (*function)(void *); void *word; unsigned number; struct slot *first; const void *from; };
+struct region { void (*function)(void *); void *word; unsigned number; struct slot *first; const void *from; int (*size)(void); };
 
-static unsigned team_size(void) {
-    static int (*_Atomic found)(void);
-    if (atomic_load(&found) == NULL) {
-        atomic_store(&found, (int (*)(void))dlsym(RTLD_DEFAULT, "omp_get_num_threads"));
-    }
-    return atomic_load(&found) != NULL ? (unsigned)atomic_load(&found)() : 0;
-}
+OPENMP(int, omp_get_num_threads, void)
 
 static void region(void *word) {
     struct region *r = word;
@@ -1206,7 +1445,7 @@ static void region(void *word) {
     wait_ends(s);
     atomic_store(&s->team.at_end, false);
     atomic_store(&s->team.barriers, 0);
-    atomic_store(&s->team.size, team_size());
+    atomic_store(&s->team.size, r->size != NULL ? (unsigned)r->size() : 0);
     atomic_store(&s->team.first, r->first);
     s->team.from = r->from;
     atomic_store(&s->team.number, r->number);
@@ -1239,22 +1478,28 @@ static void back_to_team(struct slot *s, struct kept_team t) {
     }
 }
 
-#define REGION(call) \
+/* Where no library has the function, the thread is alone, and does what the team would. */
+#define REGION(name, ...) \
+    const void *from = FROM; \
     struct slot *s = own_slot(); \
     struct kept_team outer = team_of(s); \
-    struct region r = {function, word, atomic_fetch_add(&team_numbers, 1) + 1, s, __builtin_return_address(0)}; \
-    call; \
+    struct region r = {function, word, atomic_fetch_add(&team_numbers, 1) + 1, s, from, real_omp_get_num_threads(from)}; \
+    if (real_##name(from) == NULL) { \
+        function(word); \
+        return; \
+    } \
+    real_##name(from)(region, &r, __VA_ARGS__); \
     back_to_team(s, outer)
 #define LOOP_REGION(name) \
-    REAL(void, name, void (*)(void *), void *, unsigned, long, long, long, long, unsigned) \
-    void name(void (*function)(void *), void *word, unsigned n, long a, long b, long c, long d, unsigned flags) { REGION(real_##name()(region, &r, n, a, b, c, d, flags)); }
+    OPENMP(void, name, void (*)(void *), void *, unsigned, long, long, long, long, unsigned) \
+    void name(void (*function)(void *), void *word, unsigned n, long a, long b, long c, long d, unsigned flags) { REGION(name, n, a, b, c, d, flags); }
 #define PLAIN_LOOP_REGION(name) \
-    REAL(void, name, void (*)(void *), void *, unsigned, long, long, long, unsigned) \
-    void name(void (*function)(void *), void *word, unsigned n, long a, long b, long c, unsigned flags) { REGION(real_##name()(region, &r, n, a, b, c, flags)); }
-REAL(void, GOMP_parallel, void (*)(void *), void *, unsigned, unsigned)
-void GOMP_parallel(void (*function)(void *), void *word, unsigned n, unsigned flags) { REGION(real_GOMP_parallel()(region, &r, n, flags)); }
-REAL(void, GOMP_parallel_sections, void (*)(void *), void *, unsigned, unsigned, unsigned)
-void GOMP_parallel_sections(void (*function)(void *), void *word, unsigned n, unsigned count, unsigned flags) { REGION(real_GOMP_parallel_sections()(region, &r, n, count, flags)); }
+    OPENMP(void, name, void (*)(void *), void *, unsigned, long, long, long, unsigned) \
+    void name(void (*function)(void *), void *word, unsigned n, long a, long b, long c, unsigned flags) { REGION(name, n, a, b, c, flags); }
+OPENMP(void, GOMP_parallel, void (*)(void *), void *, unsigned, unsigned)
+void GOMP_parallel(void (*function)(void *), void *word, unsigned n, unsigned flags) { REGION(GOMP_parallel, n, flags); }
+OPENMP(void, GOMP_parallel_sections, void (*)(void *), void *, unsigned, unsigned, unsigned)
+void GOMP_parallel_sections(void (*function)(void *), void *word, unsigned n, unsigned count, unsigned flags) { REGION(GOMP_parallel_sections, n, count, flags); }
 LOOP_REGION(GOMP_parallel_loop_static)
 LOOP_REGION(GOMP_parallel_loop_dynamic)
 LOOP_REGION(GOMP_parallel_loop_guided)
@@ -1275,10 +1520,17 @@ static struct slot *team_wait_begins(const void *from, const void *frame) {
 }
 
 #define TEAM_WAIT(result, name) \
-    REAL(result, name, void) \
-    result name(void) { struct slot *s = team_wait_begins(HERE); TEAM_CALL_##result(name) }
-#define TEAM_CALL_void(name) real_##name()(); wait_ends(s);
-#define TEAM_CALL_bool(name) bool was_cancelled = real_##name()(); wait_ends(s); return was_cancelled;
+    OPENMP(result, name, void) \
+    result name(void) { \
+        result (*real)(void) = real_##name(FROM); \
+        if (real == NULL) { \
+            return (result)0; \
+        } \
+        struct slot *s = team_wait_begins(HERE); \
+        TEAM_CALL_##result \
+    }
+#define TEAM_CALL_void real(); wait_ends(s);
+#define TEAM_CALL_bool bool was_cancelled = real(); wait_ends(s); return was_cancelled;
 TEAM_WAIT(void, GOMP_barrier)
 TEAM_WAIT(void, GOMP_loop_end)
 TEAM_WAIT(void, GOMP_sections_end)
@@ -1287,10 +1539,14 @@ TEAM_WAIT(bool, GOMP_loop_end_cancel)
 TEAM_WAIT(bool, GOMP_sections_end_cancel)
 
 /* Whoever comes first through a single region with copyprivate goes on, and comes to the barrier of the others at its end. */
-REAL(void *, GOMP_single_copy_start, void)
+OPENMP(void *, GOMP_single_copy_start, void)
 void *GOMP_single_copy_start(void) {
+    void *(*real)(void) = real_GOMP_single_copy_start(FROM);
+    if (real == NULL) {
+        return NULL;
+    }
     struct slot *s = team_wait_begins(HERE);
-    void *copied = real_GOMP_single_copy_start()();
+    void *copied = real();
     if (s != NULL && copied == NULL) {
         atomic_fetch_sub(&s->team.barriers, 1);
     }
@@ -1298,22 +1554,28 @@ void *GOMP_single_copy_start(void) {
     return copied;
 }
 
-REAL(void, GOMP_single_copy_end, void *)
+OPENMP(void, GOMP_single_copy_end, void *)
 void GOMP_single_copy_end(void *data) {
-    struct slot *s = team_wait_begins(HERE);
-    real_GOMP_single_copy_end()(data);
-    wait_ends(s);
+    void (*real)(void *) = real_GOMP_single_copy_end(FROM);
+    if (real != NULL) {
+        struct slot *s = team_wait_begins(HERE);
+        real(data);
+        wait_ends(s);
+    }
 }
 
 /* The tasks that a task waits for: whoever of the team finds them runs them, so any thread may act; and the turns of an ordered loop. The thread itself runs tasks
  * meanwhile, in which it may wait for something else; then it counts as one that runs, until the outer wait is over. */
 #define ANY_WAIT(kind, name, parameters, words) \
-    REAL(void, name, UNBRACKETED parameters) \
+    OPENMP(void, name, UNBRACKETED parameters) \
     void name parameters { \
-        struct slot *s = own_slot(); \
-        wait_begins(s, kind, s, HERE); \
-        real_##name() words; \
-        wait_ends(s); \
+        void (*real) parameters = real_##name(FROM); \
+        if (real != NULL) { \
+            struct slot *s = own_slot(); \
+            wait_begins(s, kind, s, HERE); \
+            real words; \
+            wait_ends(s); \
+        } \
     }
 ANY_WAIT(TASKS, GOMP_taskwait, (void), ())
 ANY_WAIT(TASKS, GOMP_taskwait_depend, (void **depend), (depend))
@@ -1327,28 +1589,37 @@ ANY_WAIT(ORDERED, GOMP_ordered_start, (void), ())
 /* What a thread that takes a lock of OpenMP does, and one that gives it back. */
 #define TAKES(kind, name, object, parameters, words) TAKES_BEHIND(false, kind, name, object, parameters, words)
 #define TAKES_BEHIND(tried, kind, name, object, parameters, words) \
-    REAL(void, name, UNBRACKETED parameters) \
+    OPENMP(void, name, UNBRACKETED parameters) \
     void name parameters { \
+        const void *from = FROM; \
+        void (*real) parameters = real_##name(from); \
+        if (real == NULL) { \
+            return; \
+        } \
         struct slot *s = own_slot(); \
         if (tried) { \
             takes(s, object); \
             return; \
         } \
         wait_begins(s, kind, object, HERE); \
-        real_##name() words; \
+        real words; \
         wait_ends(s); \
         takes(s, object); \
     }
 #define GIVES_BACK(name, object, parameters, words) \
-    REAL(void, name, UNBRACKETED parameters) \
+    OPENMP(void, name, UNBRACKETED parameters) \
     void name parameters { \
+        void (*real) parameters = real_##name(FROM); \
         gives_back(object); \
-        real_##name() words; \
+        if (real != NULL) { \
+            real words; \
+        } \
     }
 #define TRIES(name, parameters, words) \
-    REAL(int, name, UNBRACKETED parameters) \
+    OPENMP(int, name, UNBRACKETED parameters) \
+    static int tries_##name(const void *from, void *lock) { return real_##name(from) != NULL ? real_##name(from)(lock) : 0; } \
     int name parameters { \
-        int taken = real_##name() words; \
+        int taken = real_##name(FROM) != NULL ? tries_##name(FROM, lock) : 1; \
         if (taken) { \
             takes(own_slot(), lock); \
         } \
@@ -1358,8 +1629,8 @@ TRIES(omp_test_lock, (void *lock), (lock))
 TRIES(omp_test_lock_, (void *lock), (lock))
 TAKES(CRITICAL, GOMP_critical_start, &unnamed_critical, (void), ())
 TAKES(CRITICAL, GOMP_critical_name_start, name, (void **name), (name))
-TAKES_BEHIND(real_omp_test_lock()(lock), OMP_LOCK, omp_set_lock, lock, (void *lock), (lock))
-TAKES_BEHIND(real_omp_test_lock_()(lock), OMP_LOCK, omp_set_lock_, lock, (void *lock), (lock))
+TAKES_BEHIND(tries_omp_test_lock(from, lock), OMP_LOCK, omp_set_lock, lock, (void *lock), (lock))
+TAKES_BEHIND(tries_omp_test_lock_(from, lock), OMP_LOCK, omp_set_lock_, lock, (void *lock), (lock))
 GIVES_BACK(GOMP_critical_end, &unnamed_critical, (void), ())
 GIVES_BACK(GOMP_critical_name_end, name, (void **name), (name))
 GIVES_BACK(omp_unset_lock, lock, (void *lock), (lock))
@@ -1369,17 +1640,21 @@ GIVES_BACK(omp_unset_lock_, lock, (void *lock), (lock))
  * which is given back at once. */
 #define NESTED(set, test, unset) \
     TRIES(test, (void *lock), (lock)) \
-    TAKES_BEHIND(real_##test()(lock) != 0, OMP_LOCK, set, lock, (void *lock), (lock)) \
-    REAL(void, unset, void *) \
+    TAKES_BEHIND(tries_##test(from, lock) != 0, OMP_LOCK, set, lock, (void *lock), (lock)) \
+    OPENMP(void, unset, void *) \
     void unset(void *lock) { \
-        int taken = mine != NULL ? real_##test()(lock) : 0; \
+        const void *from = FROM; \
+        void (*real)(void *) = real_##unset(from); \
+        int taken = mine != NULL ? tries_##test(from, lock) : 0; \
         if (taken == 2) { \
             gives_back(lock); \
         } \
-        if (taken > 0) { \
-            real_##unset()(lock); \
+        if (real != NULL && taken > 0) { \
+            real(lock); \
         } \
-        real_##unset()(lock); \
+        if (real != NULL) { \
+            real(lock); \
+        } \
     }
 NESTED(omp_set_nest_lock, omp_test_nest_lock, omp_unset_nest_lock)
 NESTED(omp_set_nest_lock_, omp_test_nest_lock_, omp_unset_nest_lock_)

@@ -4,6 +4,7 @@ That it has not run between two looks is what the kernel says."""
 import ast
 import functools
 import inspect
+import opcode
 import os
 import platform
 import socket
@@ -164,17 +165,16 @@ class Text:
     known = {}
 
     def __init__(self, file):
-        self.at, self.regions = {}, []
+        self.at, self.regions, self.statements = {}, [], {}
         try:
             tree = ast.parse(self.read(file))
         except (OSError, SyntaxError, ValueError, RecursionError, MemoryError):
             return
         for node in ast.walk(tree):
             if isinstance(node, (ast.With, ast.AsyncWith)):
-                for item in node.items:
-                    self.note(item.context_expr.lineno, getattr(item.context_expr, 'end_lineno', 0), 'with', item.context_expr)
-                    if not gives_back(node.body, item.context_expr):
-                        self.regions.append((span(node.body), item.context_expr))
+                self.statements[begin_of(node)] = [item.context_expr for item in node.items]
+                for item, later in zip(node.items, node.items[1:] + [None]):
+                    self.entered(item, later, node.body)
             elif isinstance(node, ast.Call) and isinstance(node.func, ast.Attribute) and node.func.attr in ('acquire', 'get', 'put', 'wait'):
                 self.note(node.lineno, node.end_lineno, node.func.attr, node.func.value)
             for _, body in ast.iter_fields(node):
@@ -195,6 +195,27 @@ class Text:
         for line in range(first, min(max(last, first), first + 20) + 1):
             self.at.setdefault(line, []).append((verb, expression))
 
+    def entered(self, item, later, body):
+        """What a with-statement enters: it is held in the statement's lines, and while a later one of the same statement is entered, which only a column can tell."""
+        lock = item.context_expr
+        self.note(lock.lineno, getattr(lock, 'end_lineno', 0), 'with', lock)
+        if not gives_back(body, lock):
+            self.regions.append((span(body), lock, False))
+            if later is not None:
+                self.regions.append(((begin_of(later.context_expr), begin_of(body[0])), lock, True))
+        if isinstance(lock, ast.Call) and isinstance(item.optional_vars, (ast.Name, ast.Attribute)) and not gives_back(body):
+            self.regions.append((span(body), item.optional_vars, False))          # perhaps an ExitStack
+
+    def entered_before(self, frame):
+        """What the with-statement at which the frame stands has entered before it enters the next. Python 3.11 and 3.12 have the statement's place there, 3.13 that of the next."""
+        code, at, enters = frame.f_code, frame.f_lasti // 2, opcode.opmap.get('BEFORE_WITH')
+        if enters is None or at < 0 or code.co_code[frame.f_lasti] != enters:
+            return ()
+        places = [place[:1] + place[2:3] for place in code.co_positions()]
+        locks = self.statements.get(places[at], ())
+        earlier = sum(code.co_code[2 * i] == enters and places[i] == places[at] for i in range(at))
+        return locks[:earlier % len(locks)] if locks else ()          # a statement in a finally stands there twice
+
     def tried(self, one, two):
         """lock.acquire(), and then try .. finally lock.release()"""
         call = one.value if isinstance(one, ast.Expr) else None
@@ -204,7 +225,7 @@ class Text:
             for last in two.finalbody:
                 end = last.value if isinstance(last, ast.Expr) else None
                 if isinstance(end, ast.Call) and isinstance(end.func, ast.Attribute) and end.func.attr == 'release' and ast.dump(end.func.value) == ast.dump(call.func.value):
-                    self.regions.append((span(two.body), call.func.value))
+                    self.regions.append((span(two.body), call.func.value, False))
 
     @classmethod
     def of(cls, frame):
@@ -214,15 +235,27 @@ class Text:
         return cls.known[file]
 
 
-def gives_back(body, lock):
-    """Whether the lock is given back in the midst of these lines: then who stands there may not have it."""
-    text = ast.dump(lock)
-    return any(isinstance(node, ast.Call) and isinstance(node.func, ast.Attribute) and node.func.attr == 'release' and ast.dump(node.func.value) == text
+def gives_back(body, lock=None):
+    """Whether the lock, or any, is given back in the midst of these lines: then who stands there may not have it."""
+    text = ast.dump(lock) if lock is not None else None
+    return any(isinstance(node, ast.Call) and isinstance(node.func, ast.Attribute) and node.func.attr == 'release' and text in (None, ast.dump(node.func.value))
                for one in body for node in ast.walk(one))
 
 
+def begin_of(node):
+    return node.lineno, node.col_offset
+
+
 def span(body):
-    return (body[0].lineno, body[0].col_offset), (body[-1].end_lineno, body[-1].end_col_offset)
+    return begin_of(body[0]), (body[-1].end_lineno, body[-1].end_col_offset)
+
+
+def is_kept_by(stack, lock):
+    """Whether this is an ExitStack that has entered the lock, and will leave it."""
+    contextlib = sys.modules.get('contextlib')
+    if contextlib is None or not isinstance(stack, contextlib._BaseExitStack):
+        return False
+    return any(getattr(leave, '__self__', None) is lock for _, leave in list(attribute(stack, '_exit_callbacks') or ()))
 
 
 def stands_at(frame):
@@ -592,6 +625,8 @@ class Watcher:
             return Wait('idle', frame, [None], place, f'work-of-{self.announcer.names.get(self.key(ident), "pool")}')
         if code.co_filename.endswith(os.path.join('multiprocessing', 'synchronize.py')):
             return self.of_processes(frame, place, ident)
+        if code.co_name == 'enter_context' and code.co_filename == getattr(sys.modules.get('contextlib'), '__file__', None):
+            return self.of_lock(self.lock_at(asleep[ident], [dict(self.library_values(frame)).get('cm')]), place, frames, ident)
         return self.of_line(frame, place, asleep[ident], frames, ident)
 
     def of_threading(self, frame, place, address, frames, ident):
@@ -779,17 +814,20 @@ class Watcher:
         return self.holds_among(frames_of(frame), lock, waits)
 
     def holds_among(self, frames, lock, waits):
-        """Whether one with these frames stands inside of a with-statement of this lock, or between its acquire and the release of a finally. The wait of a condition gives
-        its lock back."""
+        """Whether one with these frames stands inside of a with-statement of this lock, or of an ExitStack that has entered it, or between its acquire and the release of a
+        finally. The wait of a condition gives its lock back."""
         frames = list(frames)
         if any(f.f_code.co_name == 'wait' and f.f_code.co_filename.startswith(STANDARD) and attribute(f.f_locals.get('self'), '_lock') is lock for f in frames[:2]):
             return False
         outside = [f for f in frames if not f.f_code.co_filename.startswith(STANDARD) or 'site-packages' in f.f_code.co_filename]
         for n, f in enumerate(outside):
-            for region, expression in Text.of(f).regions:
-                if region[0][0] <= f.f_lineno <= region[1][0] and is_inside(f, region) and f.f_code.co_firstlineno <= region[0][0] \
-                        and not (n == 0 and waits and stands_at(f)[1] is None):
-                    if any(value is lock for value in evaluated(expression, f, local_values(f, self.memory))):
+            for expression in Text.of(f).entered_before(f):
+                if any(value is lock for value in evaluated(expression, f, local_values(f, self.memory))):
+                    return True
+            for region, expression, wants_column in Text.of(f).regions:
+                if region[0][0] <= f.f_lineno <= region[1][0] and is_inside(f, region) and f.f_code.co_firstlineno <= region[0][0]:
+                    is_vague = (wants_column or n == 0 and waits) and stands_at(f)[1] is None
+                    if any(value is lock and not is_vague or is_kept_by(value, lock) for value in evaluated(expression, f, local_values(f, self.memory))):
                         return True
         return False
 
