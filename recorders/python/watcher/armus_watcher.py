@@ -18,6 +18,7 @@ import weakref
 PERIOD, LONGEST = 0.05, 1.0
 FUTEX = {'x86_64': 202, 'aarch64': 98, 'riscv64': 98, 'ppc64le': 221, 's390x': 238}.get(platform.machine())
 EPOLL = {'x86_64': 232, 'aarch64': 22, 'riscv64': 22}.get(platform.machine())
+WAIT4 = {'x86_64': 61, 'aarch64': 260, 'riscv64': 260, 'ppc64le': 114, 's390x': 114}.get(platform.machine())
 STANDARD = os.path.dirname(os.__file__) + os.sep
 BEGUN = time.time()
 
@@ -37,17 +38,19 @@ def switches(native):
     return text[text.find(b'voluntary_ctxt_switches'):] if text else None
 
 
-IN_SELECT = 'select'
+IN_SELECT, IN_CHILD = 'select', 'child'
 
 
 def sleeps_at(native):
-    """The address at which a thread sleeps without a limit, IN_SELECT where it waits so for files, or nothing."""
+    """The address at which a thread sleeps without a limit, IN_SELECT where it waits so for files, IN_CHILD where it does for the end of a process, or nothing."""
     words = text_of(f'/proc/self/task/{native}/syscall').split()
     if len(words) < 6:
         return None
     number, limit = words[0], int(words[4], 16)
     if number == str(EPOLL).encode() and limit & 0xffffffff == 0xffffffff:
         return IN_SELECT
+    if number == str(WAIT4).encode() and not int(words[3], 16) & os.WNOHANG:
+        return IN_CHILD
     return int(words[1], 16) if number == str(FUTEX).encode() and limit == 0 else None
 
 
@@ -336,10 +339,11 @@ KEPT = 4096            # so many objects and names of what was waited for are ke
 class Wait:
     """What a thread waits for: an object of a kind, and keepers: each is None (any thread of this process), ALL (of all processes) or a list of threads of which one has
     to act."""
-    __slots__ = ('kind', 'object', 'keepers', 'place', 'name', 'ends')
+    __slots__ = ('kind', 'object', 'keepers', 'place', 'name', 'ends', 'asleep')
 
     def __init__(self, kind, object_, keepers, place, name=None, ends=False):
         self.kind, self.object, self.keepers, self.place, self.name, self.ends = kind, object_, keepers, place, name, ends
+        self.asleep = None              # of a thread that waits for any of all processes: its number, and what the kernel says of how often it has run
 
     def turn(self):
         """Who waits for an end is announced first, then who waits for anybody, and then who waits for one that has to do something: the last of them begins the message."""
@@ -460,6 +464,9 @@ class Announcer:
                 self.keep(group, i, keeper)
         group.waiters.add(key)
         self.waits[key] = gkey
+        if wait.asleep is not None:
+            native, text = wait.asleep
+            self.lines.say(f'# asleep {self.task(key)} {native} {" ".join(word.decode() for word in text.split() if word.isdigit())}')
         self.lines.say(f'{self.task(key)} wait {self.lines.process}/{group.name} {group.turn + 1} @{wait.place[:200]}')
 
 
@@ -561,6 +568,8 @@ class Watcher:
                 wait = self.wait_of(ident, frames[ident], asleep, frames)
                 if wait is not None:
                     standing[ident] = wait
+                    if ALL in wait.keepers:
+                        wait.asleep = natives[ident], self.slept[ident][1]
         self.add_others(present, standing, {n for n in natives.values() if n})
         for ident, frame in sys._current_frames().items():       # who began meanwhile
             if ident not in present and ident != self.own:
@@ -589,7 +598,7 @@ class Watcher:
                 if text_of(f'/proc/self/task/{native}/stat').rpartition(b') ')[2][:1] in (b'Z', b'X', b''):
                     continue
                 present[key] = f'native-{native}', 'native'
-                if at is not None and at is not IN_SELECT:
+                if isinstance(at, int):
                     standing[key] = Wait('native', None, [None], 'native', f'native-{native}')
 
     def end_main(self, present, standing, frames):
@@ -619,12 +628,14 @@ class Watcher:
     def wait_of(self, ident, frame, asleep, frames):
         threading, code = sys.modules.get('threading'), frame.f_code
         place = self.place(frame)
+        if asleep[ident] is IN_CHILD:
+            return self.of_child(frame, place, ident)
         if threading is not None and code.co_filename == threading.__file__:
             return self.of_threading(frame, place, asleep[ident], frames, ident)
         if code.co_name == '_worker' and code.co_filename.endswith(os.path.join('concurrent', 'futures', 'thread.py')):
             return Wait('idle', frame, [None], place, f'work-of-{self.announcer.names.get(self.key(ident), "pool")}')
         if code.co_filename.endswith(os.path.join('multiprocessing', 'synchronize.py')):
-            return self.of_processes(frame, place, ident)
+            return self.of_processes(frame, place, asleep[ident], ident)
         if code.co_name == 'enter_context' and code.co_filename == getattr(sys.modules.get('contextlib'), '__file__', None):
             return self.of_lock(self.lock_at(asleep[ident], [dict(self.library_values(frame)).get('cm')]), place, frames, ident)
         return self.of_line(frame, place, asleep[ident], frames, ident)
@@ -686,13 +697,34 @@ class Watcher:
                         return Wait('Future', future, [[ident]], place)
         return Wait('Future-not-begun' if getattr(future, '_state', None) == 'PENDING' else 'Future', future, [None], place)
 
-    def of_processes(self, frame, place, ident):
-        """Objects of several processes: time enough has to pass until all of them are there."""
-        values = dict(self.library_values(frame))
-        if frame.f_code.co_name != 'wait' or values.get('timeout') is not None:
-            return None
+    def is_early(self, ident, frame):
+        """Where several processes share something, time enough has to pass until all of them are there."""
         since = self.beginning[ident, id(frame)] = self.earlier.get((ident, id(frame)), time.monotonic())
-        if time.monotonic() - since < 0.5:
+        return time.monotonic() - since < 0.5
+
+    def of_child(self, frame, place, ident):
+        """The end of a process that multiprocessing has started. Any thread may end it, in that process and in others."""
+        if frame.f_code.co_name != 'poll' or not frame.f_code.co_filename.endswith(os.path.join('multiprocessing', 'popen_fork.py')) or self.is_early(ident, frame):
+            return None
+        for f in frames_of(frame):
+            if f.f_code.co_name == 'join':
+                process = dict(self.library_values(f)).get('self')
+                return Wait('Process', process, [ALL], place, f'end-of-{named(attribute(process, "_name"))}', ends=True)
+        return None
+
+    def of_shared(self, lock, place, address, frame, ident):
+        """A lock or semaphore that processes share, where the thread sleeps at its address. Any thread of them may release it."""
+        inner = attribute(lock, '_semlock')
+        if type(inner).__module__ != '_multiprocessing' or inner.handle != address or self.is_early(ident, frame):
+            return None
+        return Wait(type(lock).__name__, lock, [ALL], place)
+
+    def of_processes(self, frame, place, address, ident):
+        """Objects that processes share."""
+        values = dict(self.library_values(frame))
+        if frame.f_code.co_name == '__enter__':
+            return self.of_shared(values.get('self'), place, address, frame, ident)
+        if frame.f_code.co_name != 'wait' or values.get('timeout') is not None or self.is_early(ident, frame):
             return None
         outer = frame.f_back
         if outer is not None and outer.f_code.co_name == 'wait_for':
@@ -795,6 +827,10 @@ class Watcher:
         lock = self.lock_at(address, found)
         if lock is not None:
             return self.of_lock(lock, place, frames, ident)
+        for value in found:
+            shared = self.of_shared(value, place, address, frame, ident)
+            if shared is not None:
+                return shared
         queues = [q for q in found if type(q).__name__ == 'SimpleQueue' and q.empty()]
         return Wait('SimpleQueue', queues[0], [None], place) if len(queues) == 1 and len(calls) == 1 else None
 

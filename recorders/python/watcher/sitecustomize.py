@@ -1,6 +1,6 @@
 """Brings the watcher of armus-run into a Python program. armus-run puts this folder in front of PYTHONPATH, so each Python imports this module when it begins.
 The folder leaves the module path at once, another sitecustomize is loaded as it would be without this one, and the watcher itself is loaded when the program
-begins its first thread or loads asyncio."""
+begins its first thread, forks or spawns a process of multiprocessing, or loads asyncio."""
 import os
 import sys
 
@@ -62,10 +62,10 @@ def _begin():
         replace(real, hooks)
 
     class Finder:
-        """Finds nothing. It is asked for asyncio's loops when they are loaded, and then the watcher begins."""
+        """Finds nothing. It is asked for asyncio's loops, and for what spawns processes, when they are loaded, and then the watcher begins."""
         @staticmethod
         def find_spec(name, path=None, target=None):
-            if name == 'asyncio.base_events':
+            if name in ('asyncio.base_events', 'multiprocessing.popen_spawn_posix'):
                 sys.meta_path[:] = [f for f in sys.meta_path if f is not Finder]
                 watch()
             return None
