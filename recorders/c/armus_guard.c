@@ -32,6 +32,7 @@
 #include <threads.h>
 #include <time.h>
 #include <unistd.h>
+#include "armus_file.h"
 
 enum { TASKS = 65536, KEEPERS = 1024, BARRIERS = 1024, OF_TASK = 16, LINE = 512, PLACE = 260, SECONDS = 10 };
 enum { AT_ONCE = 60000 };               /* so many nanoseconds an answer is looked for, before the thread sleeps until it comes */
@@ -89,7 +90,8 @@ static bool was_told;                   /* a program that does not look at the r
             atomic_store_explicit(&real_##name##_found, found, memory_order_relaxed); \
         } \
         return found; \
-    }
+    } \
+    __attribute__((constructor)) static void find_##name(void) { real_##name(); }     /* later the loader may let a thread wait that asks */
 
 static void *behind(const char *name) {
     void *found = strncmp(name, "pthread_cond_", 13) == 0 ? dlvsym(RTLD_NEXT, name, "GLIBC_2.3.2") : NULL;    /* x86: the default is not the oldest version */
@@ -231,7 +233,7 @@ static bool is_library_of_threads(const char *path) {
 
 static bool is_own_call(const void *at, Dl_info *info) {
     unsigned char before[6];
-    return (uintptr_t)at > 4096 && dladdr(at, info) != 0 && info->dli_fname != NULL && !is_library_of_threads(info->dli_fname) && read_memory((const char *)at - 6, before, 6)
+    return (uintptr_t)at > 4096 && file_of(at, info) && !is_library_of_threads(info->dli_fname) && read_memory((const char *)at - 6, before, 6)
         && (before[1] == 0xe8 || (before[4] == 0xff && (before[5] & 0xf8) == 0xd0) || (before[0] == 0xff && before[1] == 0x15));
 }
 
@@ -256,7 +258,7 @@ static void place_of(char *to, const void *from, const void *frame) {
     const void *seen[CALLS];
     Dl_info info, found;
     unsigned n = 0, size = sizeof words;
-    if (dladdr(from, &info) != 0 && info.dli_fname != NULL && !is_library_of_threads(info.dli_fname)) {
+    if (file_of(from, &info) && !is_library_of_threads(info.dli_fname)) {
         seen[n++] = from;
     }
     bool searches = n == 0 || has_headers;

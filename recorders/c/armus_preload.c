@@ -34,6 +34,7 @@
 #include <threads.h>
 #include <time.h>
 #include <unistd.h>
+#include "armus_file.h"
 
 enum kind { BARRIER, JOIN, MUTEX, RWLOCK, CONDITION, SEMAPHORE, ONCE, CRITICAL, OMP_LOCK, TEAM, TEAM_END, TASKS, ORDERED, IDLE, ADDRESS, KINDS };
 static const char *const kind_names[KINDS] = {"barrier", "end-of", "mutex", "rwlock", "condition", "semaphore", "once", "critical", "lock", "team", "team-end", "tasks", "ordered", "idle", "address"};
@@ -476,21 +477,6 @@ static bool mapping_of(unsigned long address, char *line) {
         fclose(maps);
     }
     return found;
-}
-
-/* The file that a piece of code is of. Where the loader can tell it without a lock, it does: the thread that has the lock may wait for others in a constructor, and a
- * child that is forked meanwhile would never get it. */
-static bool file_of(const void *code, Dl_info *info) {
-#if __GLIBC_PREREQ(2, 35)
-    struct dl_find_object found;
-    if (_dl_find_object((void *)(uintptr_t)code, &found) != 0) {
-        return false;
-    }
-    *info = (Dl_info){.dli_fname = found.dlfo_link_map->l_name, .dli_fbase = found.dlfo_map_start};
-    return info->dli_fname != NULL;
-#else
-    return dladdr(code, info) != 0 && info->dli_fname != NULL;
-#endif
 }
 
 /* The addresses of the program's own calls: the one from which it waits, or, where that is a library of threads, the words of the stack that stand behind a call in

@@ -34,13 +34,14 @@
 #include <sys/un.h>
 #include <time.h>
 #include <unistd.h>
+#include "../c/armus_file.h"
 
 enum kind { BARRIER, ALLREDUCE, ALLGATHER, ALLGATHERV, ALLTOALL, ALLTOALLV, ALLTOALLW, REDUCE_SCATTER, REDUCE_SCATTER_BLOCK, IBARRIER, IALLREDUCE, IALLGATHER,
             IALLTOALL, DUP, SPLIT, WIN_CREATE, WIN_FENCE, WIN_FREE, FINALIZE,   /* all wait for all */
             SCAN, EXSCAN,                           /* the last rank waits for all */
             REDUCE, GATHER, GATHERV,                /* the root waits for all */
             BCAST, SCATTER, SCATTERV, IBCAST, KINDS, /* all wait for the root */
-            SEND, KEPT, RECEIVE, POST, COMPLETE, ANY, ABROAD, ONE_OF, ALL_OF, NONE };
+            SEND, KEPT, RECEIVE, POST, COMPLETE, ANY, ABROAD, ONE_OF, ALL_OF, LATER_ONE, LATER_ALL /* of requests that the watcher looks at */, NONE };
 static const char *const kind_names[KINDS] = {"Barrier", "Allreduce", "Allgather", "Allgatherv", "Alltoall", "Alltoallv", "Alltoallw", "Reduce_scatter",
     "Reduce_scatter_block", "Ibarrier", "Iallreduce", "Iallgather", "Ialltoall", "Comm_dup", "Comm_split", "Win_create", "Win_fence", "Win_free", "Finalize", "Scan", "Exscan", "Reduce", "Gather", "Gatherv", "Bcast",
     "Scatter", "Scatterv", "Ibcast"};
@@ -94,6 +95,9 @@ struct epochs {
 /* One of several requests that a call waits for. */
 struct part { int kind, peer, place; unsigned needs; struct communicator *of; struct channel *channel; };
 
+/* What is known of a request. */
+struct request { MPI_Request handle; int kind, peer; unsigned needs; bool there, begins_again; struct communicator *of; struct channel *channel; };
+
 struct slot {
     _Atomic(unsigned) count;                        /* odd: in a call that may wait */
     _Atomic(int) kind, peer;
@@ -105,6 +109,7 @@ struct slot {
     unsigned told;                                  /* the counter of the wait that was announced, or 0 */
     struct part part[PARTS];                        /* of ONE_OF and ALL_OF; written before the counter */
     int parts;
+    const struct request *later[PARTS];             /* of LATER_ONE and LATER_ALL; written before the counter */
     char refusal[LINE];                             /* the sentence by which the call was refused */
     char task[NAME + 24];
     /* the watcher's */
@@ -114,9 +119,12 @@ struct slot {
     bool any;                                       /* it has a wildcard of its own */
     int told_parts;                                 /* how many requests are tasks of their own now */
     const char *part_word;                          /* how they are called */
+    struct part view, view_part[PARTS];             /* what the call waits for, as it was found at this look */
+    int view_parts;
     struct part waits[PARTS];
 };
 
+#define FAST static inline __attribute__((always_inline))         /* what each call does */
 static struct slot slots[THREADS];
 static _Atomic(unsigned) slot_count;
 #define OWN static __thread __attribute__((tls_model("initial-exec")))
@@ -157,7 +165,7 @@ static void asks_now(void) {
 }
 
 /* Adds to a counter, which others only read unless several threads call MPI at once. What it was. */
-static unsigned adds(_Atomic(unsigned) *counter, unsigned n) {
+FAST unsigned adds(_Atomic(unsigned) *counter, unsigned n) {
     if (concurrent) {
         return atomic_fetch_add(counter, n);
     }
@@ -166,8 +174,8 @@ static unsigned adds(_Atomic(unsigned) *counter, unsigned n) {
     return was;
 }
 
-static unsigned counts_at(_Atomic(unsigned) *counter) {
-    for (int i = 0; guard && i < COUNTED; i++) {
+FAST unsigned counts_at(_Atomic(unsigned) *counter) {
+    for (int i = 0; __builtin_expect(guard, 0) && i < COUNTED; i++) {
         if (counted[i] == NULL || i == COUNTED - 1) {
             counted[i] = counter;
             break;
@@ -212,7 +220,7 @@ __attribute__((format(printf, 1, 2))) static void say(const char *form, ...) {
 static const char *place(const void *from) {
     static char found[300];
     Dl_info info;
-    if (from == NULL || dladdr(from, &info) == 0 || info.dli_fname == NULL) {
+    if (from == NULL || !file_of(from, &info)) {
         return "MPI";
     }
     char program[220] = "";
@@ -236,20 +244,20 @@ static void pass_barrier(void) {
     atomic_thread_fence(memory_order_seq_cst);
 }
 
-static struct slot *own_slot(void) {
-    if (mine == NULL) {
-        unsigned i = atomic_fetch_add(&slot_count, 1);
-        if (i < THREADS) {
-            if (i == 0) {
-                snprintf(slots[i].task, sizeof slots[i].task, "%srank-%d", process, rank);
-            } else {
-                snprintf(slots[i].task, sizeof slots[i].task, "%srank-%d.thread-%u", process, rank, i);
-            }
-            mine = &slots[i];
+static __attribute__((noinline)) struct slot *new_slot(void) {
+    unsigned i = atomic_fetch_add(&slot_count, 1);
+    if (i < THREADS) {
+        if (i == 0) {
+            snprintf(slots[i].task, sizeof slots[i].task, "%srank-%d", process, rank);
+        } else {
+            snprintf(slots[i].task, sizeof slots[i].task, "%srank-%d.thread-%u", process, rank, i);
         }
+        mine = &slots[i];
     }
     return mine;
 }
+
+FAST struct slot *own_slot(void) { return __builtin_expect(mine != NULL, 1) ? mine : new_slot(); }
 
 static __attribute__((noinline)) void may_ask(struct slot *s, bool wants) {
     s->refusal[0] = 0;
@@ -260,7 +268,7 @@ static __attribute__((noinline)) void may_ask(struct slot *s, bool wants) {
     }
 }
 
-static struct slot *begins_as(struct part p, const void *from) {
+FAST struct slot *begins_as(struct part p, const void *from) {
     struct slot *s = atomic_load_explicit(&on, memory_order_relaxed) ? own_slot() : NULL;
     bool fails_here = may_fail;
     may_fail = false;                               /* a call inside of another one is MPI's own */
@@ -275,13 +283,13 @@ static struct slot *begins_as(struct part p, const void *from) {
     atomic_store_explicit(&s->needs, p.needs, memory_order_relaxed);
     atomic_store_explicit(&s->from, from, memory_order_relaxed);
     atomic_store_explicit(&s->count, count + 1, memory_order_release);
-    if (guard) {
+    if (__builtin_expect(guard, 0)) {
         may_ask(s, fails_here && (p.kind < KINDS || p.kind == RECEIVE));
     }
     return s;
 }
 
-static struct slot *begins(enum kind kind, struct communicator *of, int peer, unsigned needs, const void *from) {
+FAST struct slot *begins(enum kind kind, struct communicator *of, int peer, unsigned needs, const void *from) {
     return begins_as((struct part){.kind = kind, .of = of, .peer = peer, .needs = needs}, from);
 }
 
@@ -308,7 +316,16 @@ static void goes_on(struct slot *s) {
     __atomic_store_n(&s->told, 0, __ATOMIC_SEQ_CST);
 }
 
-static void ends(struct slot *s) {
+static __attribute__((noinline)) void ends_told(struct slot *s) {
+    pthread_mutex_lock(&line_lock);
+    if (s->told != 0) {
+        goes_on(s);
+        hand_over();
+    }
+    pthread_mutex_unlock(&line_lock);
+}
+
+static inline void ends(struct slot *s) {
     if (mine != NULL && mine->depth > 0 && s == NULL) {
         mine->depth--;
         return;
@@ -320,20 +337,44 @@ static void ends(struct slot *s) {
         if (!has_barrier) {
             atomic_thread_fence(memory_order_seq_cst);
         }
-        if (__atomic_load_n(&s->told, __ATOMIC_RELAXED) != 0) {    /* its wait was announced: it goes on before it does anything else */
-            pthread_mutex_lock(&line_lock);
-            if (s->told != 0) {
-                goes_on(s);
-                hand_over();
-            }
-            pthread_mutex_unlock(&line_lock);
+        if (__builtin_expect(__atomic_load_n(&s->told, __ATOMIC_RELAXED) != 0, 0)) {    /* its wait was announced: it goes on before it does anything else */
+            ends_told(s);
         }
     }
 }
 
-static bool is_inside(void) { return mine != NULL && mine->depth > 0; }
+/* What the call waited for has come. It stands in the same call no more before anything is counted: what is read for its wait would be of the next one. */
+FAST void returned(struct slot *s) {
+    if (s != NULL) {
+        atomic_store_explicit(&s->count, atomic_load_explicit(&s->count, memory_order_relaxed) + 2, memory_order_relaxed);
+        atomic_thread_fence(memory_order_release);
+    }
+}
 
-static bool counts(void) { return atomic_load_explicit(&on, memory_order_relaxed) && !is_inside(); }
+/* A call that does not wait: what it calls itself is inside of it. */
+FAST struct slot *passes(const void *from) {
+    struct slot *s = atomic_load_explicit(&on, memory_order_relaxed) ? own_slot() : NULL;
+    if (__builtin_expect(guard, 0)) {
+        return begins(NONE, NULL, -1, 0, from);
+    }
+    if (s == NULL || s->depth++ > 0) {
+        return NULL;
+    }
+    atomic_store_explicit(&s->from, from, memory_order_relaxed);
+    return s;
+}
+
+FAST void passed(struct slot *s) {
+    if (__builtin_expect(guard, 0)) {
+        ends(s);
+    } else if (mine != NULL && mine->depth > 0) {
+        mine->depth--;
+    }
+}
+
+FAST bool is_inside(void) { return mine != NULL && mine->depth > 0; }
+
+FAST bool counts(void) { return atomic_load_explicit(&on, memory_order_relaxed) && !is_inside(); }
 
 /* ---- the watcher */
 static const char *holder(void) {
@@ -406,13 +447,13 @@ static void say_communicator(struct communicator *c, bool leaves) {
 }
 
 /* ---- the counts of messages */
-static int class_of(int tag) { return tag == MPI_ANY_TAG ? EVERY_TAG : tag < EXACT_TAGS ? tag : EXACT_TAGS + tag % TAG_CLASSES; }
+FAST int class_of(int tag) { return tag == MPI_ANY_TAG ? EVERY_TAG : tag < EXACT_TAGS ? tag : EXACT_TAGS + tag % TAG_CLASSES; }
 
-static _Atomic(struct channel *) *bucket_of(const struct communicator *c, int peer, int tag) {
+static inline _Atomic(struct channel *) *bucket_of(const struct communicator *c, int peer, int tag) {
     return &channels[((uintptr_t)c / 64 * 1023u + (unsigned)peer * 31u + (unsigned)tag) % BUCKETS];
 }
 
-static struct channel *found(const struct communicator *c, int peer, int tag) {
+FAST struct channel *found(const struct communicator *c, int peer, int tag) {
     struct channel *k = atomic_load_explicit(bucket_of(c, peer, tag), memory_order_acquire);
     while (k != NULL && (k->of != c || k->peer != peer || k->tag != tag)) {
         k = k->next;
@@ -445,14 +486,19 @@ static struct channel *new_channel(struct communicator *of, int peer, int tag, s
 }
 
 /* The channel of a peer, or of ANY_RANK, and a class of tags; nowhere, where there are too many. */
-static struct channel *channel_of(struct communicator *c, int peer, int tag) {
-    struct communicator *of = c->named ? c : &unnamed;
-    struct channel *k = found(of, peer, tag), *every = NULL;
-    if (k == NULL && tag != EVERY_TAG) {
+static __attribute__((noinline)) struct channel *first_channel_of(struct communicator *of, int peer, int tag) {
+    struct channel *every = NULL;
+    if (tag != EVERY_TAG) {
         every = found(of, peer, EVERY_TAG);
         every = every != NULL ? every : new_channel(of, peer, EVERY_TAG, NULL);
     }
-    return k != NULL ? k : new_channel(of, peer, tag, every);
+    return new_channel(of, peer, tag, every);
+}
+
+FAST struct channel *channel_of(struct communicator *c, int peer, int tag) {
+    struct communicator *of = c->named ? c : &unnamed;
+    struct channel *k = found(of, peer, tag);
+    return __builtin_expect(k != NULL, 1) ? k : first_channel_of(of, peer, tag);
 }
 
 /* How many receives a communicator has begun that name no tag, and this source or none. */
@@ -678,12 +724,10 @@ static void say_parts(struct slot *s, bool all, const char *at) {
 
 /* Several requests. False where they may come without the others. */
 static bool say_requests(struct slot *s, const char *at) {
-    bool all = atomic_load(&s->kind) == ALL_OF;
+    bool all = s->view.kind == ALL_OF;
     char phaser[2 * NAME];
-    int n = s->parts;
-    for (int i = 0; i < n; i++) {
-        s->waits[i] = s->part[i];
-    }
+    int n = s->view_parts;
+    memcpy(s->waits, s->view_part, sizeof s->waits[0] * (size_t)n);
     for (int i = 0; i < n; i++) {
         if (!is_wild(&s->waits[i]) && !event_of(phaser, &s->waits[i])) {
             if (!all) {
@@ -720,8 +764,89 @@ static bool say_sources(struct slot *s, struct communicator *c, const struct cha
     return s->told_parts > 0;
 }
 
+static bool is_send(int kind) { return kind == SEND || kind == KEPT; }
+
+/* Whether a message of one channel has to come before the last one of the other. */
+static bool comes_before(const struct channel *one, const struct channel *other) {
+    return one == other || (other->tag == EVERY_TAG && one->of == other->of && one->peer == other->peer);
+}
+
+/* What a call waits for: the requests that are under way, each a part; nothing where one of them may be done without the others. Of receives from one rank that all have to
+ * come the second needs one message more than the first. */
+static struct part wanted_parts(int n, const struct request *const *known_ones, bool all, struct part *to, int *parts) {
+    struct part none = {.kind = NONE, .peer = -1};
+    unsigned sends = 0, others = 0;
+    bool whole = true;
+    for (int i = 0; i < n; i++) {
+        const struct request *r = known_ones[i];
+        if (r != NULL && !(r->begins_again && r->needs == 0)) {
+            whole &= r->kind != NONE && r->needs > 0;
+            sends += is_send(r->kind);
+            others += !is_send(r->kind) && r->kind != NONE;
+        }
+    }
+    bool sends_alone = all && others == 0;              /* it may be that all but one went off without a word: then one has still to be taken */
+    *parts = 0;
+    if ((sends_alone || !all) && !whole) {
+        return none;
+    }
+    for (int i = 0; i < n; i++) {
+        const struct request *r = known_ones[i];
+        if (r == NULL || r->kind == NONE || r->needs == 0 || (all && others > 0 && is_send(r->kind))) {
+            continue;
+        }
+        if (*parts == PARTS) {
+            if (!all || sends_alone) {
+                return none;
+            }
+            break;
+        }
+        unsigned needs = r->needs;
+        if (r->kind == RECEIVE) {
+            needs = atomic_load(&r->channel->taken) + 1;
+            for (int k = 0; k < *parts && all; k++) {
+                needs += to[k].kind == RECEIVE && comes_before(to[k].channel, r->channel);
+            }
+        }
+        to[(*parts)++] = (struct part){r->kind, r->peer, i, needs, r->of, r->channel};
+    }
+    return *parts == 1 && sends + others == 1 ? to[0] : *parts == 0 ? none : (struct part){.kind = all && !sends_alone ? ALL_OF : ONE_OF, .peer = -1};
+}
+
+/* What the call of a thread waits for. False where it does not stand in this call any more. */
+static bool views(struct slot *s, unsigned count) {
+    struct request copies[PARTS];
+    const struct request *all[PARTS];
+    s->view = (struct part){.kind = atomic_load(&s->kind), .peer = atomic_load(&s->peer), .needs = atomic_load(&s->needs), .of = atomic_load(&s->of), .channel = atomic_load(&s->channel)};
+    bool is_later = s->view.kind == LATER_ONE || s->view.kind == LATER_ALL;
+    int n = is_later ? s->view.peer : s->parts;
+    if (n < 0 || n > PARTS) {
+        return false;                                          /* of two calls */
+    }
+    for (int i = 0; i < n; i++) {
+        if (is_later) {
+            all[i] = s->later[i];
+            copies[i] = all[i] != NULL ? *all[i] : (struct request){.kind = NONE};
+        } else {
+            s->view_part[i] = s->part[i];
+        }
+    }
+    s->view_parts = n;
+    atomic_thread_fence(memory_order_seq_cst);
+    if (atomic_load(&s->count) != count) {
+        return false;                                          /* what was read may be of two calls */
+    }
+    if (is_later) {
+        for (int i = 0; i < n; i++) {
+            all[i] = all[i] != NULL ? &copies[i] : NULL;
+        }
+        s->view = wanted_parts(n, all, s->view.kind == LATER_ALL, s->view_part, &s->view_parts);
+    }
+    return true;
+}
+
 static bool wait_line(struct slot *s) {
-    struct part p = {.kind = atomic_load(&s->kind), .peer = atomic_load(&s->peer), .needs = atomic_load(&s->needs), .of = atomic_load(&s->of), .channel = atomic_load(&s->channel)};
+    struct part p = s->view;
     char phaser[2 * NAME], at[300];
     static unsigned numbers;
     snprintf(at, sizeof at, "%s", place(atomic_load(&s->from)));
@@ -752,7 +877,7 @@ static bool wait_line(struct slot *s) {
 
 /* So many looks a call has to stand in. A collective waits for the others in any case; a message that is on its way, or that is sent without a word, goes on by itself. */
 static unsigned patience(const struct slot *s) {
-    int kind = atomic_load(&s->kind);
+    int kind = s->view.kind;
     return kind < KINDS ? 2 : kind == SEND || kind == RECEIVE || kind == ANY ? 3 : LONG_PATIENCE;
 }
 
@@ -797,7 +922,7 @@ static void look(void) {
     }
     for (unsigned i = 0, whole = 2; i < n && whole > 0; i++) {
         struct slot *s = &slots[i];
-        if (s->stood >= patience(s) - 1 && s->told == 0 && atomic_load(&s->count) == counts[i]) {
+        if (s->stood > 0 && s->told == 0 && views(s, counts[i]) && s->stood >= patience(s) - 1) {
             whole = whole == 2 ? say_messages() : whole;
             if (whole > 0) {
                 announce(s, counts[i]);
@@ -898,7 +1023,7 @@ static void ask(struct slot *s) {
     pthread_mutex_lock(&line_lock);
     if (!has_threads && out >= 0) {
         say_counts();
-        asks = say_messages() && wait_line(s);
+        asks = say_messages() && views(s, atomic_load(&s->count)) && wait_line(s);
         if (asks) {
             __atomic_store_n(&s->told, atomic_load(&s->count), __ATOMIC_SEQ_CST);
         }
@@ -1008,17 +1133,11 @@ static MPI_Comm last_handle;                        /* the communicator that was
 static struct communicator *last_known;
 
 /* What is known of a communicator; of one that came in a way that is not wrapped, who belongs to it. */
-static struct communicator *known(MPI_Comm handle) {
+static __attribute__((noinline)) struct communicator *asked(MPI_Comm handle) {
     void *found = NULL;
     int is_there = 0;
-    if (handle == MPI_COMM_WORLD) {
-        return &world;
-    }
     if (handle == MPI_COMM_NULL || key == MPI_KEYVAL_INVALID) {
         return NULL;
-    }
-    if (!concurrent && last_known != NULL && handle == last_handle) {
-        return last_known;
     }
     PMPI_Comm_get_attr(handle, key, &found, &is_there);
     struct communicator *c = is_there ? found : calloc(1, sizeof *c);
@@ -1031,6 +1150,13 @@ static struct communicator *known(MPI_Comm handle) {
         last_known = c;
     }
     return c;
+}
+
+FAST struct communicator *known(MPI_Comm handle) {
+    if (handle == MPI_COMM_WORLD) {
+        return &world;
+    }
+    return !concurrent && last_known != NULL && handle == last_handle ? last_known : asked(handle);
 }
 
 /* The name of a communicator or window that was made of another one. The name of a phaser has room for 64 bytes: a long one has its hash in its place. */
@@ -1652,19 +1778,19 @@ int MPI_Win_wait(MPI_Win w) {
 }
 
 /* ---- messages: counted for each pair of ranks of world, communicator and tag */
-static int world_rank(const struct communicator *c, int r) { return c != NULL && r >= 0 && r < c->peers && c->peer[r] < RANKS && c->peer[r] >= 0 ? c->peer[r] : NO_RANK; }
+FAST int world_rank(const struct communicator *c, int r) { return c != NULL && r >= 0 && r < c->peers && c->peer[r] < RANKS && c->peer[r] >= 0 ? c->peer[r] : NO_RANK; }
 
 /* Whether this is a rank of the world that spawned this one, or that this one spawned. */
-static bool is_abroad(const struct communicator *c, int r) { return c != NULL && c->abroad && r >= 0 && r < c->peers && c->peer[r] < 0; }
+static inline bool is_abroad(const struct communicator *c, int r) { return c != NULL && c->abroad && r >= 0 && r < c->peers && c->peer[r] < 0; }
 
 /* The channel of a message or receive; nothing where it is not counted. */
-static struct channel *channel_at(struct communicator *c, int other, int tag) {
+FAST struct channel *channel_at(struct communicator *c, int other, int tag) {
     int peer = c == NULL ? NO_RANK : other == MPI_ANY_SOURCE ? ANY_RANK : world_rank(c, other);
     return peer == NO_RANK || size > RANKS ? NULL : channel_of(c, peer, class_of(tag));
 }
 
 /* Whether what is begun in a channel is begun one behind the other, and each for the next message. */
-static bool is_in_order(struct channel *k) {
+FAST bool is_in_order(struct channel *k) {
     struct slot *own = own_slot(), *before = atomic_load_explicit(&k->user, memory_order_relaxed);
     if (before != own && (before != NULL || (!atomic_compare_exchange_strong(&k->user, &before, own) && before != own))) {
         atomic_store(&k->has_users, true);
@@ -1673,32 +1799,30 @@ static bool is_in_order(struct channel *k) {
 }
 
 /* Which message of its channel is sent now. */
-static unsigned counts_message(struct channel *k) {
+FAST unsigned counts_message(struct channel *k) {
     unsigned before = counts_at(&k->sent);
     counts_at(&k->every->sent);
     return is_in_order(k) ? before + 1 - atomic_load(&k->given_up) : 1;
 }
 
-static bool is_send(int kind) { return kind == SEND || kind == KEPT; }
-
 /* Whether a message is so short that MPI puts it by where no receive of it has begun: its sender waits at most until there is room, which comes as soon as the other one's
  * thread runs in MPI. */
-static bool is_short(int n, MPI_Datatype t) {
-    int bytes = 0;
-    if (n > 0 && t != MPI_DATATYPE_NULL) {
+FAST bool is_short(int n, MPI_Datatype t) {
+    int bytes = t == MPI_INT ? (int)sizeof(int) : t == MPI_DOUBLE ? (int)sizeof(double) : t == MPI_BYTE || t == MPI_CHAR ? 1 : 0;
+    if (bytes == 0 && n > 0 && t != MPI_DATATYPE_NULL) {
         PMPI_Type_size(t, &bytes);
     }
     return bytes >= 0 && (int64_t)n * bytes <= SHORT;
 }
 
-static void may_keep(struct part *p, int n, MPI_Datatype t) {
+static inline void may_keep(struct part *p, int n, MPI_Datatype t) {
     if (p->kind == SEND && is_short(n, t)) {
         p->kind = KEPT;
     }
 }
 
 /* Counts a message to a rank. What its sending may have to wait for: so many receives as it is the message of its channel; nothing where it is not counted. */
-static struct part sends_to(struct communicator *c, int to, int tag) {
+FAST struct part sends_to(struct communicator *c, int to, int tag) {
     struct channel *k = channel_at(c, to, tag);
     if (k == NULL) {
         if (is_abroad(c, to)) {
@@ -1710,12 +1834,12 @@ static struct part sends_to(struct communicator *c, int to, int tag) {
 }
 
 /* How many messages a receive that begins now needs, of a channel that names a source. Those that are under way and know their tag come first. */
-static unsigned needed(struct channel *k) {
+static inline unsigned needed(struct channel *k) {
     return atomic_load(&k->taken) + 1 + (k->tag != EVERY_TAG && is_in_order(k) ? atomic_load(&k->under_way) : 0);
 }
 
 /* A receive is done, and this message came: what was a receive from anybody or of any tag is one of its channel now. No status: it is not known which message came. */
-static void took(struct communicator *c, struct channel *k, const MPI_Status *status) {
+FAST void took(struct communicator *c, struct channel *k, const MPI_Status *status) {
     if (k == NULL || k == &nowhere) {
         return;
     }
@@ -1744,7 +1868,7 @@ static void took(struct communicator *c, struct channel *k, const MPI_Status *st
 /* A call that receives, or that waits for a message without taking it. */
 struct receive { struct communicator *of; struct channel *channel; bool is_abroad; };
 
-static struct receive receive_at(MPI_Comm handle, int from, int tag) {
+FAST struct receive receive_at(MPI_Comm handle, int from, int tag) {
     struct communicator *c = counts() ? known(handle) : NULL;
     return (struct receive){c, channel_at(c, from, tag), is_abroad(c, from)};
 }
@@ -1758,7 +1882,7 @@ static struct slot *waits_for_message(const struct receive *r, const void *at) {
     return begins_as((struct part){.kind = any ? ANY : RECEIVE, .of = r->of, .peer = k->peer, .needs = any ? 1 : needed(k), .channel = k}, at);
 }
 
-static struct slot *receives(const struct receive *r, const void *at) {
+static inline struct slot *receives(const struct receive *r, const void *at) {
     struct part p = {.kind = NONE, .of = r->of, .peer = -1, .needs = 1, .channel = r->channel};
     if (r->channel == NULL) {
         return waits_for_message(r, at);
@@ -1771,7 +1895,7 @@ static struct slot *receives(const struct receive *r, const void *at) {
 }
 
 /* Whether a message came, though perhaps not all of it had room. */
-static bool has_come(int result) {
+static inline bool has_come(int result) {
     int class = MPI_SUCCESS;
     if (result != MPI_SUCCESS) {
         PMPI_Error_class(result, &class);
@@ -1779,7 +1903,8 @@ static bool has_come(int result) {
     return class == MPI_SUCCESS || class == MPI_ERR_TRUNCATE;
 }
 
-static void has_received(const struct slot *s, const struct receive *r, int result, const MPI_Status *status) {
+FAST void has_received(struct slot *s, const struct receive *r, int result, const MPI_Status *status) {
+    returned(s);
     if (s != NULL && has_come(result)) {
         took(r->of, r->channel, result == MPI_SUCCESS ? status : NULL);
         if (r->is_abroad) {
@@ -1789,7 +1914,7 @@ static void has_received(const struct slot *s, const struct receive *r, int resu
 }
 
 /* A message that was not sent: the next one of its channel is the one that it would have been. */
-static void is_sent(const struct part *p, int result) {
+static inline void is_sent(const struct part *p, int result) {
     if (result != MPI_SUCCESS && is_send(p->kind)) {
         adds(&p->channel->given_up, 1);
     }
@@ -1833,7 +1958,8 @@ int MPI_Probe(int from, int tag, MPI_Comm h, MPI_Status *status) {
 }
 
 /* A message that is taken out of the others, to be received later: it counts as received. */
-static void takes_out(const struct slot *s, const struct receive *r, const MPI_Status *status) {
+static void takes_out(struct slot *s, const struct receive *r, const MPI_Status *status) {
+    returned(s);
     if (s != NULL && r->channel != NULL) {
         adds(&r->channel->begun, 1);
     }
@@ -1893,8 +2019,8 @@ int MPI_Sendrecv_replace(void *a, int n, MPI_Datatype t, int to, int tag, int fr
 }
 
 /* ---- requests. A table has what is known of each; one that is pushed out by another is only not known any more. */
-struct request { MPI_Request handle; int kind, peer; unsigned needs; struct communicator *of; struct channel *channel; bool there, begins_again; };
 static struct request requests[REQUESTS];
+static const struct request unknown_request = {.kind = NONE, .peer = -1};
 static pthread_mutex_t request_lock = PTHREAD_MUTEX_INITIALIZER;   /* of the table, where several threads may use it at once: never held in a call of MPI */
 
 static void lock_requests(void) {
@@ -1910,9 +2036,9 @@ static void unlock_requests(void) {
 }
 
 /* The entry of a handle, or one that it may have. */
-static struct request *entry_of(MPI_Request handle) {
-    enum { PLACES = 8 };
-    struct request *first = &requests[((uint64_t)(uintptr_t)handle * 0x9e3779b97f4a7c15u >> 40) % (REQUESTS / PLACES) * PLACES], *free_one = NULL;
+enum { PLACES = 8 };
+static __attribute__((noinline)) struct request *entry_among(struct request *first, MPI_Request handle) {
+    struct request *free_one = NULL;
     for (int i = 0; i < PLACES; i++) {
         if (first[i].there && first[i].handle == handle) {
             return &first[i];
@@ -1922,51 +2048,76 @@ static struct request *entry_of(MPI_Request handle) {
     return free_one != NULL ? free_one : first;
 }
 
+static bool has_several[REQUESTS / PLACES];         /* of each group of places: others than the first were ever used */
+
+FAST struct request *entry_of(MPI_Request handle, bool is_new) {
+    unsigned group = (unsigned)((uint64_t)(uintptr_t)handle * 0x9e3779b97f4a7c15u >> 40) % (REQUESTS / PLACES);
+    struct request *first = &requests[group * PLACES];
+    if (__builtin_expect((first->there && first->handle == handle) || (!has_several[group] && !(is_new && first->there)), 1)) {
+        return first;
+    }
+    has_several[group] |= is_new;
+    return entry_among(first, handle);
+}
+
 /* A request is not under way any more, or nothing is known of it any more. */
-static void is_over(const struct request *r) {
+FAST void is_over(const struct request *r) {
     if (r->there && r->kind == RECEIVE && r->needs > 0) {
         adds(&r->channel->under_way, -1u);
     }
 }
 
-static void is_begun(const struct request *r) {
+FAST void is_begun(const struct request *r) {
     if (r->kind == RECEIVE && r->needs > 0) {
         adds(&r->channel->under_way, 1);
     }
 }
 
-static void remember(struct request q) {
+/* Written word by word: a copy of what was just written in other pieces would wait for them. */
+FAST void remember(MPI_Request handle, const struct part *p, struct communicator *of, bool begins_again) {
     lock_requests();
-    struct request *r = entry_of(q.handle);
+    struct request *r = entry_of(handle, true);
     is_over(r);
-    q.there = true;
-    *r = q;
+    r->handle = handle;
+    r->kind = p->kind;
+    r->peer = p->peer;
+    r->needs = begins_again ? 0 : p->needs;
+    r->of = of;
+    r->channel = p->channel;
+    r->begins_again = begins_again;
+    r->there = true;
     is_begun(r);
     unlock_requests();
 }
 
-/* What is known of a request; kind NONE where that is nothing. */
-static struct request recall(MPI_Request handle) {
-    struct request found = {.kind = NONE, .peer = -1};
-    if (handle != MPI_REQUEST_NULL) {
-        lock_requests();
-        const struct request *r = entry_of(handle);
-        if (r->there && r->handle == handle) {
-            found = *r;
-        }
-        unlock_requests();
+/* What is known of a request; nothing of one that is none. Where another thread may change it, a copy. */
+FAST const struct request *recall(MPI_Request handle, struct request *copy) {
+    if (handle == MPI_REQUEST_NULL) {
+        return NULL;
     }
-    return found;
+    lock_requests();
+    const struct request *r = entry_of(handle, false);
+    r = r->there && r->handle == handle ? r : &unknown_request;
+    if (concurrent) {
+        *copy = *r;
+        r = copy;
+    }
+    unlock_requests();
+    return r;
 }
 
 /* One that begins again stays, but is not under way any more. */
+FAST void ends_request(struct request *r) {
+    is_over(r);
+    r->there = r->begins_again && r->there;
+    r->needs = 0;
+}
+
 static void forget(MPI_Request handle) {
     lock_requests();
-    struct request *r = entry_of(handle);
+    struct request *r = entry_of(handle, false);
     if (r->handle == handle) {
-        is_over(r);
-        r->there = r->begins_again && r->there;
-        r->needs = 0;
+        ends_request(r);
     }
     unlock_requests();
 }
@@ -1984,21 +2135,17 @@ static void forget_all_of(const struct communicator *c) {
     }
 }
 
-static struct request request_of(MPI_Request handle, struct communicator *c, struct part p) {
-    return (struct request){.handle = handle, .kind = p.kind, .peer = p.peer, .needs = p.needs, .of = c, .channel = p.channel};
-}
-
 #define BEGINS_SEND(name, keeps) \
     int MPI_##name(const void *a, int n, MPI_Datatype t, int to, int tag, MPI_Comm h, MPI_Request *q) { \
         struct part p = sends_to(counts() ? known(h) : NULL, to, tag); \
         keeps; \
-        struct slot *s = begins(NONE, NULL, 0, 0, HERE); \
+        struct slot *s = passes(HERE); \
         int result = PMPI_##name(a, n, t, to, tag, h, q); \
         is_sent(&p, result); \
         if (s != NULL && is_send(p.kind) && result == MPI_SUCCESS) { \
-            remember(request_of(*q, NULL, p)); \
+            remember(*q, &p, NULL, false); \
         } \
-        ends(s); \
+        passed(s); \
         return result; \
     }
 BEGINS_SEND(Isend, may_keep(&p, n, t))
@@ -2007,31 +2154,31 @@ BEGINS_SEND(Irsend, may_keep(&p, n, t))
 BEGINS_SEND(Ibsend, may_keep(&p, 0, t))
 
 /* What a request for a message waits for. */
-static struct part part_of(const struct receive *r) {
+FAST struct part part_of(const struct receive *r) {
     struct channel *k = r->channel;
     int kind = k == NULL ? r->is_abroad ? ABROAD : NONE : k == &nowhere ? NONE : k->peer == ANY_RANK ? ANY : RECEIVE;
     return (struct part){.kind = kind, .peer = k != NULL ? k->peer : -1, .needs = 1, .of = r->of, .channel = k};
 }
 
-static struct slot *begins_receive(const struct receive *r, const void *at) {
+static inline struct slot *begins_receive(const struct receive *r, const void *at) {
     if (r->channel != NULL) {
         adds(&r->channel->begun, 1);
     }
-    return begins(NONE, NULL, -1, 0, at);
+    return passes(at);
 }
 
 int MPI_Irecv(void *a, int n, MPI_Datatype t, int from, int tag, MPI_Comm h, MPI_Request *q) {
     struct receive r = receive_at(h, from, tag);
     struct slot *s = begins_receive(&r, HERE);
     int result = PMPI_Irecv(a, n, t, from, tag, h, q);
-    if (s != NULL && part_of(&r).kind != NONE && result == MPI_SUCCESS) {
-        remember(request_of(*q, r.of, part_of(&r)));
+    struct part p = part_of(&r);
+    if (s != NULL && p.kind != NONE && result == MPI_SUCCESS) {
+        remember(*q, &p, r.of, false);
     }
-    ends(s);
+    passed(s);
     return result;
 }
 
-#define REQUEST_OF(KIND, to, needed, c) (struct request){.handle = *q, .kind = KIND, .peer = to, .needs = needed, .of = c}
 #define BEGINS_COLLECTIVE(KIND, name, root, needs_data, parameters, words) \
     int MPI_##name parameters { \
         struct communicator *c = counts() ? known(h) : NULL; \
@@ -2039,7 +2186,7 @@ int MPI_Irecv(void *a, int n, MPI_Datatype t, int from, int tag, MPI_Comm h, MPI
         struct slot *s = begins(NONE, NULL, 0, 0, HERE); \
         int result = PMPI_##name words; \
         if (s != NULL && needs > 0 && (needs_data) && result == MPI_SUCCESS) { \
-            remember(REQUEST_OF(KIND, root, needs, c)); \
+            remember(*q, &(struct part){.kind = KIND, .peer = root, .needs = needs}, c, false); \
         } \
         ends(s); \
         return result; \
@@ -2051,9 +2198,12 @@ BEGINS_COLLECTIVE(IALLTOALL, Ialltoall, 0, m > 0, (const void *a, int n, MPI_Dat
 BEGINS_COLLECTIVE(IBCAST, Ibcast, r, n > 0, (void *a, int n, MPI_Datatype t, int r, MPI_Comm h, MPI_Request *q), (a, n, t, r, h, q))
 
 /* A request that was done, and that no other thread has cancelled meanwhile. With no status it is not known which message came. */
-static void is_done(MPI_Request handle, const struct request *r, const MPI_Status *status) {
+FAST void is_done(MPI_Request handle, const struct request *r, const MPI_Status *status) {
     int cancelled = 0;
-    if (concurrent && status != NULL && r->kind != NONE && r->needs > 0) {
+    if (r == NULL || r->kind == NONE || r->handle != handle) {
+        return;
+    }
+    if (concurrent && status != NULL && r->needs > 0) {
         PMPI_Test_cancelled(status, &cancelled);
     }
     if (!cancelled && r->needs > 0 && (r->kind == RECEIVE || r->kind == ANY)) {
@@ -2062,71 +2212,40 @@ static void is_done(MPI_Request handle, const struct request *r, const MPI_Statu
     if (!cancelled && r->needs > 0 && r->kind == ABROAD) {
         adds(&taken_abroad, 1);
     }
-    if (r->kind != NONE) {
+    if (concurrent) {
         forget(handle);
+    } else {
+        ends_request((struct request *)(uintptr_t)r);
     }
 }
 
-/* Whether a message of one channel has to come before the last one of the other. */
-static bool comes_before(const struct channel *one, const struct channel *other) {
-    return one == other || (other->tag == EVERY_TAG && one->of == other->of && one->peer == other->peer);
-}
-
-/* What a call waits for: the requests that are under way. Of receives from one rank that all have to come the second needs one message more than the first. */
-static struct slot *waits(int n, const MPI_Request *q, const struct request *known_ones, bool all, const void *from) {
-    struct slot *s = atomic_load_explicit(&on, memory_order_relaxed) && !is_inside() ? own_slot() : NULL;
-    unsigned sends = 0, others = 0;
-    bool whole = true;
-    if (s == NULL || s->depth > 0) {
+/* A call that waits for requests: nothing for one that is none. Where no other thread may change what is known of them, the watcher looks at them, once the call has stood. */
+FAST struct slot *waits(int n, const struct request *const *known_ones, bool all, const void *from) {
+    struct slot *s = counts() ? own_slot() : NULL;
+    if (s == NULL) {
         return begins(NONE, NULL, 0, 0, from);
     }
+    if (guard || concurrent || n > PARTS) {
+        struct part p = wanted_parts(n, known_ones, all, s->part, &s->parts);
+        return begins_as(p, from);
+    }
     for (int i = 0; i < n; i++) {
-        if (q[i] != MPI_REQUEST_NULL && !(known_ones[i].begins_again && known_ones[i].needs == 0)) {
-            whole &= known_ones[i].kind != NONE && known_ones[i].needs > 0;
-            sends += is_send(known_ones[i].kind);
-            others += !is_send(known_ones[i].kind) && known_ones[i].kind != NONE;
-        }
+        s->later[i] = known_ones[i];
     }
-    bool sends_alone = all && others == 0;              /* it may be that all but one went off without a word: then one has still to be taken */
-    if ((sends_alone || !all) && !whole) {
-        return begins(NONE, NULL, 0, 0, from);
-    }
-    s->parts = 0;
-    for (int i = 0; i < n; i++) {
-        const struct request *r = &known_ones[i];
-        if (q[i] == MPI_REQUEST_NULL || r->kind == NONE || r->needs == 0 || (all && others > 0 && is_send(r->kind))) {
-            continue;
-        }
-        if (s->parts == PARTS) {
-            if (!all || sends_alone) {
-                return begins(NONE, NULL, 0, 0, from);
-            }
-            break;
-        }
-        unsigned needs = r->needs;
-        if (r->kind == RECEIVE) {
-            needs = atomic_load(&r->channel->taken) + 1;
-            for (int k = 0; k < s->parts && all; k++) {
-                needs += s->part[k].kind == RECEIVE && comes_before(s->part[k].channel, r->channel);
-            }
-        }
-        s->part[s->parts++] = (struct part){r->kind, r->peer, i, needs, r->of, r->channel};
-    }
-    if (s->parts == 1 && sends + others == 1) {
-        return begins_as(s->part[0], from);
-    }
-    return begins(s->parts == 0 ? NONE : all && !sends_alone ? ALL_OF : ONE_OF, NULL, -1, 0, from);
+    return begins(all ? LATER_ALL : LATER_ONE, NULL, n, 0, from);
 }
 
 int MPI_Wait(MPI_Request *q, MPI_Status *status) {
     MPI_Status own, *into = status == MPI_STATUS_IGNORE ? &own : status;
     MPI_Request handle = *q;
-    struct request r = counts() ? recall(handle) : (struct request){.kind = NONE};
+    struct request copy;
+    const struct request *r = counts() ? recall(handle, &copy) : NULL;
     asks_now();
-    struct slot *s = waits(1, q, &r, true, HERE);
+    struct slot *s = waits(1, &r, true, HERE);
     int result = is_refused(s) ? fails(s, MPI_COMM_WORLD) : PMPI_Wait(q, into);
     if (s != NULL && result == MPI_SUCCESS) {
-        is_done(handle, &r, into);
+        returned(s);
+        is_done(handle, r, into);
     }
     ends(s);
     return result;
@@ -2136,48 +2255,52 @@ int MPI_Wait(MPI_Request *q, MPI_Status *status) {
 struct before {
     int n;
     MPI_Request *handles;
-    struct request *known_ones;
+    const struct request **known_ones;
+    struct request *copies;                         /* where another thread may change what is known */
     MPI_Status *statuses;                           /* where the program wants none, and yet it has to be asked which messages came */
     MPI_Request few[FEW];
-    struct request few_known[FEW];
+    const struct request *few_known[FEW];
+    struct request few_copies[FEW];
     MPI_Status few_statuses[FEW];
 };
 
-static void make_room(struct before *b, int n) {
+static inline void make_room(struct before *b, int n) {
     bool few = n <= FEW;
     b->n = counts() && n > 0 ? n : 0;
     b->handles = few ? b->few : malloc((size_t)n * sizeof *b->handles);
     b->known_ones = few ? b->few_known : malloc((size_t)n * sizeof *b->known_ones);
+    b->copies = few ? b->few_copies : concurrent ? malloc((size_t)n * sizeof *b->copies) : NULL;
     b->statuses = NULL;
-    b->n = b->handles != NULL && b->known_ones != NULL ? b->n : 0;
+    b->n = b->handles != NULL && b->known_ones != NULL && (b->copies != NULL || !concurrent) ? b->n : 0;
 }
 
-static void keep(struct before *b, int i, MPI_Request handle) {
+FAST void keep(struct before *b, int i, MPI_Request handle) {
     b->handles[i] = handle;
-    b->known_ones[i] = recall(handle);
+    b->known_ones[i] = recall(handle, concurrent ? &b->copies[i] : NULL);
 }
 
-static void keep_before(struct before *b, int n, const MPI_Request *q) {
+FAST void keep_before(struct before *b, int n, const MPI_Request *q) {
     make_room(b, n);
     for (int i = 0; i < b->n; i++) {
         keep(b, i, q[i]);
     }
 }
 
-static void free_before(const struct before *b) {
+static inline void free_before(const struct before *b) {
     if (b->handles != b->few) {
         free(b->handles);
         free(b->known_ones);
+        free(b->copies);
         free(b->statuses);
     }
 }
 
 /* Where a call with several requests tells which messages came. */
-static MPI_Status *statuses_of(struct before *b, MPI_Status *wanted) {
+static inline MPI_Status *statuses_of(struct before *b, MPI_Status *wanted) {
     bool asks = false;
     for (int i = 0; i < b->n && wanted == MPI_STATUSES_IGNORE; i++) {
-        const struct request *r = &b->known_ones[i];
-        asks |= r->kind == ANY || (r->kind == RECEIVE && r->channel->tag == EVERY_TAG);
+        const struct request *r = b->known_ones[i];
+        asks |= r != NULL && (r->kind == ANY || (r->kind == RECEIVE && r->channel->tag == EVERY_TAG));
     }
     if (asks) {
         b->statuses = b->n <= FEW ? b->few_statuses : malloc((size_t)b->n * sizeof *b->statuses);
@@ -2185,13 +2308,13 @@ static MPI_Status *statuses_of(struct before *b, MPI_Status *wanted) {
     return b->statuses != NULL ? b->statuses : wanted;
 }
 
-static void one_is_done(const struct before *b, int i, const MPI_Status *status) {
+FAST void one_is_done(const struct before *b, int i, const MPI_Status *status) {
     if (i >= 0 && i < b->n) {
-        is_done(b->handles[i], &b->known_ones[i], status);
+        is_done(b->handles[i], b->known_ones[i], status);
     }
 }
 
-static void all_are_done(const struct before *b, const MPI_Status *status) {
+FAST void all_are_done(const struct before *b, const MPI_Status *status) {
     for (int i = 0; i < b->n; i++) {
         one_is_done(b, i, status == MPI_STATUSES_IGNORE ? NULL : &status[i]);
     }
@@ -2212,6 +2335,7 @@ static void some_are_done(const struct before *b, const int *done, const int *wh
         int result = PMPI_##name words; \
         (void)into; \
         if (s != NULL && result == MPI_SUCCESS) { \
+            returned(s); \
             behind; \
         } \
         free_before(&b); \
@@ -2220,9 +2344,9 @@ static void some_are_done(const struct before *b, const int *done, const int *wh
     }
 #define INTO (status == MPI_STATUS_IGNORE ? into : (into = status))
 #define ALL (status = statuses_of(&b, status))
-OF_SEVERAL(Waitall, waits(b.n, b.handles, b.known_ones, true, HERE), (int n, MPI_Request *q, MPI_Status *status), (n, q, ALL), all_are_done(&b, status))
-OF_SEVERAL(Waitany, waits(b.n, b.handles, b.known_ones, false, HERE), (int n, MPI_Request *q, int *which, MPI_Status *status), (n, q, which, INTO), one_is_done(&b, *which, into))
-OF_SEVERAL(Waitsome, waits(b.n, b.handles, b.known_ones, false, HERE), (int n, MPI_Request *q, int *done, int *which, MPI_Status *status), (n, q, done, which, ALL),
+OF_SEVERAL(Waitall, waits(b.n, b.known_ones, true, HERE), (int n, MPI_Request *q, MPI_Status *status), (n, q, ALL), all_are_done(&b, status))
+OF_SEVERAL(Waitany, waits(b.n, b.known_ones, false, HERE), (int n, MPI_Request *q, int *which, MPI_Status *status), (n, q, which, INTO), one_is_done(&b, *which, into))
+OF_SEVERAL(Waitsome, waits(b.n, b.known_ones, false, HERE), (int n, MPI_Request *q, int *done, int *which, MPI_Status *status), (n, q, done, which, ALL),
     some_are_done(&b, done, which, status))
 OF_SEVERAL(Testall, begins(NONE, NULL, 0, 0, HERE), (int n, MPI_Request *q, int *flag, MPI_Status *status), (n, q, flag, ALL), if (*flag) { all_are_done(&b, status); })
 OF_SEVERAL(Testany, begins(NONE, NULL, 0, 0, HERE), (int n, MPI_Request *q, int *which, int *flag, MPI_Status *status), (n, q, which, flag, INTO),
@@ -2233,20 +2357,21 @@ OF_SEVERAL(Testsome, begins(NONE, NULL, 0, 0, HERE), (int n, MPI_Request *q, int
 int MPI_Test(MPI_Request *q, int *flag, MPI_Status *status) {
     MPI_Status own, *into = status == MPI_STATUS_IGNORE ? &own : status;
     MPI_Request handle = *q;
-    struct request r = counts() ? recall(handle) : (struct request){.kind = NONE};
-    struct slot *s = begins(NONE, NULL, 0, 0, HERE);
+    struct request copy;
+    const struct request *r = counts() ? recall(handle, &copy) : NULL;
+    struct slot *s = passes(HERE);
     int result = PMPI_Test(q, flag, into);
     if (s != NULL && result == MPI_SUCCESS && *flag) {
-        is_done(handle, &r, into);
+        is_done(handle, r, into);
     }
-    ends(s);
+    passed(s);
     return result;
 }
 
 /* One that is given up is not counted as done, whether its message came or not. */
 static void is_given_up(MPI_Request handle, bool is_freed) {
     lock_requests();
-    struct request *r = entry_of(handle);
+    struct request *r = entry_of(handle, false);
     if (r->there && r->handle == handle) {
         is_over(r);
         if (is_send(r->kind) && !is_freed && r->needs > 0) {
@@ -2274,11 +2399,8 @@ static void is_made_once(MPI_Request handle, int kind, struct communicator *c, i
     if (is_send(kind)) {
         p.kind = p.kind == RECEIVE ? kind : NONE;
     }
-    struct request q = request_of(handle, c, p);
-    q.needs = 0;
-    q.begins_again = true;
-    if (c != NULL && (q.kind != NONE || other == MPI_PROC_NULL)) {
-        remember(q);
+    if (c != NULL && (p.kind != NONE || other == MPI_PROC_NULL)) {
+        remember(handle, &p, c, true);
     }
 }
 
@@ -2299,7 +2421,7 @@ MADE_ONCE(RECEIVE, Recv_init, (void *a, int n, MPI_Datatype t, int to, int tag, 
 
 static void begins_again(MPI_Request handle) {
     lock_requests();
-    struct request *r = entry_of(handle);
+    struct request *r = entry_of(handle, false);
     if (!r->there || r->handle != handle || !r->begins_again) {
         atomic_store(&sends_uncounted, true);
         atomic_store(&receives_uncounted, true);
@@ -2352,7 +2474,7 @@ UNCOUNTED(Precv_init, receives_uncounted, (void *a, int p, MPI_Count n, MPI_Data
         struct slot *s = begins_receive(&r, HERE); \
         atomic_store(&sources_unknown, true); \
         int result = PMPI_##name words; \
-        ends(s); \
+        passed(s); \
         return result; \
     }
 BOTH_WAYS(Isendrecv, (const void *a, int n, MPI_Datatype t, int to, int tag, void *b, int m, MPI_Datatype u, int from, int tag2, MPI_Comm h, MPI_Request *q), (a, n, t, to, tag, b, m, u, from, tag2, h, q))
@@ -2422,14 +2544,15 @@ static F wanted(struct status *s, F status) { return is_left_out(status) ? s->ow
 /* The status in the form of C. */
 static const MPI_Status *in_c(struct status *s, F status) { return PMPI_Status_f2c(status, &s->read) == MPI_SUCCESS ? &s->read : NULL; }
 
-static void has_received_something(const struct slot *s, const struct receive *r, F error, const MPI_Status *status) {
+static void has_received_something(struct slot *s, const struct receive *r, F error, const MPI_Status *status) {
     if (succeeded(error)) {
         has_received(s, r, MPI_SUCCESS, status);
     }
 }
 
-#define FORTRAN_RECEIVE(name, tag, how, parameters, words, before, behind) \
-    FORTRAN(name, parameters, words, struct receive r = receive_at(PMPI_Comm_f2c(*h), (int)*from, (int)*tag); before; struct slot *s = how, behind; ends(s))
+#define FORTRAN_RECEIVE(name, tag, how, parameters, words, before, behind) FORTRAN_RECEIVE_AS(ends, name, tag, how, parameters, words, before, behind)
+#define FORTRAN_RECEIVE_AS(end, name, tag, how, parameters, words, before, behind) \
+    FORTRAN(name, parameters, words, struct receive r = receive_at(PMPI_Comm_f2c(*h), (int)*from, (int)*tag); before; struct slot *s = how, behind; end(s))
 #define OWN_STATUS struct status own; st = wanted(&own, st)
 FORTRAN_RECEIVE(mpi_recv, g, receives(&r, HERE), (void *a, F n, F t, F from, F g, F h, F st, F e), (a, n, t, from, g, h, st, e), OWN_STATUS, has_received_something(s, &r, e, in_c(&own, st)))
 FORTRAN_RECEIVE(mpi_probe, g, waits_for_message(&r, HERE), (F from, F g, F h, F st, F e), (from, g, h, st, e), , )
@@ -2439,13 +2562,13 @@ FORTRAN_RECEIVE(mpi_sendrecv, g2, receives(&r, HERE), (void *a, F n, F t, F to, 
     OWN_STATUS; sends_to(r.of, (int)*to, (int)*g), has_received_something(s, &r, e, in_c(&own, st)))
 FORTRAN_RECEIVE(mpi_sendrecv_replace, g2, receives(&r, HERE), (void *a, F n, F t, F to, F g, F from, F g2, F h, F st, F e), (a, n, t, to, g, from, g2, h, st, e),
     OWN_STATUS; sends_to(r.of, (int)*to, (int)*g), has_received_something(s, &r, e, in_c(&own, st)))
-FORTRAN_RECEIVE(mpi_irecv, g, begins_receive(&r, HERE), (void *a, F n, F t, F from, F g, F h, F q, F e), (a, n, t, from, g, h, q, e), ,
-    if (s != NULL && part_of(&r).kind != NONE && succeeded(e)) { remember(request_of(PMPI_Request_f2c(*q), r.of, part_of(&r))); })
+FORTRAN_RECEIVE_AS(passed, mpi_irecv, g, begins_receive(&r, HERE), (void *a, F n, F t, F from, F g, F h, F q, F e), (a, n, t, from, g, h, q, e), ,
+    struct part p = part_of(&r); if (s != NULL && p.kind != NONE && succeeded(e)) { remember(PMPI_Request_f2c(*q), &p, r.of, false); })
 
 #define FORTRAN_BEGINS_SEND(name, keeps) \
     FORTRAN(name, (void *a, F n, F t, F to, F g, F h, F q, F e), (a, n, t, to, g, h, q, e), \
         struct part p = sends_to(counts() ? known(PMPI_Comm_f2c(*h)) : NULL, (int)*to, (int)*g); keeps; struct slot *s = begins(NONE, NULL, 0, 0, HERE), \
-        if (s != NULL && is_send(p.kind) && succeeded(e)) { remember(request_of(PMPI_Request_f2c(*q), NULL, p)); } ends(s))
+        if (s != NULL && is_send(p.kind) && succeeded(e)) { remember(PMPI_Request_f2c(*q), &p, NULL, false); } ends(s))
 FORTRAN_BEGINS_SEND(mpi_isend, KEEPS_OF_FORTRAN)
 FORTRAN_BEGINS_SEND(mpi_issend, )
 FORTRAN_BEGINS_SEND(mpi_ibsend, KEEPS_OF_FORTRAN)
@@ -2505,8 +2628,8 @@ static void some_have_come(struct before *b, int done, F which, F statuses, F no
 
 #define FORTRAN_OF_REQUESTS(name, beginning, count, own_status, parameters, words, behind) \
     FORTRAN(name, parameters, words, struct before b; own_status; keep_before_of_fortran(&b, count, q); struct slot *s = beginning, \
-        if (s != NULL && succeeded(e)) { behind; } free_before(&b); ends(s))
-#define WAITS_FOR(all) waits(b.n, b.handles, b.known_ones, all, HERE)
+        if (s != NULL && succeeded(e)) { returned(s); behind; } free_before(&b); ends(s))
+#define WAITS_FOR(all) waits(b.n, b.known_ones, all, HERE)
 #define LOOKS begins(NONE, NULL, 0, 0, HERE)
 FORTRAN_OF_REQUESTS(mpi_wait, WAITS_FOR(true), 1, OWN_STATUS, (F q, F st, F e), (q, st, e), all_have_come(&b, st))
 FORTRAN_OF_REQUESTS(mpi_waitall, WAITS_FOR(true), (int)*n, , (F n, F q, F st, F e), (n, q, st, e), all_have_come(&b, st))
