@@ -27,3 +27,4 @@ pub mod DeadlockShown
 pub mod ForkersWait
 pub mod EachToldOnce
 pub mod WaitingAlike
+pub mod ListOrder

@@ -1,0 +1,159 @@
+// The first circle through a task, along those for whom tasks wait: a search in breadth.
+ghost use Rattle.std.specs.Prelude.{◌≡◌, ◌<◌, ◌+◌, ◌++◌, ◌∷◌, true, [], List, ℕ, All, AllPairs, Contains, IfOk, MatchBool, OnOk, length, option_to_list, slice_index_or, vec_set};
+ghost use Rattle.armus_base.specs.declared.ids.TaskId.{TaskId};
+ghost use Rattle.explain_deadlock.specs.Circles.{IsFirstCircle};
+ghost use Rattle.explain_deadlock.specs.Verdicts.{WaitsFor, deadlocked_in, followers_of};
+ghost use Rattle.explain_deadlock.specs.inside.Searches.{AreLooked, AreWays, HasCircle, HasWays, IsSearched};
+ghost use Rattle.explain_tasks.specs.Nexts.{next_of};
+ghost use Rattle.explain_tasks.specs.calls.Fitting.{FactsFitPlan};
+ghost use Rattle.pl_core.specs.calls.Worlds.{state_of};
+
+use armus_base::{NoMemory, TaskId};
+use explain_tasks::{Facts, Impeder, is_deadlocked};
+use pl_core::World;
+use std::alloc::Global;
+
+// The tasks to which a search has come, in this order, and for each at which place of the queue the task stands from which the search has come to it.
+#[derive(Drop)]
+struct Search {
+    queue: Vec<TaskId>,
+    parents: Vec<usize>,
+    // for each task whether the search has come to it
+    seen: Vec<bool>,
+}
+
+// The deadlocked tasks of these impeders.
+fn deadlocked_in(facts: &Facts, impeders: &[Impeder]) -> Result<Vec<TaskId>, NoMemory>
+    ensures { IfOk result (λ v. v.items ≡ deadlocked_in facts.now impeders.now) }
+{
+    let mut all = Vec::new(facts.alloc());
+    for impeder in impeders {
+        if is_deadlocked(facts.situation(impeder.t)) {
+            all.push(impeder.t)?;
+        }
+    }
+    Ok(all)
+}
+
+// The next of a task, if it has one.
+fn next_alone(facts: &Facts, world: &World, t: TaskId) -> Result<Vec<TaskId>, NoMemory>
+    requires fits { FactsFitPlan facts.now world.now.plan }
+    ensures { IfOk result (λ v. v.items ≡ option_to_list (next_of facts.now (state_of world.now).phases t.0)) }
+{
+    let mut all = Vec::new(facts.alloc());
+    match facts.next(world, t)? {
+        Some(next) => all.push(next)?,
+        None => {}
+    }
+    Ok(all)
+}
+
+// For whom a task waits, in order of number.
+fn followers_of(facts: &Facts, world: &World, t: TaskId) -> Result<Vec<TaskId>, NoMemory>
+    requires fits { FactsFitPlan facts.now world.now.plan }
+    ensures { IfOk result (λ v. v.items ≡ followers_of facts.now (state_of world.now).phases t.0) }
+{
+    if !is_deadlocked(facts.situation(t)) {
+        return next_alone(facts, world, t);
+    }
+    let impeders = facts.impeders(world, t)?;
+    deadlocked_in(facts, &impeders)
+}
+
+// Whether a task stands in a list.
+fn is_in(tasks: &[TaskId], t: TaskId) -> bool
+    ensures { MatchBool result (Contains tasks.now t) (¬ Contains tasks.now t) }
+{
+    for u in tasks {
+        if u.0 == t.0 {
+            return true;
+        }
+    }
+    false
+}
+
+// A search that has come to a task alone, of so many tasks.
+fn search_at(alloc: Global, tasks: u32, t: TaskId) -> Result<Search, NoMemory>
+    requires inside { t.0 < tasks }
+    ensures sized { IfOk result (λ s. length s.seen.items ≡ tasks) }
+    ensures searched { (next : TaskId → List TaskId) → IfOk result (λ s. IsSearched next t 0 [] s.queue.items s.parents.items s.seen.items) }
+{
+    let mut queue = Vec::new(alloc);
+    let mut parents = Vec::new(alloc);
+    let mut seen = vec![in alloc; false; tasks as usize]?;
+    queue.push(t)?;
+    parents.push(0)?;
+    seen[t.0 as usize] = true;
+    Ok(Search {
+        queue,
+        parents,
+        seen,
+    })
+}
+
+// The search comes to a task from the one at this place.
+fn come_to(search: &mut Search, at: usize, u: TaskId) -> Result<(), NoMemory>
+    requires inside { u.0 < length search.old.seen.items }
+    ensures queue { OnOk result (search.new.queue.items ≡ search.old.queue.items ++ u ∷ []) }
+    ensures parents { OnOk result (search.new.parents.items ≡ search.old.parents.items ++ at ∷ []) }
+    ensures seen { OnOk result (search.new.seen.items ≡ vec_set search.old.seen.items u.0 true) }
+{
+    search.queue.push(u)?;
+    search.parents.push(at)?;
+    search.seen[u.0 as usize] = true;
+    Ok(())
+}
+
+// The search comes to those of these tasks to which it has not come yet, from the task at this place, whose followers they are.
+fn come_to_all(search: &mut Search, at: usize, followers: &[TaskId]) -> Result<(), NoMemory>
+    requires inside { All (λ u. u.0 < length search.old.seen.items) followers.now }
+    requires ascend { AllPairs (λ u v. u.0 < v.0) followers.now }
+    ensures sized { OnOk result (length search.new.seen.items ≡ length search.old.seen.items) }
+    ensures searched { (next : TaskId → List TaskId) (t : TaskId) → AreLooked next t at followers.now search.old →
+        OnOk result (IsSearched next t (at + 1) [] search.new.queue.items search.new.parents.items search.new.seen.items) }
+{
+    for u in followers {
+        if !search.seen[u.0 as usize] {
+            come_to(search, at, *u)?;
+        }
+    }
+    Ok(())
+}
+
+// The tasks by way of which the search has come to the one at this place, from the first one on.
+fn way_to(alloc: Global, search: &Search, place: usize) -> Result<Vec<TaskId>, NoMemory>
+    requires ways { HasWays search.now }
+    requires inside { place < length search.now.queue.items }
+    ensures { (t : TaskId) (ways : List (List TaskId)) → AreWays t search.now.queue.items search.now.parents.items ways →
+        IfOk result (λ v. v.items ≡ t ∷ slice_index_or ways place []) }
+{
+    let mut way = Vec::new(alloc);
+    let mut at = place;
+    'back: while at != 0 {
+        way.push(search.queue[at])?;
+        at = search.parents[at];
+    }
+    way.push(search.queue[0])?;
+    way.reverse();
+    Ok(way)
+}
+
+/// The first circle through a task that stands in one.
+pub(crate) fn first_circle(facts: &Facts, world: &World, t: TaskId) -> Result<Vec<TaskId>, NoMemory>
+    requires fits { FactsFitPlan facts.now world.now.plan }
+    requires inside { t.0 < length world.now.plan.parents }
+    requires circle { HasCircle (WaitsFor facts.now (state_of world.now).phases) t }
+    ensures { IfOk result (λ v. IsFirstCircle (WaitsFor facts.now (state_of world.now).phases) t v.items) }
+{
+    let mut search = search_at(facts.alloc(), world.plan().tasks(), t)?;
+    let mut at = 0;
+    'search: while at < search.queue.len() {
+        let followers = followers_of(facts, world, search.queue[at])?;
+        if is_in(&followers, t) {
+            return way_to(facts.alloc(), &search, at);
+        }
+        come_to_all(&mut search, at, &followers)?;
+        at += 1;
+    }
+    unreachable!()
+}
