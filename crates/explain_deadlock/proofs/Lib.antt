@@ -28,3 +28,4 @@ pub mod ForkersWait
 pub mod EachToldOnce
 pub mod WaitingAlike
 pub mod ListOrder
+pub mod Searches

@@ -1,9 +1,9 @@
 // The first circle through a task, along those for whom tasks wait: a search in breadth.
-ghost use Rattle.std.specs.Prelude.{◌≡◌, ◌<◌, ◌+◌, ◌++◌, ◌∷◌, true, [], List, ℕ, All, AllPairs, Contains, IfOk, MatchBool, OnOk, length, option_to_list, slice_index_or, vec_set};
+ghost use Rattle.std.specs.Prelude.{◌≡◌, ◌<◌, ◌+◌, ◌++◌, ◌∷◌, [], List, All, AllPairs, Contains, IfOk, MatchBool, OnOk, length, option_to_list, slice_index_or};
 ghost use Rattle.armus_base.specs.declared.ids.TaskId.{TaskId};
 ghost use Rattle.explain_deadlock.specs.Circles.{IsFirstCircle};
 ghost use Rattle.explain_deadlock.specs.Verdicts.{WaitsFor, deadlocked_in, followers_of};
-ghost use Rattle.explain_deadlock.specs.inside.Searches.{AreLooked, AreWays, HasCircle, HasWays, IsSearched};
+ghost use Rattle.explain_deadlock.specs.inside.Searches.{AreWays, HasCircle, HasWays, IsFollower, IsLooking, IsSearched};
 ghost use Rattle.explain_tasks.specs.Nexts.{next_of};
 ghost use Rattle.explain_tasks.specs.calls.Fitting.{FactsFitPlan};
 ghost use Rattle.pl_core.specs.calls.Worlds.{state_of};
@@ -91,31 +91,32 @@ fn search_at(alloc: Global, tasks: u32, t: TaskId) -> Result<Search, NoMemory>
     })
 }
 
-// The search comes to a task from the one at this place.
-fn come_to(search: &mut Search, at: usize, u: TaskId) -> Result<(), NoMemory>
+// The search looks at a follower of the task at this place: it comes to it, unless it has come to it before.
+fn look_at(search: &mut Search, at: usize, u: TaskId) -> Result<(), NoMemory>
     requires inside { u.0 < length search.old.seen.items }
-    ensures queue { OnOk result (search.new.queue.items ≡ search.old.queue.items ++ u ∷ []) }
-    ensures parents { OnOk result (search.new.parents.items ≡ search.old.parents.items ++ at ∷ []) }
-    ensures seen { OnOk result (search.new.seen.items ≡ vec_set search.old.seen.items u.0 true) }
+    ensures sized { OnOk result (length search.new.seen.items ≡ length search.old.seen.items) }
+    ensures looked { (next : TaskId → List TaskId) (t : TaskId) (followers looked : List TaskId) → IsLooking next t at followers looked search.old →
+        IsFollower followers looked u → OnOk result (IsLooking next t at followers (looked ++ u ∷ []) search.new) }
 {
+    if search.seen[u.0 as usize] {
+        return Ok(());
+    }
     search.queue.push(u)?;
     search.parents.push(at)?;
     search.seen[u.0 as usize] = true;
     Ok(())
 }
 
-// The search comes to those of these tasks to which it has not come yet, from the task at this place, whose followers they are.
-fn come_to_all(search: &mut Search, at: usize, followers: &[TaskId]) -> Result<(), NoMemory>
+// The search looks at each of these tasks, which are the followers of the one at this place.
+fn look_at_all(search: &mut Search, at: usize, followers: &[TaskId]) -> Result<(), NoMemory>
     requires inside { All (λ u. u.0 < length search.old.seen.items) followers.now }
     requires ascend { AllPairs (λ u v. u.0 < v.0) followers.now }
     ensures sized { OnOk result (length search.new.seen.items ≡ length search.old.seen.items) }
-    ensures searched { (next : TaskId → List TaskId) (t : TaskId) → AreLooked next t at followers.now search.old →
-        OnOk result (IsSearched next t (at + 1) [] search.new.queue.items search.new.parents.items search.new.seen.items) }
+    ensures looked { (next : TaskId → List TaskId) (t : TaskId) → IsLooking next t at followers.now [] search.old →
+        OnOk result (IsLooking next t at followers.now followers.now search.new) }
 {
     for u in followers {
-        if !search.seen[u.0 as usize] {
-            come_to(search, at, *u)?;
-        }
+        look_at(search, at, *u)?;
     }
     Ok(())
 }
@@ -152,7 +153,7 @@ pub(crate) fn first_circle(facts: &Facts, world: &World, t: TaskId) -> Result<Ve
         if is_in(&followers, t) {
             return way_to(facts.alloc(), &search, at);
         }
-        come_to_all(&mut search, at, &followers)?;
+        look_at_all(&mut search, at, &followers)?;
         at += 1;
     }
     unreachable!()

@@ -45,9 +45,13 @@ pub record IsSearched (next : TaskId → List TaskId) (t : TaskId) (at : ℕ) (l
       (j : ℕ) × (j < length queue) × (slice_index_or queue j t ≡ v) × IsNoLater (slice_index_or ways j []) (slice_index_or ways k [] ++ v ∷ [])
   pub unmet : (k : ℕ) → k < at → k < length queue → Contains (next (slice_index_or queue k t)) t → ⊥
 
--- so far none of these tasks has been looked at, who are the followers of the one at place `at`, and task t is none of them
-pub record AreLooked (next : TaskId → List TaskId) (t : TaskId) (at : ℕ) (followers : List TaskId) (s : Search) : Type 0 where
-  pub searched : IsSearched next t at [] s.queue.items s.parents.items s.seen.items
+-- the search looks at the followers of the task at place `at`, who are these, and has looked at some of them
+pub record IsLooking (next : TaskId → List TaskId) (t : TaskId) (at : ℕ) (followers looked : List TaskId) (s : Search) : Type 0 where
+  pub searched : IsSearched next t at looked s.queue.items s.parents.items s.seen.items
   pub inside : at < length s.queue.items
   pub are : next (slice_index_or s.queue.items at t) ≡ followers
-  pub not_met : ¬ Contains followers t
+
+-- task u is one of the followers, and has a higher number than those that have been looked at
+pub record IsFollower (followers looked : List TaskId) (u : TaskId) : Type 0 where
+  pub there : Contains followers u
+  pub behind : (v : TaskId) → Contains looked v → v.0 < u.0
