@@ -29,3 +29,4 @@ pub mod EachToldOnce
 pub mod WaitingAlike
 pub mod ListOrder
 pub mod Searches
+pub mod Followers

@@ -1,16 +1,19 @@
 -- A search in breadth comes to each task by the first way that leads there, so the first circle that it finds is the first of all.
-use Rattle.std.proofs.Common.{◌≡◌, ◌↔◌, ℕ, ◌+◌, ◌<◌, ◌≤◌, Bool, true, false, List, [], ◌∷◌, ◌++◌, length, length-append, length-set, get_or, set, arith, sym, ◌∙◌, ap, subst, refl, inl, inr, ◌⊎◌, append_assoc}
-use Rattle.std.specs.Prelude.{Contains}
+use Rattle.std.proofs.Common.{◌≡◌, ◌↔◌, ℕ, ◌+◌, ◌<◌, ◌≤◌, Bool, true, false, List, [], ◌∷◌, ◌++◌, length, length-append, length-replicate, length-set, get_or, replicate, take, set, arith, sym, ◌∙◌, ap, subst, refl, inl, inr, ◌⊎◌, append_assoc}
+use Rattle.std.specs.Prelude.{AllPairs, Contains, MatchBool}
 use Rattle.std.proofs.lemmas.Bool.{cases_lt}
-use Rattle.std.proofs.lemmas.List.{get_or_append_left, get_or_at, get_or_default}
+use Rattle.std.proofs.lemmas.List.{get_or-replicate, get_or-take, get_or_append_left, get_or_at, get_or_default, get_or_past, length-take-le, take_more}
 use Rattle.std.proofs.lemmas.List.Elements.{Contains-append_left, Contains-push, Contains-push_cases}
 use Rattle.armus_base.specs.declared.ids.TaskId.{TaskId}
-use Rattle.armus_base.proofs.Counts.{IsDistinct-push}
+use Rattle.armus_base.specs.Finals.{list_below}
+use Rattle.armus_base.proofs.Below.{length-list_below}
+use Rattle.armus_base.proofs.Counts.{IsDistinct-push, distinct_le}
 use Rattle.armus_base.proofs.Elements.{nothing_in_nil}
 use Rattle.explain_deadlock.specs.Circles.{IsBefore, IsCircle, IsFirstCircle, IsNoLater, LeadsTo}
 use Rattle.explain_deadlock.specs.declared.circle.Search.{Search}
 use Rattle.explain_deadlock.specs.inside.Searches.{AreWays, IsFollower, IsLooking, IsSearched}
 use Rattle.explain_deadlock.proofs.ListOrder.{before_last, before_push, no_later_cons, no_later_more, no_later_push, no_later_trans, nothing_before, nothing_no_later}
+use Rattle.explain_deadlock.proofs.TasksThat.{task_below}
 use Rattle.explain_deadlock.proofs.VerdictWalks.{set_task_flags}
 
 module _ (next : TaskId → List TaskId) (t : TaskId) where
@@ -360,3 +363,49 @@ module _ (next : TaskId → List TaskId) (t : TaskId) (at : ℕ) (followers look
         inside = rw q (let n = length-append s.queue.items (u ∷ []) in let i = l.inside in omega arith);
         are = rw q (ap next (get_or_append_left s.queue.items (u ∷ []) t at l.inside) ∙ l.are);
       }
+
+-- one more of the followers is looked at
+pub one_more : (next : TaskId → List TaskId) (t : TaskId) (at : ℕ) (followers : List TaskId) → AllPairs (λ (u v : TaskId). u.0 < v.0) followers → (k : ℕ) (d : TaskId) → k < length followers →
+    (s new : Search) → IsLooking next t at followers (take k followers) s →
+    ((looked : List TaskId) → IsLooking next t at followers looked s → IsFollower followers looked (get_or followers k d) → IsLooking next t at followers (looked ++ get_or followers k d ∷ []) new) →
+    IsLooking next t at followers (take (k + 1) followers) new
+one_more next t at followers ascend k d lt s new l more =
+    let n = length-take-le k followers (omega arith) in
+    let f : IsFollower followers (take k followers) (get_or followers k d) =
+    record {
+      there = (k, lt, get_or_default followers k (get_or followers k d) d lt);
+      behind = λ v (j, inside, is).
+          let less : j < k = omega arith in
+          subst (λ (x : TaskId). x.0 < (get_or followers k d).0) (sym (get_or-take k followers j d less) ∙ get_or_default (take k followers) j d v inside ∙ is) (ascend j k d less lt);
+    } in
+    subst (λ xs. IsLooking next t at followers xs new) (sym (take_more followers k d lt)) (more (take k followers) l f)
+
+-- all followers are looked at, and t is none of them
+pub looked_all : (next : TaskId → List TaskId) (t : TaskId) (at : ℕ) (followers : List TaskId) (s : Search) → IsLooking next t at followers followers s → (Contains followers t → ⊥) →
+    IsSearched next t (at + 1) [] s.queue.items s.parents.items s.seen.items
+looked_all next t at followers s l not_met =
+    looked_at next t at followers s.queue.items s.parents.items s.seen.items l.searched followers l.inside l.are (λ v there. there) not_met
+
+-- no flag is set where none was
+pub none_set : (flags : List Bool) (n : ℕ) → flags ≡ replicate n false → (v : ℕ) → get_or flags v false ≡ false
+none_set flags n are v =
+    elim (cases_lt v n) [
+      | inl lt ↦ rw are (get_or-replicate n v false false lt)
+      | inr out ↦ get_or_past flags v false (omega (arith, ap length are, length-replicate n false))
+    ]
+
+-- what an answer tells
+pub met : (tasks : List TaskId) (t : TaskId) (b : Bool) → MatchBool b (Contains tasks t) (Contains tasks t → ⊥) → b ≡ true → Contains tasks t
+met tasks t true there is = there
+met tasks t false there is = absurd (cc)
+
+pub not_met : (tasks : List TaskId) (t : TaskId) (b : Bool) → MatchBool b (Contains tasks t) (Contains tasks t → ⊥) → b ≡ false → Contains tasks t → ⊥
+not_met tasks t true there is = absurd (cc)
+not_met tasks t false there is = there
+
+-- the queue is no longer than there are tasks
+pub short : (next : TaskId → List TaskId) (t : TaskId) (at : ℕ) (looked queue : List TaskId) (parents : List ℕ) (seen : List Bool) → IsSearched next t at looked queue parents seen →
+    length queue ≤ length seen
+short next t at looked queue parents seen s =
+    let le = distinct_le queue (list_below (λ u. record { 0 = u }) (length seen)) s.distinct (λ u there. task_below (length seen) u (s.inside u there)) in
+    omega (arith, le, length-list_below (λ (u : ℕ). record { 0 = u }) (length seen))
