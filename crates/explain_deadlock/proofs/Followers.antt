@@ -1,8 +1,8 @@
 -- For whom a task waits: tasks of the plan, in order of number, its next among them.
-use Rattle.std.proofs.Common.{◌≡◌, ℕ, ◌<◌, Bool, true, false, Option, Some, None, List, [], ◌∷◌, arith, get_or, length, length-map, sym, ◌∙◌, ap, subst, refl}
+use Rattle.std.proofs.Common.{◌≡◌, ℕ, ◌<◌, Bool, true, false, Option, Some, None, List, [], ◌∷◌, arith, get_or, length, sym, ◌∙◌, ap, subst, refl}
 use Rattle.std.specs.Prelude.{AllPairs, Contains, if◌then◌else◌, map, option_map, option_to_list}
 use Rattle.std.specs.List.{find}
-use Rattle.std.proofs.lemmas.List.{get_or-map}
+use Rattle.std.proofs.lemmas.List.{get_or-map, length-map}
 use Rattle.std.proofs.lemmas.List.Kept.{AllPairs-filter}
 use Rattle.armus_base.specs.declared.ids.TaskId.{TaskId}
 use Rattle.armus_base.specs.Plans.{Plan}
@@ -38,7 +38,7 @@ tasks_ascend impeders ascend i j d less lt =
 
 module _ (f : FactsValue) (phases : ℕ → Phases) where
   by_wait : (o : Option Waiting) → Ascends (tasks (impeders_by (length f.standings) phases o))
-  by_wait None i j d less lt = absurd (omega arith)
+  by_wait None = λ i j d less lt. absurd (omega arith)
   by_wait (Some w) = tasks_ascend (impeders_by (length f.standings) phases (Some w)) (impeders_ascend (length f.standings) phases w.event)
 
   one_ascends : (o : Option TaskId) → Ascends (option_to_list o)

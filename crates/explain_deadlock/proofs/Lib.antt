@@ -30,3 +30,5 @@ pub mod WaitingAlike
 pub mod ListOrder
 pub mod Searches
 pub mod Followers
+pub mod CircleWalks
+pub mod FirstCircles

@@ -1,8 +1,8 @@
 -- A search in breadth comes to each task by the first way that leads there, so the first circle that it finds is the first of all.
-use Rattle.std.proofs.Common.{◌≡◌, ◌↔◌, ℕ, ◌+◌, ◌<◌, ◌≤◌, Bool, true, false, List, [], ◌∷◌, ◌++◌, length, length-append, length-replicate, length-set, get_or, replicate, take, set, arith, sym, ◌∙◌, ap, subst, refl, inl, inr, ◌⊎◌, append_assoc}
+use Rattle.std.proofs.Common.{◌≡◌, ◌↔◌, ℕ, ◌+◌, ◌<◌, ◌≤◌, Bool, true, false, List, [], ◌∷◌, ◌++◌, length, length-append, length-set, get_or, replicate, take, set, arith, sym, ◌∙◌, ap, subst, refl, inl, inr, ◌⊎◌, append_assoc}
 use Rattle.std.specs.Prelude.{AllPairs, Contains, MatchBool}
 use Rattle.std.proofs.lemmas.Bool.{cases_lt}
-use Rattle.std.proofs.lemmas.List.{get_or-replicate, get_or-take, get_or_append_left, get_or_at, get_or_default, get_or_past, length-take-le, take_more}
+use Rattle.std.proofs.lemmas.List.{get_or-replicate, get_or-take, get_or_append_left, get_or_at, get_or_default, get_or_past, length-replicate, length-take-le, take_more}
 use Rattle.std.proofs.lemmas.List.Elements.{Contains-append_left, Contains-push, Contains-push_cases}
 use Rattle.armus_base.specs.declared.ids.TaskId.{TaskId}
 use Rattle.armus_base.specs.Finals.{list_below}
@@ -117,13 +117,13 @@ module _ (next : TaskId → List TaskId) (t : TaskId) where
         way_is k lt = get_or_append_left s.ways ((way at ++ u ∷ []) ∷ []) [] k (let n = s.are.led in omega arith)
 
         node_last : (k : ℕ) → k ≡ length queue → get_or queue' k t ≡ u
-        node_last k e = get_or_at queue u [] t k e
+        node_last k e = get_or_at queue u [] t k (sym e)
 
         mother_last : (k : ℕ) → k ≡ length queue → get_or parents' k 0 ≡ at
-        mother_last k e = get_or_at parents at [] 0 k (e ∙ sym s.are.parented)
+        mother_last k e = get_or_at parents at [] 0 k (s.are.parented ∙ sym e)
 
         way_last : (k : ℕ) → k ≡ length queue → get_or ways' k [] ≡ way at ++ u ∷ []
-        way_last k e = get_or_at s.ways (way at ++ u ∷ []) [] [] k (e ∙ sym s.are.led)
+        way_last k e = get_or_at s.ways (way at ++ u ∷ []) [] [] k (s.are.led ∙ sym e)
 
         split : (k : ℕ) → k < length queue' → (k < length queue) ⊎ (k ≡ length queue)
         split k lt = elim (cases_lt k (length queue)) [ inl less ↦ inl less | inr more ↦ inr (let n = n_queue in omega arith) ]
@@ -408,4 +408,4 @@ pub short : (next : TaskId → List TaskId) (t : TaskId) (at : ℕ) (looked queu
     length queue ≤ length seen
 short next t at looked queue parents seen s =
     let le = distinct_le queue (list_below (λ u. record { 0 = u }) (length seen)) s.distinct (λ u there. task_below (length seen) u (s.inside u there)) in
-    omega (arith, le, length-list_below (λ (u : ℕ). record { 0 = u }) (length seen))
+    omega (arith, le, length-list_below {A = TaskId} (λ (u : ℕ). record { 0 = u }) (length seen))

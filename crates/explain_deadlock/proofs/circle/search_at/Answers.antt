@@ -1,6 +1,6 @@
-use Rattle.std.proofs.Common.{◌≡◌, ◌↔◌, ℕ, ◌<◌, Bool, true, false, List, length, length-set, length-replicate, get_or, set, replicate, arith, sym, ◌∙◌, ap, inl, inr}
-use Rattle.std.proofs.lemmas.Bool.{cases_lt, false≢true}
-use Rattle.std.proofs.lemmas.List.{get_or-replicate}
+use Rattle.std.proofs.Common.{◌≡◌, ◌↔◌, ℕ, ◌<◌, Bool, true, false, List, length, length-set, get_or, set, replicate, arith, sym, ◌∙◌, ap, inl, inr}
+use Rattle.std.proofs.lemmas.Bool.{false≢true}
+use Rattle.std.proofs.lemmas.List.{length-replicate}
 use Rattle.armus_base.proofs.Lists.{set_flag}
 use Rattle.explain_deadlock.proofs.Searches.{begun, none_set}
 use Rattle.explain_deadlock.proofs.circle.search_at.Goals as goal
@@ -8,7 +8,7 @@ use Rattle.explain_deadlock.proofs.circle.search_at.Goals as goal
 pub returns-clause-searched : goal.returns-clause-searched
 returns-clause-searched c next =
     let flags = c.in_ok-seen.seen.items in
-    let are : flags ≡ replicate c.args.tasks false = c.in_ok-seen.ensures.items in
+    let are : flags ≡ replicate c.args.tasks false = c.in_ok-seen.ensures.items_if_clones_equal (λ y e. e) in
     let lt : c.args.t.0 < length flags = rw (are, length-replicate) c.requires.inside in
     let n = length-set flags c.args.t.0 true in
     let it = begun next c.args.t (set flags c.args.t.0 true) (rw n lt)
