@@ -11,7 +11,11 @@ walk_leads : (R : TaskId → TaskId → Type 0) (last u : TaskId) (xs : List Tas
 walk_leads R last u [] steps back = back
 walk_leads R last u (x ∷ xs) steps back = (
   steps 0 u (omega arith),
-  walk_leads R last x xs (λ k d lt. steps (suc k) d (omega arith)) (subst (λ y. R y last) (same xs x (length xs) (omega arith)) back),
+  walk_leads R last x xs
+  (λ k d lt.
+      let n : suc k + 1 ≡ suc (k + 1) = omega arith in
+      subst (λ m. R (get_or (u ∷ x ∷ xs) (suc k) d) (get_or (u ∷ x ∷ xs) m d)) n (steps (suc k) d (omega arith)))
+  (subst (λ y. R y last) (same xs x (length xs) (omega arith)) back),
 )
   where
     same : (ys : List TaskId) (y : TaskId) (k : ℕ) → k < suc (length ys) → get_or (y ∷ ys) k u ≡ get_or (y ∷ ys) k x
@@ -40,7 +44,9 @@ leads_map R S P step last u (x ∷ xs) p leads = let (s, q) = step u x p leads.0
 leads_steps : (R : TaskId → TaskId → Type 0) (last u : TaskId) (xs : List TaskId) → LeadsTo R last u xs → IsWalk R (u ∷ xs)
 leads_steps R last u [] leads k d lt = absurd (omega arith)
 leads_steps R last u (x ∷ xs) leads zero d lt = leads.0
-leads_steps R last u (x ∷ xs) leads (suc k) d lt = leads_steps R last x xs leads.1 k d (omega arith)
+leads_steps R last u (x ∷ xs) leads (suc k) d lt =
+    let n : suc (k + 1) ≡ suc k + 1 = omega arith in
+    subst (λ m. R (get_or (u ∷ x ∷ xs) (suc k) d) (get_or (u ∷ x ∷ xs) m d)) n (leads_steps R last x xs leads.1 k d (omega arith))
 
 leads_back : (R : TaskId → TaskId → Type 0) (last u : TaskId) (xs : List TaskId) → LeadsTo R last u xs → (d : TaskId) → R (get_or (u ∷ xs) (length xs) d) last
 leads_back R last u [] leads d = leads

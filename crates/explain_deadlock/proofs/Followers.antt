@@ -29,7 +29,7 @@ tasks impeders = map (λ (i : Impeder). i.t) impeders
 
 tasks_ascend : (impeders : List Impeder) → AllPairs (λ (i j : Impeder). i.t.0 < j.t.0) impeders → Ascends (tasks impeders)
 tasks_ascend impeders ascend i j d less lt =
-    let n = length-map (λ (i : Impeder). i.t) impeders in
+    let n = length-map impeders (λ (i : Impeder). i.t) in
     let x = λ (k : ℕ). get_or impeders k (record { t = d; p = record { 0 = 0 }; phase = 0 }) in
     let one : get_or (tasks impeders) i d ≡ (x i).t = get_or-map (λ (i : Impeder). i.t) impeders i (record { t = d; p = record { 0 = 0 }; phase = 0 }) d (omega arith) in
     let other : get_or (tasks impeders) j d ≡ (x j).t = get_or-map (λ (i : Impeder). i.t) impeders j (record { t = d; p = record { 0 = 0 }; phase = 0 }) d (omega arith) in

@@ -1,5 +1,5 @@
 -- What is proved of explanations.
-use Rattle.std.specs.Prelude.{◌≡◌, ◌↔◌, ℕ, ◌<◌, true, false, List, ◌++◌, Contains, Some, flat_map, length, take}
+use Rattle.std.specs.Prelude.{◌≡◌, ◌↔◌, ℕ, ◌<◌, ◌≤◌, true, false, List, ◌∷◌, ◌++◌, Contains, Some, flat_map, length, take}
 use Rattle.armus_base.specs.declared.ids.TaskId.{TaskId}
 use Rattle.armus_base.specs.declared.event.Event.{Event}
 use Rattle.armus_base.specs.CheckedPlans.{IsCheckedPlan}
@@ -69,12 +69,13 @@ EachImpederIsTold =
     (f : FactsValue) (phases : ℕ → Phases) (t : ℕ) →
     IsDistinct (named_impeders f phases t) × ((u : TaskId) → Contains (named_impeders f phases t) u ↔ IsImpededBy f phases t u)
 
--- where a task is dead, the verdict is a circle: the cycle of the report
+-- where a task is dead, the verdict is a circle that begins as the cycle of the report, and is no longer
 abbrev pub DeadlockIsReported : Type 0
 DeadlockIsReported =
     (plan : Plan) (a : ℕ → Place) (f : FactsValue) (v : WaitVerdict) → AreFactsAt plan a f → IsVerdict f (state_at plan a).phases v →
     IsSomeDead (final_of plan (state_at plan a)).blocked →
-    (cycle : List TaskId) × (v ≡ Circle cycle) × IsReportedCycle (final_of plan (state_at plan a)).blocked cycle
+    (t : TaskId) × (shown cycle : List TaskId) × (v ≡ Circle (t ∷ shown)) × IsReportedCycle (final_of plan (state_at plan a)).blocked (t ∷ cycle)
+    × (length shown ≤ length cycle)
 
 -- ---- the notes
 

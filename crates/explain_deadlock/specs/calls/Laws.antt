@@ -1,5 +1,5 @@
 -- What is proved of explanations.
-use Rattle.std.specs.Prelude.{◌≡◌, ◌↔◌, ◌⊎◌, ℕ, ◌-◌, ◌<◌, Bool, true, List, Contains, Ok, Option, Some, length, slice_get, slice_index_or}
+use Rattle.std.specs.Prelude.{◌≡◌, ◌↔◌, ◌⊎◌, ℕ, ◌-◌, ◌<◌, ◌≤◌, Bool, true, List, Contains, Ok, Option, Some, length, slice_get, slice_index_or}
 use Rattle.armus_base.specs.declared.event.Event.{Event}
 use Rattle.armus_base.specs.declared.ids.TaskId.{TaskId}
 use Rattle.armus_base.specs.Counts.{IsDistinct}
@@ -100,3 +100,10 @@ abbrev pub ShownAreDead : Type 0
 ShownAreDead =
     (plan : Plan) (a : ℕ → Place) (f : FactsValue) (shown : List TaskId) → AreFactsAt plan a f → IsVerdict f (state_at plan a).phases (Circle shown) →
     IsSomeDead (final_of plan (state_at plan a)).blocked → ShowsCircle (IsDeadAndWaitsFor (state_at plan a)) shown
+
+-- and there is no shorter circle of dead tasks, each impeded by the one behind it, that begins with the first shown one
+abbrev pub ShownAreShortest : Type 0
+ShownAreShortest =
+    (plan : Plan) (a : ℕ → Place) (f : FactsValue) (shown other : List TaskId) → AreFactsAt plan a f → IsVerdict f (state_at plan a).phases (Circle shown) →
+    IsSomeDead (final_of plan (state_at plan a)).blocked → ShowsCircle (IsDeadAndWaitsFor (state_at plan a)) other → slice_get other 0 ≡ slice_get shown 0 →
+    length shown ≤ length other
