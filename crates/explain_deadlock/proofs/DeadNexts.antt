@@ -29,7 +29,7 @@ use Rattle.explain_tasks.specs.Impeders.{impeders_by_facts}
 use Rattle.explain_deadlock.specs.calls.Laws.{IsDeadAndWaitsFor}
 use Rattle.explain_tasks.specs.Nexts.{IsNext, least_that, next_by}
 use Rattle.explain_deadlock.specs.RunEnds.{AreFactsAt}
-use Rattle.explain_deadlock.specs.Verdicts.{WaitsFor}
+use Rattle.explain_deadlock.specs.Verdicts.{HasFollower}
 use Rattle.explain_deadlock.proofs.Followers.{dead_follower, dead_impeder}
 use Rattle.explain_deadlock.proofs.FitsEnds.{checked_here, dead_in_state, dead_is, impeder_here, impeders_here, of_plan_here, published_is, waiting_is}
 use Rattle.explain_deadlock.proofs.ImpedersAre.{found_passes, impeder, impeder_is, impeders_ascend, least_found}
@@ -153,7 +153,7 @@ module _ (plan : Plan) (a : ℕ → Place) (f : FactsValue) (at : AreFactsAt pla
   dead_stands t dead = ap is_deadlocked (dead_is plan a f at t dead).3
 
   -- for whom a dead task waits is dead, and impedes its event
-  pub follows_dead : (t u : TaskId) → IsDeadBy blocked t.0 → WaitsFor f s.phases t u → IsDeadAndWaitsFor s t u × IsDeadBy blocked u.0
+  pub follows_dead : (t u : TaskId) → IsDeadBy blocked t.0 → HasFollower f s.phases t u → IsDeadAndWaitsFor s t u × IsDeadBy blocked u.0
   follows_dead t u dead follows =
       let (lt, e, ended, is) = dead_is plan a f at t.0 dead in
       let (i, there, same, passes) = dead_follower f s.phases t.0 u (dead_stands t.0 dead) follows in
@@ -170,7 +170,7 @@ module _ (plan : Plan) (a : ℕ → Place) (f : FactsValue) (at : AreFactsAt pla
       )
 
   -- and a dead task that impedes its event is one for whom it waits
-  pub waits_follows : (t u : TaskId) → IsDeadAndWaitsFor s t u → IsDeadIn s u.0 → WaitsFor f s.phases t u
+  pub waits_follows : (t u : TaskId) → IsDeadAndWaitsFor s t u → IsDeadIn s u.0 → HasFollower f s.phases t u
   waits_follows t u (dead, e, published, m, phase, below) also =
       let of_plan = of_plan_here plan a f at in
       let by_t = (dead_by_final plan s t.0 of_plan).1 dead in

@@ -28,8 +28,8 @@ use Rattle.explain_deadlock.specs.calls.Laws.{DeadlockStandsFirst, IsDeadAndWait
 use Rattle.explain_tasks.specs.Nexts.{IsNext, first_or, next_by, next_of}
 use Rattle.explain_deadlock.specs.RunEnds.{AreFactsAt}
 use Rattle.explain_tasks.specs.Sayings.{Said, impeder_said, impeder_words, same_said}
-use Rattle.explain_deadlock.specs.Verdicts.{IsShownCircle, IsVerdictFrom, IsWalkTo, WaitsFor, walk_start}
-use Rattle.explain_deadlock.specs.Circles.{IsCircle, IsNoLater, LeadsTo}
+use Rattle.explain_deadlock.specs.Verdicts.{IsShownCircle, IsVerdictFrom, IsWalkTo, HasFollower, walk_start}
+use Rattle.explain_deadlock.specs.Circles.{IsCircleThrough, IsNoLater, LeadsBackTo}
 use Rattle.explain_deadlock.proofs.DeadNexts.{deadlocked_dead, follows_dead, next_dead, next_found, next_is_step, waits_follows}
 use Rattle.explain_deadlock.proofs.CircleWalks.{circle_of, circle_shown, leads_map, shown_circle}
 use Rattle.explain_deadlock.proofs.Followers.{next_follows}
@@ -103,7 +103,7 @@ module _ (plan : Plan) (a : ℕ → Place) (f : FactsValue) (at : AreFactsAt pla
         (all_keep (IsNext f s.phases) IsDeadTask keeps start dead (w.closes.before ++ cycle) w.closes.steps w.closes.starts (length w.closes.before + 0) start (omega arith))
 
   -- a circle begins with its task
-  begins : (R : TaskId → TaskId → Type 0) (t : TaskId) (c : List TaskId) → IsCircle R t c → (rest : List TaskId) × (c ≡ t ∷ rest) × LeadsTo R t t rest
+  begins : (R : TaskId → TaskId → Type 0) (t : TaskId) (c : List TaskId) → IsCircleThrough R t c → (rest : List TaskId) × (c ≡ t ∷ rest) × LeadsBackTo R t t rest
   begins R t [] closes = absurd closes
   begins R t (u ∷ rest) closes = (rest, ap (λ x. x ∷ rest) closes.0, closes.1)
 
@@ -131,8 +131,8 @@ module _ (plan : Plan) (a : ℕ → Place) (f : FactsValue) (at : AreFactsAt pla
       let all = shows v is some in
       let t = all.circle.task in
       let cycle = all.circle.walked in
-      let (rest, same, leads) = begins (WaitsFor f s.phases) t all.shown all.circle.first.closes in
-      let walk = circle_of (IsNext f s.phases) (WaitsFor f s.phases) (next_follows f s.phases) all.start t cycle all.circle.closes in
+      let (rest, same, leads) = begins (HasFollower f s.phases) t all.shown all.circle.first.closes in
+      let walk = circle_of (IsNext f s.phases) (HasFollower f s.phases) (next_follows f s.phases) all.start t cycle all.circle.closes in
       let le = not_longer all.shown (t ∷ cycle) (all.circle.first.first (t ∷ cycle) walk) in
       let sized : length all.shown ≡ length (t ∷ rest) = ap length same in (
         t,
@@ -150,17 +150,17 @@ module _ (plan : Plan) (a : ℕ → Place) (f : FactsValue) (at : AreFactsAt pla
   shown_dead shown is some =
       let all = shows (Circle shown) is some in
       let t = all.circle.task in
-      let (rest, same, leads) = begins (WaitsFor f s.phases) t all.shown all.circle.first.closes in
-      let dead = leads_map (WaitsFor f s.phases) (IsDeadAndWaitsFor s) IsDeadTask (follows_dead plan a f at) t t rest (dead_task all.start all.least.dead all.shown all.circle) leads in
+      let (rest, same, leads) = begins (HasFollower f s.phases) t all.shown all.circle.first.closes in
+      let dead = leads_map (HasFollower f s.phases) (IsDeadAndWaitsFor s) IsDeadTask (follows_dead plan a f at) t t rest (dead_task all.start all.least.dead all.shown all.circle) leads in
       subst (λ xs. ShowsCircle (IsDeadAndWaitsFor s) xs) (sym (same_shown shown all.shown all.is ∙ same)) (circle_shown (IsDeadAndWaitsFor s) t rest dead)
 
   -- each task of a circle of the dead is dead
-  is_dead : (last u : TaskId) (xs : List TaskId) → LeadsTo (IsDeadAndWaitsFor s) last u xs → IsDeadIn s u.0
+  is_dead : (last u : TaskId) (xs : List TaskId) → LeadsBackTo (IsDeadAndWaitsFor s) last u xs → IsDeadIn s u.0
   is_dead last u [] leads = leads.0
   is_dead last u (x ∷ xs) leads = leads.0.0
 
   -- so each is one for whom the one before it waits
-  all_follow : (last u : TaskId) (xs : List TaskId) → IsDeadIn s last.0 → LeadsTo (IsDeadAndWaitsFor s) last u xs → LeadsTo (WaitsFor f s.phases) last u xs
+  all_follow : (last u : TaskId) (xs : List TaskId) → IsDeadIn s last.0 → LeadsBackTo (IsDeadAndWaitsFor s) last u xs → LeadsBackTo (HasFollower f s.phases) last u xs
   all_follow last u [] dead leads = waits_follows plan a f at u last leads dead
   all_follow last u (x ∷ xs) dead leads = (waits_follows plan a f at u x leads.0 (is_dead last x xs leads.1), all_follow last x xs dead leads.1)
 
@@ -170,13 +170,13 @@ module _ (plan : Plan) (a : ℕ → Place) (f : FactsValue) (at : AreFactsAt pla
   shortest shown (u ∷ rest) is some circle same =
       let all = shows (Circle shown) is some in
       let t = all.circle.task in
-      let (others, whole, leads) = begins (WaitsFor f s.phases) t all.shown all.circle.first.closes in
+      let (others, whole, leads) = begins (HasFollower f s.phases) t all.shown all.circle.first.closes in
       let shown_is : shown ≡ t ∷ others = same_shown shown all.shown all.is ∙ whole in
       let both : Some u ≡ Some t = same ∙ ap (λ xs. slice_get xs 0) shown_is in
       let first : u ≡ t = cc in
       let goes = shown_circle (IsDeadAndWaitsFor s) u rest circle in
       let follow = all_follow u u rest (is_dead u u rest goes) goes in
-      let closes : IsCircle (WaitsFor f s.phases) t (u ∷ rest) = (first, subst (λ x. LeadsTo (WaitsFor f s.phases) x x rest) first follow) in
+      let closes : IsCircleThrough (HasFollower f s.phases) t (u ∷ rest) = (first, subst (λ x. LeadsBackTo (HasFollower f s.phases) x x rest) first follow) in
       let le = not_longer all.shown (u ∷ rest) (all.circle.first.first (u ∷ rest) closes) in
       let sized : length shown ≡ length all.shown = ap length (same_shown shown all.shown all.is) in
       omega arith

@@ -6,7 +6,7 @@ use Rattle.armus_base.specs.declared.ids.TaskId.{TaskId}
 use Rattle.armus_base.proofs.Elements.{Contains-cons_cases, Contains-head, Contains-tail, nothing_in_nil}
 use Rattle.adaptive.proofs.Deciding.{told_in}
 use Rattle.report.proofs.CycleExists.{told_task}
-use Rattle.explain_deadlock.specs.Circles.{IsCircle, IsFirstCircle, IsNoLater, LeadsTo}
+use Rattle.explain_deadlock.specs.Circles.{IsCircleThrough, IsFirstThrough, IsNoLater, LeadsBackTo}
 use Rattle.explain_deadlock.proofs.ListOrder.{no_later_cons, nothing_no_later}
 
 module _ (next : TaskId → List TaskId) (ascend : (u : TaskId) → AllPairs (λ (a b : TaskId). a.0 < b.0) (next u)) (t : TaskId) where
@@ -16,12 +16,12 @@ module _ (next : TaskId → List TaskId) (ascend : (u : TaskId) → AllPairs (λ
   -- this is the first of the ways of so many tasks from u to t
   record IsLeast (n : ℕ) (u : TaskId) (way : List TaskId) : Type 0 where
     sized : length way ≡ n
-    leads : LeadsTo R t u way
-    least : (other : List TaskId) → length other ≡ n → LeadsTo R t u other → IsNoLater way other
+    leads : LeadsBackTo R t u way
+    least : (other : List TaskId) → length other ≡ n → LeadsBackTo R t u other → IsNoLater way other
 
   -- there is no such way
   abbrev HasNone : ℕ → TaskId → Type 0
-  HasNone n u = (other : List TaskId) → length other ≡ n → LeadsTo R t u other → ⊥
+  HasNone n u = (other : List TaskId) → length other ≡ n → LeadsBackTo R t u other → ⊥
 
   abbrev Found : ℕ → TaskId → Type 0
   Found n u = ((way : List TaskId) × IsLeast n u way) ⊎ HasNone n u
@@ -30,11 +30,11 @@ module _ (next : TaskId → List TaskId) (ascend : (u : TaskId) → AllPairs (λ
   record IsLeastVia (n : ℕ) (firsts : List TaskId) (x : TaskId) (way : List TaskId) : Type 0 where
     there : Contains firsts x
     sized : length way ≡ n
-    leads : LeadsTo R t x way
-    least : (y : TaskId) (other : List TaskId) → Contains firsts y → length other ≡ n → LeadsTo R t y other → IsNoLater (x ∷ way) (y ∷ other)
+    leads : LeadsBackTo R t x way
+    least : (y : TaskId) (other : List TaskId) → Contains firsts y → length other ≡ n → LeadsBackTo R t y other → IsNoLater (x ∷ way) (y ∷ other)
 
   abbrev HasNoneVia : ℕ → List TaskId → Type 0
-  HasNoneVia n firsts = (y : TaskId) (other : List TaskId) → Contains firsts y → length other ≡ n → LeadsTo R t y other → ⊥
+  HasNoneVia n firsts = (y : TaskId) (other : List TaskId) → Contains firsts y → length other ≡ n → LeadsBackTo R t y other → ⊥
 
   via : (n : ℕ) → ((u : TaskId) → Found n u) → (firsts : List TaskId) → AllPairs (λ (a b : TaskId). a.0 < b.0) firsts →
       ((x : TaskId) × (way : List TaskId) × IsLeastVia n firsts x way) ⊎ HasNoneVia n firsts
@@ -52,7 +52,7 @@ module _ (next : TaskId → List TaskId) (ascend : (u : TaskId) → AllPairs (λ
                 elim (Contains-cons_cases x firsts y there) [
                   | inl same ↦
                       subst (λ z. IsNoLater (x ∷ way) (z ∷ other)) same
-                      (no_later_cons x way other (is.least other sized (subst (λ z. LeadsTo R t z other) (sym same) leads)))
+                      (no_later_cons x way other (is.least other sized (subst (λ z. LeadsBackTo R t z other) (sym same) leads)))
                   | inr (k, lt, at) ↦
                       let less : x.0 < y.0 = subst (λ (z : TaskId). x.0 < z.0) at (up 0 (suc k) y (omega arith) (omega arith)) in
                       let n' = is.sized in
@@ -70,16 +70,16 @@ module _ (next : TaskId → List TaskId) (ascend : (u : TaskId) → AllPairs (λ
               leads = is.leads;
               least = λ y other there sized leads.
                   elim (Contains-cons_cases x firsts y there) [
-                    | inl same ↦ absurd (none other sized (subst (λ v. LeadsTo R t v other) (sym same) leads))
+                    | inl same ↦ absurd (none other sized (subst (λ v. LeadsBackTo R t v other) (sym same) leads))
                     | inr in' ↦ is.least y other in' sized leads
                   ];
             },
           )
-          | inr no ↦ inr
+          | inr nowhere ↦ inr
           (λ y other there sized leads.
               elim (Contains-cons_cases x firsts y there) [
-                | inl same ↦ none other sized (subst (λ v. LeadsTo R t v other) (sym same) leads)
-                | inr in' ↦ no y other in' sized leads
+                | inl same ↦ none other sized (subst (λ v. LeadsBackTo R t v other) (sym same) leads)
+                | inr in' ↦ nowhere y other in' sized leads
               ])
         ]
       ]
@@ -88,7 +88,7 @@ module _ (next : TaskId → List TaskId) (ascend : (u : TaskId) → AllPairs (λ
   none_empty u not_there [] sized leads = not_there leads
   none_empty u not_there (x ∷ other) sized leads = omega arith
 
-  least_of : (n : ℕ) (u x : TaskId) (way : List TaskId) → IsLeastVia n (next u) x way → (other : List TaskId) → length other ≡ suc n → LeadsTo R t u other → IsNoLater (x ∷ way) other
+  least_of : (n : ℕ) (u x : TaskId) (way : List TaskId) → IsLeastVia n (next u) x way → (other : List TaskId) → length other ≡ suc n → LeadsBackTo R t u other → IsNoLater (x ∷ way) other
   least_of n u x way is [] sized leads = absurd (omega arith)
   least_of n u x way is (y ∷ other) sized leads = is.least y other leads.0 (omega arith) leads.1
 
@@ -109,18 +109,18 @@ module _ (next : TaskId → List TaskId) (ascend : (u : TaskId) → AllPairs (λ
       ]
 
   -- the first circle of so many tasks and more
-  first_from : (fuel k : ℕ) → ((other : List TaskId) → length other < k → LeadsTo R t t other → ⊥) → (way : List TaskId) → LeadsTo R t t way → length way < k + fuel →
-      (circle : List TaskId) × IsFirstCircle R t circle
+  first_from : (fuel k : ℕ) → ((other : List TaskId) → length other < k → LeadsBackTo R t t other → ⊥) → (way : List TaskId) → LeadsBackTo R t t way → length way < k + fuel →
+      (circle : List TaskId) × IsFirstThrough R t circle
   first_from zero k none way leads lt = absurd (none way (omega arith) leads)
   first_from (suc fuel) k none way leads lt =
       elim (decide k t) [
         | inl (found, is) ↦ (t ∷ found, record { closes = (refl, is.leads); first = behind k none found is })
-        | inr no ↦
+        | inr nowhere ↦
             first_from fuel (k + 1)
-            (λ other less goes. elim (cases_lt (length other) k) [ inl shorter ↦ none other shorter goes | inr longer ↦ no other (omega arith) goes ]) way leads (omega arith)
+            (λ other less goes. elim (cases_lt (length other) k) [ inl shorter ↦ none other shorter goes | inr longer ↦ nowhere other (omega arith) goes ]) way leads (omega arith)
       ]
     where
-      behind : (k : ℕ) → ((other : List TaskId) → length other < k → LeadsTo R t t other → ⊥) → (found : List TaskId) → IsLeast k t found → (other : List TaskId) → IsCircle R t other →
+      behind : (k : ℕ) → ((other : List TaskId) → length other < k → LeadsBackTo R t t other → ⊥) → (found : List TaskId) → IsLeast k t found → (other : List TaskId) → IsCircleThrough R t other →
           IsNoLater (t ∷ found) other
       behind k none found is [] closes = absurd closes
       behind k none found is (u ∷ other) closes =
@@ -134,6 +134,6 @@ module _ (next : TaskId → List TaskId) (ascend : (u : TaskId) → AllPairs (λ
             ]
           ])
 
-  pub first_exists : (circle : List TaskId) → IsCircle R t circle → (first : List TaskId) × IsFirstCircle R t first
+  pub first_exists : (circle : List TaskId) → IsCircleThrough R t circle → (first : List TaskId) × IsFirstThrough R t first
   first_exists [] closes = absurd closes
   first_exists (u ∷ rest) closes = first_from (length rest + 1) 0 (λ other less goes. omega arith) rest closes.1 (omega arith)

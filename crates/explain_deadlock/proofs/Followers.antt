@@ -17,7 +17,7 @@ use Rattle.explain_tasks.specs.Impeders.{impeders_by, impeders_by_facts}
 use Rattle.explain_tasks.specs.Nexts.{IsNext, next_by, next_of}
 use Rattle.explain_tasks.specs.calls.Fitting.{FactsFitPlan}
 use Rattle.explain_tasks.proofs.Filters.{passed_from, passed_is}
-use Rattle.explain_deadlock.specs.Verdicts.{WaitsFor, deadlocked_in, followers_by, followers_of}
+use Rattle.explain_deadlock.specs.Verdicts.{HasFollower, deadlocked_in, followers_by, followers_of}
 use Rattle.explain_deadlock.proofs.ImpedersAre.{found_passes, impeders_ascend}
 use Rattle.explain_deadlock.proofs.NextInside.{find_contains, impeder_below, next_inside}
 
@@ -81,7 +81,7 @@ module _ (f : FactsValue) (phases : ℕ → Phases) where
   taken (Some i) u is = (i, refl, let same : i.t ≡ u = cc in same)
 
   -- the next of a task is one for whom it waits
-  pub next_follows : (t u : TaskId) → IsNext f phases t u → WaitsFor f phases t u
+  pub next_follows : (t u : TaskId) → IsNext f phases t u → HasFollower f phases t u
   next_follows t u step = by (is_deadlocked (situation_of f t.0)) refl
     where
       imps : List Impeder

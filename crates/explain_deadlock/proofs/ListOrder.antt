@@ -3,7 +3,7 @@ use Rattle.std.proofs.Common.{◌≡◌, ℕ, ◌+◌, ◌<◌, List, [], ◌∷
 use Rattle.std.proofs.lemmas.List.{append-nil}
 use Rattle.std.proofs.lemmas.Bool.{cases_lt}
 use Rattle.armus_base.specs.declared.ids.TaskId.{TaskId}
-use Rattle.explain_deadlock.specs.Circles.{HasLess, IsBefore, IsNoLater}
+use Rattle.explain_deadlock.specs.Circles.{HasLess, IsListedBefore, IsNoLater}
 
 less_trans : (a b c : List TaskId) → HasLess a b → HasLess b c → HasLess a c
 less_trans [] b c one two = absurd one
@@ -23,10 +23,10 @@ less_same : (a : List TaskId) → HasLess a a → ⊥
 less_same [] is = absurd is
 less_same (x ∷ a) is = elim is [ inl less ↦ omega arith | inr (same, rest) ↦ less_same a rest ]
 
-pub before_same : (a : List TaskId) → IsBefore a a → ⊥
+pub before_same : (a : List TaskId) → IsListedBefore a a → ⊥
 before_same a is = elim is [ inl less ↦ omega arith | inr (same, less) ↦ less_same a less ]
 
-pub before_trans : (a b c : List TaskId) → IsBefore a b → IsBefore b c → IsBefore a c
+pub before_trans : (a b c : List TaskId) → IsListedBefore a b → IsListedBefore b c → IsListedBefore a c
 before_trans a b c one two =
     elim one [
       | inl less ↦ elim two [ inl also ↦ inl (omega arith) | inr (same, rest) ↦ inl (omega arith) ]
@@ -37,7 +37,7 @@ pub no_later_trans : (a b c : List TaskId) → IsNoLater a b → IsNoLater b c �
 no_later_trans a b c one two =
     elim one [
       | inl same ↦ subst (λ xs. IsNoLater xs c) (sym same) two
-      | inr before ↦ elim two [ inl same ↦ inr (subst (λ xs. IsBefore a xs) same before) | inr also ↦ inr (before_trans a b c before also) ]
+      | inr before ↦ elim two [ inl same ↦ inr (subst (λ xs. IsListedBefore a xs) same before) | inr also ↦ inr (before_trans a b c before also) ]
     ]
 
 -- two lists of which none is later are one
@@ -59,20 +59,20 @@ less_last : (a : List TaskId) (x y : TaskId) → x.0 < y.0 → HasLess (a ++ x �
 less_last [] x y less = inl less
 less_last (v ∷ a) x y less = inr (refl, less_last a x y less)
 
-pub before_push : (a b : List TaskId) (x y : TaskId) → IsBefore a b → IsBefore (a ++ x ∷ []) (b ++ y ∷ [])
+pub before_push : (a b : List TaskId) (x y : TaskId) → IsListedBefore a b → IsListedBefore (a ++ x ∷ []) (b ++ y ∷ [])
 before_push a b x y is =
     let n = length-append a (x ∷ []) in
     let m = length-append b (y ∷ []) in
     elim is [ inl less ↦ inl (omega arith) | inr (same, less) ↦ inr (omega arith, less_push a b x y same less) ]
 
-pub before_last : (a : List TaskId) (x y : TaskId) → x.0 < y.0 → IsBefore (a ++ x ∷ []) (a ++ y ∷ [])
+pub before_last : (a : List TaskId) (x y : TaskId) → x.0 < y.0 → IsListedBefore (a ++ x ∷ []) (a ++ y ∷ [])
 before_last a x y less =
     let n = length-append a (x ∷ []) in
     let m = length-append a (y ∷ []) in
     inr (omega arith, less_last a x y less)
 
 -- the list of nothing is before each other one
-pub nothing_before : (a : List TaskId) (x : TaskId) → IsBefore [] (a ++ x ∷ [])
+pub nothing_before : (a : List TaskId) (x : TaskId) → IsListedBefore [] (a ++ x ∷ [])
 nothing_before a x = let n = length-append a (x ∷ []) in inl (omega arith)
 
 pub no_later_push : (a b : List TaskId) (x : TaskId) → IsNoLater a b → IsNoLater (a ++ x ∷ []) (b ++ x ∷ [])

@@ -10,12 +10,12 @@ use Rattle.explain_deadlock.specs.declared.outcome.WaitVerdict.{WaitVerdict}
 use Rattle.explain_deadlock.specs.declared.outcome.WaitVerdict.TheVariants.{Nobody, Circle, Chain}
 use Rattle.explain_tasks.specs.Facts.{FactsValue}
 use Rattle.explain_tasks.specs.Nexts.{IsNext, next_of}
-use Rattle.explain_deadlock.specs.Verdicts.{IsVerdict, IsVerdictFrom, IsWalkTo, WaitsFor, walk_start}
-use Rattle.explain_deadlock.specs.Circles.{IsFirstCircle}
+use Rattle.explain_deadlock.specs.Verdicts.{IsVerdict, IsVerdictFrom, IsWalkTo, HasFollower, walk_start}
+use Rattle.explain_deadlock.specs.Circles.{IsFirstThrough}
 use Rattle.explain_deadlock.proofs.ListOrder.{no_later_same}
 
 -- there is one first circle
-one_first : (R : TaskId → TaskId → Type 0) (t : TaskId) (c d : List TaskId) → IsFirstCircle R t c → IsFirstCircle R t d → c ≡ d
+one_first : (R : TaskId → TaskId → Type 0) (t : TaskId) (c d : List TaskId) → IsFirstThrough R t c → IsFirstThrough R t d → c ≡ d
 one_first R t c d a b = no_later_same c d (a.first d b.closes) (b.first c a.closes)
 
 -- what stands at a place of a list that is put together
@@ -133,7 +133,7 @@ module _ (f : FactsValue) (phases : ℕ → Phases) where
   one_from (Some s) (Circle c) (Circle d) a b =
       let cycles : a.task ∷ a.walked ≡ b.task ∷ b.walked = one_cycle (IsNext f phases) one_next s (a.task ∷ a.walked) (b.task ∷ b.walked) a.closes b.closes in
       let same : a.task ≡ b.task = cc in
-      ap Circle (one_first (WaitsFor f phases) b.task c d (subst (λ t. IsFirstCircle (WaitsFor f phases) t c) same a.first) b.first)
+      ap Circle (one_first (HasFollower f phases) b.task c d (subst (λ t. IsFirstThrough (HasFollower f phases) t c) same a.first) b.first)
   one_from (Some s) (Circle c) (Chain h l) a b = absurd (no_end s (a.task ∷ a.walked) a.closes h l b)
   one_from (Some s) (Chain h l) (Circle c) a b = absurd (no_end s (b.task ∷ b.walked) b.closes h l a)
   one_from (Some s) (Chain h l) (Chain h' l') a b =

@@ -9,7 +9,7 @@ use Rattle.armus_base.specs.Finals.{list_below}
 use Rattle.armus_base.proofs.Below.{length-list_below}
 use Rattle.armus_base.proofs.Counts.{IsDistinct-push, distinct_le}
 use Rattle.armus_base.proofs.Elements.{nothing_in_nil}
-use Rattle.explain_deadlock.specs.Circles.{IsBefore, IsCircle, IsFirstCircle, IsNoLater, LeadsTo}
+use Rattle.explain_deadlock.specs.Circles.{IsListedBefore, IsCircleThrough, IsFirstThrough, IsNoLater, LeadsBackTo}
 use Rattle.explain_deadlock.specs.declared.circle.Search.{Search}
 use Rattle.explain_deadlock.specs.inside.Searches.{AreWays, IsFollower, IsLooking, IsSearched}
 use Rattle.explain_deadlock.proofs.ListOrder.{before_last, before_push, no_later_cons, no_later_more, no_later_push, no_later_trans, nothing_before, nothing_no_later}
@@ -21,7 +21,7 @@ module _ (next : TaskId → List TaskId) (t : TaskId) where
   R a b = Contains (next a) b
 
   -- a walk goes on to one more task
-  leads_push : (x y u : TaskId) (xs : List TaskId) → LeadsTo R x u xs → R x y → LeadsTo R y u (xs ++ x ∷ [])
+  leads_push : (x y u : TaskId) (xs : List TaskId) → LeadsBackTo R x u xs → R x y → LeadsBackTo R y u (xs ++ x ∷ [])
   leads_push x y u [] one step = (one, step)
   leads_push x y u (v ∷ xs) one step = (one.0, leads_push x y v xs one.1 step)
 
@@ -39,19 +39,19 @@ module _ (next : TaskId → List TaskId) (t : TaskId) where
 
     module _ (u : TaskId) (within : at < length queue) (is : R (node at) u) (ascend : (v : TaskId) → Contains looked v → v.0 < u.0) where
       -- each way so far is before the one to it
-      later : (k : ℕ) → k < length queue → IsBefore (way k) (way at ++ u ∷ [])
+      later : (k : ℕ) → k < length queue → IsListedBefore (way k) (way at ++ u ∷ [])
       later k lt =
           elim (cases_lt 0 k) [
             | inl some ↦
                 let e : way k ≡ way (mother k) ++ node k ∷ [] = s.are.longer k some lt in
-                subst (λ w. IsBefore w (way at ++ u ∷ [])) (sym e)
+                subst (λ w. IsListedBefore w (way at ++ u ∷ [])) (sym e)
                 (elim (s.parent k some lt) [
                   | inl less ↦ before_push (way (mother k)) (way at) (node k) u (s.ordered (mother k) at less within)
-                  | inr (same, there) ↦ subst (λ m. IsBefore (way m ++ node k ∷ []) (way at ++ u ∷ [])) (sym same) (before_last (way at) (node k) u (ascend (node k) there))
+                  | inr (same, there) ↦ subst (λ m. IsListedBefore (way m ++ node k ∷ []) (way at ++ u ∷ [])) (sym same) (before_last (way at) (node k) u (ascend (node k) there))
                 ])
             | inr none ↦
                 let zero_is : k ≡ 0 = omega arith in
-                subst (λ m. IsBefore (way m) (way at ++ u ∷ [])) (sym zero_is) (subst (λ w. IsBefore w (way at ++ u ∷ [])) (sym s.are.none) (nothing_before (way at) u))
+                subst (λ m. IsListedBefore (way m) (way at ++ u ∷ [])) (sym zero_is) (subst (λ w. IsListedBefore w (way at ++ u ∷ [])) (sym s.are.none) (nothing_before (way at) u))
           ]
 
       more_looked : (v : TaskId) → Contains looked v → Contains (looked ++ u ∷ []) v
@@ -153,21 +153,21 @@ module _ (next : TaskId → List TaskId) (t : TaskId) where
         fresh : Contains queue u → ⊥
         fresh there = let known : get_or seen u.0 false ≡ true = (s.marks u.0).1 there in cc
 
-        leads' : (k : ℕ) → k < length queue' → (v : TaskId) → R (get_or queue' k t) v → LeadsTo R v t (get_or ways' k [])
+        leads' : (k : ℕ) → k < length queue' → (v : TaskId) → R (get_or queue' k t) v → LeadsBackTo R v t (get_or ways' k [])
         leads' k lt v follows =
             elim (split k lt) [
-              | inl old ↦ subst (λ w. LeadsTo R v t w) (sym (way_is k old)) (s.leads k old v (subst (λ x. R x v) (node_is k old) follows))
+              | inl old ↦ subst (λ w. LeadsBackTo R v t w) (sym (way_is k old)) (s.leads k old v (subst (λ x. R x v) (node_is k old) follows))
               | inr last ↦
-                  subst (λ w. LeadsTo R v t w) (sym (way_last k last)) (leads_push u v t (way at) (s.leads at within u is) (subst (λ x. R x v) (node_last k last) follows))
+                  subst (λ w. LeadsBackTo R v t w) (sym (way_last k last)) (leads_push u v t (way at) (s.leads at within u is) (subst (λ x. R x v) (node_last k last) follows))
             ]
 
-        ordered' : (j k : ℕ) → j < k → k < length queue' → IsBefore (get_or ways' j []) (get_or ways' k [])
+        ordered' : (j k : ℕ) → j < k → k < length queue' → IsListedBefore (get_or ways' j []) (get_or ways' k [])
         ordered' j k less lt =
             let old_j : j < length queue = (let n = n_queue in omega arith) in
-            subst (λ w. IsBefore w (get_or ways' k [])) (sym (way_is j old_j))
+            subst (λ w. IsListedBefore w (get_or ways' k [])) (sym (way_is j old_j))
             (elim (split k lt) [
-              | inl old ↦ subst (λ w. IsBefore (way j) w) (sym (way_is k old)) (s.ordered j k less old)
-              | inr last ↦ subst (λ w. IsBefore (way j) w) (sym (way_last k last)) (later j old_j)
+              | inl old ↦ subst (λ w. IsListedBefore (way j) w) (sym (way_is k old)) (s.ordered j k less old)
+              | inr last ↦ subst (λ w. IsListedBefore (way j) w) (sym (way_last k last)) (later j old_j)
             ])
 
         parent' : (k : ℕ) → 0 < k → k < length queue' → (get_or parents' k 0 < at) ⊎ ((get_or parents' k 0 ≡ at) × Contains (looked ++ u ∷ []) (get_or queue' k t))
@@ -270,7 +270,7 @@ module _ (next : TaskId → List TaskId) (t : TaskId) where
     way_of k = get_or s.ways k []
 
     -- a walk back to t from a task of the queue passes one that was not looked at, and no way is before the one to it
-    passes : (i : ℕ) (u : TaskId) (front rest : List TaskId) → i < length queue → get_or queue i t ≡ u → IsNoLater (way_of i) front → LeadsTo R t u rest →
+    passes : (i : ℕ) (u : TaskId) (front rest : List TaskId) → i < length queue → get_or queue i t ≡ u → IsNoLater (way_of i) front → LeadsBackTo R t u rest →
         (j : ℕ) × (at ≤ j) × (j < length queue) × IsNoLater (way_of j) (front ++ rest)
     passes i u front [] lt there no_later leads =
         elim (cases_lt i at) [
@@ -288,7 +288,7 @@ module _ (next : TaskId → List TaskId) (t : TaskId) where
           | inr ahead ↦ (i, ahead, lt, no_later_more (way_of i) front (x ∷ rest) no_later)
         ]
 
-    passes_from : (rest : List TaskId) → LeadsTo R t t rest → (j : ℕ) × (at ≤ j) × (j < length queue) × IsNoLater (way_of j) rest
+    passes_from : (rest : List TaskId) → LeadsBackTo R t t rest → (j : ℕ) × (at ≤ j) × (j < length queue) × IsNoLater (way_of j) rest
     passes_from rest leads = passes 0 t [] rest s.are.some s.are.first (inl s.are.none) leads
 
     -- the first place that was not looked at has the first way
@@ -296,7 +296,7 @@ module _ (next : TaskId → List TaskId) (t : TaskId) where
     first_ahead j after inside =
         elim (cases_lt at j) [ inl less ↦ inr (s.ordered at j less inside) | inr more ↦ (let e : at ≡ j = omega arith in inl (ap way_of e)) ]
 
-    no_earlier : (other : List TaskId) → IsCircle R t other → IsNoLater (t ∷ way_of at) other
+    no_earlier : (other : List TaskId) → IsCircleThrough R t other → IsNoLater (t ∷ way_of at) other
     no_earlier [] closes = absurd closes
     no_earlier (u ∷ rest) closes =
         let (j, after, inside, is) = passes_from rest closes.1 in
@@ -304,11 +304,11 @@ module _ (next : TaskId → List TaskId) (t : TaskId) where
         (no_later_cons t (way_of at) rest (no_later_trans (way_of at) (way_of j) rest (first_ahead j after inside) is))
 
     -- where the task at this place waits for t, the first circle is found
-    pub first_found : at < length queue → R (get_or queue at t) t → IsFirstCircle R t (t ∷ way_of at)
+    pub first_found : at < length queue → R (get_or queue at t) t → IsFirstThrough R t (t ∷ way_of at)
     first_found within meets = record { closes = (refl, s.leads at within t meets); first = no_earlier }
 
     -- and a search that has looked at each task of its queue finds that there is no circle
-    pub none_found : (circle : List TaskId) → IsCircle R t circle → at < length queue
+    pub none_found : (circle : List TaskId) → IsCircleThrough R t circle → at < length queue
     none_found [] closes = absurd closes
     none_found (u ∷ rest) closes = let (j, after, inside, is) = passes_from rest closes.1 in omega arith
 
@@ -339,9 +339,9 @@ begun next t seen lt marks = record {
   unmet = λ k less lt follows. omega arith;
 }
   where
-    by : (k : ℕ) → k ≡ 0 → (v : TaskId) → Contains (next (get_or (t ∷ []) k t)) v → LeadsTo (λ a b. Contains (next a) b) v t (get_or ([] ∷ []) k [])
+    by : (k : ℕ) → k ≡ 0 → (v : TaskId) → Contains (next (get_or (t ∷ []) k t)) v → LeadsBackTo (λ a b. Contains (next a) b) v t (get_or ([] ∷ []) k [])
     by k is v follows =
-        subst (λ m. LeadsTo (λ a b. Contains (next a) b) v t (get_or ([] ∷ []) m [])) (sym is) (subst (λ m. Contains (next (get_or (t ∷ []) m t)) v) is follows)
+        subst (λ m. LeadsBackTo (λ a b. Contains (next a) b) v t (get_or ([] ∷ []) m [])) (sym is) (subst (λ m. Contains (next (get_or (t ∷ []) m t)) v) is follows)
 
 module _ (next : TaskId → List TaskId) (t : TaskId) (at : ℕ) (followers looked : List TaskId) (s : Search) (l : IsLooking next t at followers looked s) (u : TaskId)
     (f : IsFollower followers looked u) where

@@ -12,7 +12,7 @@ use Rattle.explain_deadlock.specs.declared.outcome.WaitVerdict.{WaitVerdict}
 use Rattle.explain_deadlock.specs.declared.outcome.WaitVerdict.TheVariants.{Nobody, Circle, Chain}
 use Rattle.explain_tasks.specs.Facts.{FactsValue}
 use Rattle.explain_tasks.specs.Nexts.{IsNext, next_of}
-use Rattle.explain_deadlock.specs.Verdicts.{IsVerdictFrom, WaitsFor}
+use Rattle.explain_deadlock.specs.Verdicts.{IsVerdictFrom, HasFollower}
 use Rattle.explain_deadlock.specs.inside.Searches.{HasCircle}
 use Rattle.explain_deadlock.specs.inside.WalkEnds.{ShowsFirst, WalkEndsIn}
 use Rattle.explain_deadlock.proofs.CircleWalks.{circle_of}
@@ -38,13 +38,13 @@ module _ (f : FactsValue) (phases : ℕ → Phases) (start t : TaskId) (path : L
       (drop (suc at) path, subst (λ xs. IsWalkCycle (IsNext f phases) start xs) whole (walk_done (IsNext f phases) start path t goes at lt there))
 
   -- so that there is a circle through it
-  pub circle_there : Contains path t → HasCircle (WaitsFor f phases) t
+  pub circle_there : Contains path t → HasCircle (HasFollower f phases) t
   circle_there there =
       let (walked, c) = closes_in there in
-      (t ∷ walked, circle_of (IsNext f phases) (WaitsFor f phases) (next_follows f phases) start t walked c)
+      (t ∷ walked, circle_of (IsNext f phases) (HasFollower f phases) (next_follows f phases) start t walked c)
 
   -- and its first one is shown
-  pub closes : Contains path t → (v : WaitVerdict) → ShowsFirst (WaitsFor f phases) t v → IsVerdictFrom f phases (Some start) v
+  pub closes : Contains path t → (v : WaitVerdict) → ShowsFirst (HasFollower f phases) t v → IsVerdictFrom f phases (Some start) v
   closes there Nobody is = is
   closes there (Chain held last) is = absurd is
   closes there (Circle shown) is = let (walked, c) = closes_in there in record { task = t; walked = walked; closes = c; first = is }

@@ -3,7 +3,7 @@ use Rattle.std.specs.Prelude.{◌≡◌, ℕ, Bool, true, false, List, [], ◌�
 use Rattle.armus_base.specs.declared.ids.TaskId.{TaskId}
 use Rattle.armus_base.specs.Relations.{IsWalk, IsWalkCycle}
 use Rattle.armus_base.specs.States.{Phases}
-use Rattle.explain_deadlock.specs.Circles.{IsFirstCircle}
+use Rattle.explain_deadlock.specs.Circles.{IsFirstThrough}
 use Rattle.explain_deadlock.specs.declared.outcome.WaitVerdict.{WaitVerdict}
 use Rattle.explain_deadlock.specs.declared.outcome.WaitVerdict.TheVariants.{Nobody, Circle, Chain}
 use Rattle.explain_tasks.specs.declared.impeders.Impeder.{Impeder}
@@ -35,15 +35,15 @@ abbrev pub followers_of : FactsValue → (ℕ → Phases) → ℕ → List TaskI
 followers_of f phases t = followers_by f (impeders_by_facts f phases t) (next_of f phases t) (is_deadlocked (situation_of f t))
 
 -- task t waits for task u
-abbrev pub WaitsFor : FactsValue → (ℕ → Phases) → TaskId → TaskId → Type 0
-WaitsFor f phases t u = Contains (followers_of f phases t.0) u
+abbrev pub HasFollower : FactsValue → (ℕ → Phases) → TaskId → TaskId → Type 0
+HasFollower f phases t u = Contains (followers_of f phases t.0) u
 
 -- The walk from a start along the nexts closes in a task, and this is the first circle through it.
 pub record IsShownCircle (f : FactsValue) (phases : ℕ → Phases) (start : TaskId) (shown : List TaskId) : Type 0 where
   pub task : TaskId
   pub walked : List TaskId
   pub closes : IsWalkCycle (IsNext f phases) start (task ∷ walked)
-  pub first : IsFirstCircle (WaitsFor f phases) task shown
+  pub first : IsFirstThrough (HasFollower f phases) task shown
 
 -- what the walk from the start shows: the first circle through the task in which it closes, or the last two tasks, where it comes to an end
 abbrev pub IsVerdictFrom : FactsValue → (ℕ → Phases) → Option TaskId → WaitVerdict → Type 0

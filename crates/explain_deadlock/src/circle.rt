@@ -1,8 +1,8 @@
 // The first circle through a task, along those for whom tasks wait: a search in breadth.
 ghost use Rattle.std.specs.Prelude.{◌≡◌, ◌<◌, ◌+◌, ◌++◌, ◌∷◌, [], List, All, AllPairs, Contains, IfOk, MatchBool, OnOk, length, option_to_list, slice_index_or};
 ghost use Rattle.armus_base.specs.declared.ids.TaskId.{TaskId};
-ghost use Rattle.explain_deadlock.specs.Circles.{IsFirstCircle};
-ghost use Rattle.explain_deadlock.specs.Verdicts.{WaitsFor, deadlocked_in, followers_of};
+ghost use Rattle.explain_deadlock.specs.Circles.{IsFirstThrough};
+ghost use Rattle.explain_deadlock.specs.Verdicts.{HasFollower, deadlocked_in, followers_of};
 ghost use Rattle.explain_deadlock.specs.inside.Searches.{AreWays, HasCircle, HasWays, IsFollower, IsLooking, IsSearched};
 ghost use Rattle.explain_tasks.specs.Nexts.{next_of};
 ghost use Rattle.explain_tasks.specs.calls.Fitting.{FactsFitPlan};
@@ -143,8 +143,8 @@ fn way_to(alloc: Global, search: &Search, place: usize) -> Result<Vec<TaskId>, N
 pub(crate) fn first_circle(facts: &Facts, world: &World, t: TaskId) -> Result<Vec<TaskId>, NoMemory>
     requires fits { FactsFitPlan facts.now world.now.plan }
     requires inside { t.0 < length world.now.plan.parents }
-    requires circle { HasCircle (WaitsFor facts.now (state_of world.now).phases) t }
-    ensures { IfOk result (λ v. IsFirstCircle (WaitsFor facts.now (state_of world.now).phases) t v.items) }
+    requires circle { HasCircle (HasFollower facts.now (state_of world.now).phases) t }
+    ensures { IfOk result (λ v. IsFirstThrough (HasFollower facts.now (state_of world.now).phases) t v.items) }
 {
     let mut search = search_at(facts.alloc(), world.plan().tasks(), t)?;
     let mut at = 0;

@@ -1,6 +1,6 @@
 // The walk along the nexts.
 ghost use Rattle.explain_tasks.specs.Facts.{is_deadlocked, is_waiting, situation_of, tasks_that};
-ghost use Rattle.explain_deadlock.specs.Verdicts.{IsVerdict, IsVerdictFrom, WaitsFor, walk_start};
+ghost use Rattle.explain_deadlock.specs.Verdicts.{IsVerdict, IsVerdictFrom, HasFollower, walk_start};
 ghost use Rattle.explain_tasks.specs.calls.Fitting.{FactsFitPlan};
 ghost use Rattle.explain_deadlock.specs.inside.Fitting.{WaitForSome};
 ghost use Rattle.explain_deadlock.specs.inside.Searches.{HasCircle};
@@ -18,8 +18,8 @@ use pl_core::World;
 fn circle_of(facts: &Facts, world: &World, t: TaskId) -> Result<WaitVerdict, NoMemory>
     requires fits { FactsFitPlan facts.now world.now.plan }
     requires inside { t.0 < length world.now.plan.parents }
-    requires circle { HasCircle (WaitsFor facts.now (state_of world.now).phases) t }
-    ensures { IfOk result (ShowsFirst (WaitsFor facts.now (state_of world.now).phases) t) }
+    requires circle { HasCircle (HasFollower facts.now (state_of world.now).phases) t }
+    ensures { IfOk result (ShowsFirst (HasFollower facts.now (state_of world.now).phases) t) }
 {
     let circle = first_circle(facts, world, t)?;
     Ok(WaitVerdict::Circle(List::from_vec(circle)))

@@ -3,11 +3,11 @@ use Rattle.std.specs.Prelude.{◌≡◌, ◌↔◌, ◌⊎◌, ℕ, ◌<◌, Boo
 use Rattle.armus_base.specs.declared.ids.TaskId.{TaskId}
 use Rattle.armus_base.specs.Counts.{IsDistinct}
 use Rattle.explain_deadlock.specs.declared.circle.Search.{Search}
-use Rattle.explain_deadlock.specs.Circles.{IsBefore, IsCircle, IsNoLater, LeadsTo}
+use Rattle.explain_deadlock.specs.Circles.{IsListedBefore, IsCircleThrough, IsNoLater, LeadsBackTo}
 
 -- some circle goes through task t
 abbrev pub HasCircle : (TaskId → TaskId → Type 0) → TaskId → Type 0
-HasCircle R t = (circle : List TaskId) × IsCircle R t circle
+HasCircle R t = (circle : List TaskId) × IsCircleThrough R t circle
 
 -- The queue begins with task t, and to each task behind it leads a way: that to its parent, which stands before it, and then the task. A way is without t, with
 -- which it begins.
@@ -35,8 +35,8 @@ pub record IsSearched (next : TaskId → List TaskId) (t : TaskId) (at : ℕ) (l
   pub marks : (v : ℕ) → (slice_index_or seen v false ≡ true) ↔ Contains queue (record { 0 = v })
   pub leads :
       (k : ℕ) → k < length queue → (v : TaskId) → Contains (next (slice_index_or queue k t)) v →
-      LeadsTo (λ a b. Contains (next a) b) v t (slice_index_or ways k [])
-  pub ordered : (j k : ℕ) → j < k → k < length queue → IsBefore (slice_index_or ways j []) (slice_index_or ways k [])
+      LeadsBackTo (λ a b. Contains (next a) b) v t (slice_index_or ways k [])
+  pub ordered : (j k : ℕ) → j < k → k < length queue → IsListedBefore (slice_index_or ways j []) (slice_index_or ways k [])
   pub parent :
       (k : ℕ) → 0 < k → k < length queue →
       (slice_index_or parents k 0 < at) ⊎ ((slice_index_or parents k 0 ≡ at) × Contains looked (slice_index_or queue k t))

@@ -4,8 +4,8 @@ use Rattle.std.proofs.lemmas.List.{get_or_default}
 use Rattle.std.proofs.lemmas.Result.{IfOk-weaker}
 use Rattle.armus_base.specs.declared.ids.TaskId.{TaskId}
 use Rattle.pl_core.specs.calls.Worlds.{state_of}
-use Rattle.explain_deadlock.specs.Circles.{IsFirstCircle}
-use Rattle.explain_deadlock.specs.Verdicts.{WaitsFor, followers_of}
+use Rattle.explain_deadlock.specs.Circles.{IsFirstThrough}
+use Rattle.explain_deadlock.specs.Verdicts.{HasFollower, followers_of}
 use Rattle.explain_deadlock.specs.inside.Searches.{IsSearched}
 use Rattle.explain_deadlock.proofs.Followers.{followers_ascend, followers_inside}
 use Rattle.explain_deadlock.proofs.Searches.{first_found, looked_all, met, none_found, not_met, short}
@@ -23,8 +23,8 @@ returns-then-is_in c =
     let node : get_or queue c.search.at t ≡ c.index.result.now = get_or_default queue c.search.at t c.index.result.now within ∙ sym c.index.ensures in
     let are : next (get_or queue c.search.at t) ≡ c.deref.result.now = ap next node ∙ sym (c.deref.ensures.value ∙ c.in_ok-followers.ensures) in
     let meets : Contains (next (get_or queue c.search.at t)) t = subst (λ xs. Contains xs t) (sym are) (met c.deref.result.now t c.is_in.result c.is_in.ensures c.if-is_in.true) in
-    IfOk-weaker c.way_to.result (λ v. v.items ≡ t ∷ get_or s.ways c.search.at []) (λ v. IsFirstCircle (WaitsFor f phases) t v.items)
-    (λ v e. subst (λ xs. IsFirstCircle (WaitsFor f phases) t xs) (sym e) (first_found next t c.search.at queue c.search.search.parents.items c.search.search.seen.items s within meets))
+    IfOk-weaker c.way_to.result (λ v. v.items ≡ t ∷ get_or s.ways c.search.at []) (λ v. IsFirstThrough (HasFollower f phases) t v.items)
+    (λ v e. subst (λ xs. IsFirstThrough (HasFollower f phases) t xs) (sym e) (first_found next t c.search.at queue c.search.search.parents.items c.search.search.seen.items s within meets))
     (c.way_to.ensures t s.ways s.are)
 
 pub look_at_all-requires-clause-inside : goal.look_at_all-requires-clause-inside

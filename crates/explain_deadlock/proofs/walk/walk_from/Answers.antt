@@ -6,7 +6,7 @@ use Rattle.armus_base.specs.declared.ids.TaskId.{TaskId}
 use Rattle.armus_base.proofs.WalkCycles.{walk_more}
 use Rattle.pl_core.specs.calls.Worlds.{state_of}
 use Rattle.explain_tasks.specs.Nexts.{next_of}
-use Rattle.explain_deadlock.specs.Verdicts.{IsVerdictFrom, WaitsFor}
+use Rattle.explain_deadlock.specs.Verdicts.{IsVerdictFrom, HasFollower}
 use Rattle.explain_deadlock.specs.inside.WalkEnds.{ShowsFirst, WalkEndsIn}
 use Rattle.explain_deadlock.proofs.NextInside.{next_inside}
 use Rattle.explain_deadlock.proofs.VerdictWalks.{circle_there, closes, ends, set_task_flags}
@@ -67,5 +67,5 @@ returns c =
     let inv = c.walk.invariant in
     let lt : c.walk.t.0 < length c.walk.seen.items = rw inv.sized inv.inside in
     let seen : get_or c.walk.seen.items c.walk.t.0 false ≡ true = read c.walk.seen.items c.walk.t.0 c.index.result.now lt c.index.ensures ∙ c.walk-test.false in
-    IfOk-weaker c.circle_of.result (ShowsFirst (WaitsFor f phases) c.walk.t) (IsVerdictFrom f phases (Some c.args.start))
+    IfOk-weaker c.circle_of.result (ShowsFirst (HasFollower f phases) c.walk.t) (IsVerdictFrom f phases (Some c.args.start))
     (closes f phases c.args.start c.walk.t c.walk.path.items inv.walk ((inv.marks c.walk.t.0).0 seen)) c.circle_of.ensures
