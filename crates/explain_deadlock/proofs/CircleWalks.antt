@@ -1,9 +1,9 @@
 -- Circles as walks that come back.
-use Rattle.std.proofs.Common.{◌≡◌, ℕ, zero, suc, ◌+◌, ◌-◌, ◌<◌, List, [], ◌∷◌, length, get_or, arith, ap, subst, refl}
+use Rattle.std.proofs.Common.{◌≡◌, ℕ, zero, suc, ◌+◌, ◌-◌, ◌<◌, List, [], ◌∷◌, length, get_or, arith, subst, refl}
 use Rattle.armus_base.specs.declared.ids.TaskId.{TaskId}
 use Rattle.armus_base.specs.Relations.{IsWalk, IsWalkCycle}
 use Rattle.explain_deadlock.specs.Circles.{IsCircleThrough, LeadsBackTo}
-use Rattle.explain_deadlock.specs.calls.Laws.{ShowsCircle}
+use Rattle.explain_deadlock.specs.Laws.{ShowsCircle}
 use Rattle.explain_deadlock.proofs.WalksMapped.{circle_back, circle_steps}
 
 -- a walk whose last task leads to another
@@ -12,10 +12,10 @@ walk_leads R last u [] steps back = back
 walk_leads R last u (x ∷ xs) steps back = (
   steps 0 u (omega arith),
   walk_leads R last x xs
-  (λ k d lt.
+      (λ k d lt.
       let n : suc k + 1 ≡ suc (k + 1) = omega arith in
       subst (λ m. R (get_or (u ∷ x ∷ xs) (suc k) d) (get_or (u ∷ x ∷ xs) m d)) n (steps (suc k) d (omega arith)))
-  (subst (λ y. R y last) (same xs x (length xs) (omega arith)) back),
+      (subst (λ y. R y last) (same xs x (length xs) (omega arith)) back),
 )
   where
     same : (ys : List TaskId) (y : TaskId) (k : ℕ) → k < suc (length ys) → get_or (y ∷ ys) k u ≡ get_or (y ∷ ys) k x

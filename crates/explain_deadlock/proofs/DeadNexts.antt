@@ -26,7 +26,7 @@ use Rattle.explain_tasks.specs.declared.impeders.Impeder.{Impeder}
 use Rattle.explain_tasks.specs.declared.situation.Situation.{Situation}
 use Rattle.explain_tasks.specs.Facts.{FactsValue, forking_of, is_deadlocked, situation_of}
 use Rattle.explain_tasks.specs.Impeders.{impeders_by_facts}
-use Rattle.explain_deadlock.specs.calls.Laws.{IsDeadAndWaitsFor}
+use Rattle.explain_deadlock.specs.Laws.{IsDeadAndWaitsFor}
 use Rattle.explain_tasks.specs.Nexts.{IsNext, least_that, next_by}
 use Rattle.explain_deadlock.specs.RunEnds.{AreFactsAt}
 use Rattle.explain_deadlock.specs.Verdicts.{HasFollower}

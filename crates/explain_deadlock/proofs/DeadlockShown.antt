@@ -23,8 +23,8 @@ use Rattle.explain_tasks.specs.Facts.{FactsValue, forking_of, is_deadlocked, is_
 use Rattle.explain_tasks.specs.Groups.{each_once}
 use Rattle.explain_deadlock.specs.ImpederLines.{is_this_impeder, told_of}
 use Rattle.explain_tasks.specs.Impeders.{impeders_by_facts}
-use Rattle.explain_deadlock.specs.Laws.{DeadlockIsReported}
-use Rattle.explain_deadlock.specs.calls.Laws.{DeadlockStandsFirst, IsDeadAndWaitsFor, ShownAreDead, ShownAreShortest, ShowsCircle}
+use Rattle.explain_deadlock.specs.Laws.{DeadlockIsReported, IsDeadAndWaitsFor, ShownAreShortest, ShowsCircle}
+use Rattle.explain_deadlock.specs.calls.Laws.{DeadlockStandsFirst, ShownAreDead}
 use Rattle.explain_tasks.specs.Nexts.{IsNext, first_or, next_by, next_of}
 use Rattle.explain_deadlock.specs.RunEnds.{AreFactsAt}
 use Rattle.explain_tasks.specs.Sayings.{Said, impeder_said, impeder_words, same_said}

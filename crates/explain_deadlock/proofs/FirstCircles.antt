@@ -1,5 +1,5 @@
 -- Where a task stands in a circle there is a first one through it.
-use Rattle.std.proofs.Common.{◌≡◌, ℕ, zero, suc, ◌+◌, ◌<◌, ◌≤◌, List, [], ◌∷◌, length, arith, sym, ◌∙◌, ap, subst, refl, inl, inr, ◌⊎◌}
+use Rattle.std.proofs.Common.{◌≡◌, ℕ, zero, suc, ◌+◌, ◌<◌, List, [], ◌∷◌, length, arith, sym, subst, refl, inl, inr, ◌⊎◌}
 use Rattle.std.specs.Prelude.{AllPairs, Contains}
 use Rattle.std.proofs.lemmas.Bool.{cases_lt}
 use Rattle.armus_base.specs.declared.ids.TaskId.{TaskId}
@@ -76,7 +76,7 @@ module _ (next : TaskId → List TaskId) (ascend : (u : TaskId) → AllPairs (λ
             },
           )
           | inr nowhere ↦ inr
-          (λ y other there sized leads.
+              (λ y other there sized leads.
               elim (Contains-cons_cases x firsts y there) [
                 | inl same ↦ none other sized (subst (λ v. LeadsBackTo R t v other) (sym same) leads)
                 | inr in' ↦ nowhere y other in' sized leads

@@ -1,6 +1,6 @@
 -- For whom a task waits: tasks of the plan, in order of number, its next among them.
 use Rattle.std.proofs.Common.{◌≡◌, ℕ, ◌<◌, Bool, true, false, Option, Some, None, List, [], ◌∷◌, arith, get_or, length, sym, ◌∙◌, ap, subst, refl}
-use Rattle.std.specs.Prelude.{AllPairs, Contains, if◌then◌else◌, map, option_map, option_to_list}
+use Rattle.std.specs.Prelude.{AllPairs, Contains, map, option_map, option_to_list}
 use Rattle.std.specs.List.{find}
 use Rattle.std.proofs.lemmas.List.{get_or-map, length-map}
 use Rattle.std.proofs.lemmas.List.Kept.{AllPairs-filter}

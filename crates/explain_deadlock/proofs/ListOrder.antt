@@ -1,7 +1,6 @@
 -- The order of lists of tasks: the shorter one is before, and of two that are as long the one with the less task where they first differ.
-use Rattle.std.proofs.Common.{◌≡◌, ℕ, ◌+◌, ◌<◌, List, [], ◌∷◌, ◌++◌, length, length-append, arith, sym, ◌∙◌, ap, subst, refl, inl, inr, ◌⊎◌, append_assoc}
+use Rattle.std.proofs.Common.{◌≡◌, ◌<◌, List, [], ◌∷◌, ◌++◌, length, length-append, arith, sym, ◌∙◌, ap, subst, refl, inl, inr}
 use Rattle.std.proofs.lemmas.List.{append-nil}
-use Rattle.std.proofs.lemmas.Bool.{cases_lt}
 use Rattle.armus_base.specs.declared.ids.TaskId.{TaskId}
 use Rattle.explain_deadlock.specs.Circles.{HasLess, IsListedBefore, IsNoLater}
 

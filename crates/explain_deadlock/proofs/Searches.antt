@@ -12,7 +12,7 @@ use Rattle.armus_base.proofs.Elements.{nothing_in_nil}
 use Rattle.explain_deadlock.specs.Circles.{IsListedBefore, IsCircleThrough, IsFirstThrough, IsNoLater, LeadsBackTo}
 use Rattle.explain_deadlock.specs.declared.circle.Search.{Search}
 use Rattle.explain_deadlock.specs.inside.Searches.{AreWays, IsFollower, IsLooking, IsSearched}
-use Rattle.explain_deadlock.proofs.ListOrder.{before_last, before_push, no_later_cons, no_later_more, no_later_push, no_later_trans, nothing_before, nothing_no_later}
+use Rattle.explain_deadlock.proofs.ListOrder.{before_last, before_push, no_later_cons, no_later_more, no_later_push, no_later_trans, nothing_before}
 use Rattle.explain_deadlock.proofs.TasksThat.{task_below}
 use Rattle.explain_deadlock.proofs.VerdictWalks.{set_task_flags}
 
@@ -206,8 +206,8 @@ module _ (next : TaskId → List TaskId) (t : TaskId) where
                       (let n = n_queue in omega arith),
                       node_last (length queue) refl ∙ it,
                       inl
-                      (way_last (length queue) refl ∙ ap (λ x. way at ++ x ∷ []) it
-                      ∙ ap (λ w. w ++ v ∷ []) (sym (ap (λ m. get_or ways' m []) same ∙ way_is at within))),
+                          (way_last (length queue) refl ∙ ap (λ x. way at ++ x ∷ []) it
+                          ∙ ap (λ w. w ++ v ∷ []) (sym (ap (λ m. get_or ways' m []) same ∙ way_is at within))),
                     )
                   ]
             ]

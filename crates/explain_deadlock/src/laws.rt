@@ -1,6 +1,6 @@
 // Laws of explanations.
-ghost use Rattle.explain_deadlock.specs.calls.Laws.{ChainsEnd, DeadlockStandsFirst, ExplanationExists, ForkersAreToCome, HeldAreNotImpededByDead, NothingIsSaidTwice, OneExplanation, ShownAreDead, ShownAreShortest, WaitingIsTold};
-ghost use Rattle.explain_deadlock.specs.Laws.{DeadlockIsReported, EachHasAParagraph, EachImpederIsTold, NobodyIsHeldUpThere, NobodyWaitsThere, OnlyMakersAreMembers, SaysWhatIsSo, WaitAlike};
+ghost use Rattle.explain_deadlock.specs.calls.Laws.{ChainsEnd, DeadlockStandsFirst, ExplanationExists, ForkersAreToCome, HeldAreNotImpededByDead, NothingIsSaidTwice, OneExplanation, ShownAreDead, WaitingIsTold};
+ghost use Rattle.explain_deadlock.specs.Laws.{DeadlockIsReported, EachHasAParagraph, EachImpederIsTold, NobodyIsHeldUpThere, NobodyWaitsThere, OnlyMakersAreMembers, SaysWhatIsSo, ShownAreShortest, WaitAlike};
 
 /// The places of a text's plan have one explanation at most.
 pub fn one_explanation()

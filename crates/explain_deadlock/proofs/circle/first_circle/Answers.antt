@@ -1,5 +1,5 @@
-use Rattle.std.proofs.Common.{◌≡◌, ℕ, ◌+◌, ◌<◌, ◌≤◌, ◌∷◌, true, false, List, [], length, get_or, arith, sym, ◌∙◌, ap, subst, refl}
-use Rattle.std.specs.Prelude.{Contains, MatchBool}
+use Rattle.std.proofs.Common.{◌≡◌, ◌<◌, ◌∷◌, [], length, get_or, arith, sym, ◌∙◌, ap, subst}
+use Rattle.std.specs.Prelude.{Contains}
 use Rattle.std.proofs.lemmas.List.{get_or_default}
 use Rattle.std.proofs.lemmas.Result.{IfOk-weaker}
 use Rattle.armus_base.specs.declared.ids.TaskId.{TaskId}
@@ -33,10 +33,10 @@ look_at_all-requires-clause-inside c =
     let phases = (state_of c.args.world.now).phases in
     let are : c.deref-in-search.result.now ≡ followers_of f phases c.index.result.now.0 = c.deref-in-search.ensures.value ∙ c.in_ok-followers.ensures in
     λ k d lt.
-        rw c.search.invariant.sized
-        (followers_inside f phases c.args.world.now.plan c.requires.fits c.index.result.now.0 (get_or c.deref-in-search.result.now k d)
-        (subst (λ xs. Contains xs (get_or c.deref-in-search.result.now k d)) are
-        (k, lt, get_or_default c.deref-in-search.result.now k (get_or c.deref-in-search.result.now k d) d lt)))
+    rw c.search.invariant.sized
+    (followers_inside f phases c.args.world.now.plan c.requires.fits c.index.result.now.0 (get_or c.deref-in-search.result.now k d)
+    (subst (λ xs. Contains xs (get_or c.deref-in-search.result.now k d)) are
+    (k, lt, get_or_default c.deref-in-search.result.now k (get_or c.deref-in-search.result.now k d) d lt)))
 
 pub look_at_all-requires-clause-ascend : goal.look_at_all-requires-clause-ascend
 look_at_all-requires-clause-ascend c =

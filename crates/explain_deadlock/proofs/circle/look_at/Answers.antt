@@ -1,4 +1,4 @@
-use Rattle.std.proofs.Common.{◌≡◌, ℕ, ◌<◌, Bool, true, false, List, length, get_or, sym, ◌∙◌, refl}
+use Rattle.std.proofs.Common.{◌≡◌, ℕ, ◌<◌, Bool, false, List, length, get_or, sym, ◌∙◌, refl}
 use Rattle.std.proofs.lemmas.List.{get_or_default}
 use Rattle.explain_deadlock.proofs.Searches.{look_by, look_now}
 use Rattle.explain_deadlock.proofs.circle.look_at.Goals as goal

@@ -1,4 +1,4 @@
-use Rattle.std.proofs.Common.{◌∙◌, List, subst, take}
+use Rattle.std.proofs.Common.{◌∙◌, List, subst}
 use Rattle.std.proofs.lemmas.List.{take_all}
 use Rattle.armus_base.specs.declared.ids.TaskId.{TaskId}
 use Rattle.explain_deadlock.specs.inside.Searches.{IsLooking}
