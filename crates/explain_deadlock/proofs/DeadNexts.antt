@@ -7,13 +7,14 @@ use Rattle.armus_base.specs.declared.event.Event.{Event}
 use Rattle.armus_base.specs.declared.ids.PhaserId.{PhaserId}
 use Rattle.armus_base.specs.declared.ids.TaskId.{TaskId}
 use Rattle.armus_base.specs.declared.status.Status.{Status}
-use Rattle.armus_base.specs.Deadlocks.{IsDeadBy, IsListedOn}
+use Rattle.armus_base.specs.Deadlocks.{IsDeadBy, IsDeadIn, IsListedOn}
 use Rattle.armus_base.specs.calls.FinalLaws.{AreStatuses}
 use Rattle.armus_base.specs.Finals.{end_of, final_of, is_awaited, is_event_of}
 use Rattle.armus_base.specs.Graphs.{WaitsFor}
 use Rattle.armus_base.specs.Plans.{Plan}
 use Rattle.armus_base.specs.States.{State}
 use Rattle.armus_base.specs.Statuses.{Impedes}
+use Rattle.armus_base.proofs.DeadByStatuses.{dead_by_final}
 use Rattle.armus_base.proofs.Fixed.{some_before_from}
 use Rattle.armus_base.proofs.StatusesAre.{statuses_are}
 use Rattle.dep_state.proofs.DeadSets.{same_task}
@@ -23,9 +24,11 @@ use Rattle.explain_tasks.specs.declared.impeders.Impeder.{Impeder}
 use Rattle.explain_tasks.specs.declared.situation.Situation.{Situation}
 use Rattle.explain_tasks.specs.Facts.{FactsValue, forking_of, is_deadlocked, situation_of}
 use Rattle.explain_tasks.specs.Impeders.{impeders_by_facts}
-use Rattle.explain_deadlock.specs.calls.Laws.{IsDeadAndWaitsFor}
+use Rattle.explain_deadlock.specs.Laws.{IsDeadAndWaitsFor}
 use Rattle.explain_tasks.specs.Nexts.{IsNext, least_that, next_by}
 use Rattle.explain_deadlock.specs.RunEnds.{AreFactsAt}
+use Rattle.explain_deadlock.specs.Verdicts.{HasFollower}
+use Rattle.explain_deadlock.proofs.Followers.{dead_follower, dead_impeder}
 use Rattle.explain_deadlock.proofs.FitsEnds.{checked_here, dead_in_state, dead_is, impeder_here, impeders_here, of_plan_here, published_is, waiting_is}
 use Rattle.explain_deadlock.proofs.ImpedersAre.{found_passes, impeder, impeder_is, impeders_ascend, least_found}
 use Rattle.explain_deadlock.proofs.NextInside.{find_contains}
@@ -138,3 +141,37 @@ module _ (plan : Plan) (s : State) (done : ℕ → ℕ) (f : FactsValue) (at : A
             let passes : is_deadlocked (situation_of f v.0) ≡ true = ap is_deadlocked (dead_is plan s done f at v.0 is_dead).3 in
             subst (λ (x : TaskId). x.0 ≤ v.0) same (least_found passing (imps t.0) i ascend found (impeder e v.0 k) there passes);
       }
+
+  -- ---- all for whom a dead task waits
+
+  dead_stands : (t : ℕ) → IsDeadBy blocked t → is_deadlocked (situation_of f t) ≡ true
+  dead_stands t dead = ap is_deadlocked (dead_is plan s done f at t dead).3
+
+  -- for whom a dead task waits is dead, and impedes its event
+  pub follows_dead : (t u : TaskId) → IsDeadBy blocked t.0 → HasFollower f s.phases t u → IsDeadAndWaitsFor s t u × IsDeadBy blocked u.0
+  follows_dead t u dead follows =
+      let (lt, e, ended, is) = dead_is plan s done f at t.0 dead in
+      let (i, there, same, passes) = dead_follower f s.phases t.0 u (dead_stands t.0 dead) follows in
+      let (phase, below) = impedes t.0 e lt ended i there in (
+        (
+          dead_in_state plan s done f at t.0 dead,
+          e,
+          published_is plan s done f at t.0 e ended,
+          i.phase,
+          subst (λ (v : TaskId). s.phases v.0 e.p.0 ≡ Some i.phase) same phase,
+          below,
+        ),
+        deadlocked_dead u.0 passes,
+      )
+
+  -- and a dead task that impedes its event is one for whom it waits
+  pub waits_follows : (t u : TaskId) → IsDeadAndWaitsFor s t u → IsDeadIn s u.0 → HasFollower f s.phases t u
+  waits_follows t u (dead, e, published, m, phase, below) also =
+      let of_plan = of_plan_here plan s done f at in
+      let by_t = (dead_by_final plan s t.0 of_plan).1 dead in
+      let by_u = (dead_by_final plan s u.0 of_plan).1 also in
+      let (lt, e', ended, is) = dead_is plan s done f at t.0 by_t in
+      let event : e ≡ e' = (let both : Some e ≡ Some e' = sym published ∙ published_is plan s done f at t.0 e' ended in cc) in
+      let on : s.phases u.0 e'.p.0 ≡ Some m = subst (λ (v : Event). s.phases u.0 v.p.0 ≡ Some m) event phase in
+      let less : m < e'.n = subst (λ (v : Event). m < v.n) event below in
+      dead_impeder f s.phases t.0 (impeder e' u.0 m) (dead_stands t.0 by_t) (impeder_here plan s done f at t.0 e' lt ended u.0 m on less) (dead_stands u.0 by_u)

@@ -1,15 +1,14 @@
--- Where a task is dead, the verdict is the report's cycle, and the lines of a deadlocked task begin with those that are deadlocked.
-use Rattle.std.proofs.Common.{◌≡◌, ℕ, ◌+◌, ◌<◌, true, Option, Some, None, IsSome, List, [], ◌∷◌, ◌++◌, length, length-append, arith, sym, ◌∙◌, ap, subst, refl, eq-eqb}
+-- Where a task is dead, the verdict is a shortest circle that begins as the report's cycle, and the lines of a deadlocked task begin with those that are deadlocked.
+use Rattle.std.proofs.Common.{◌≡◌, ℕ, ◌+◌, ◌<◌, ◌≤◌, true, Option, Some, None, IsSome, List, [], ◌∷◌, ◌++◌, length, length-append, arith, sym, ◌∙◌, ap, subst, refl, eq-eqb, inl, inr}
 use borrow.Author.Tests.{eqb-true}
 use Rattle.std.specs.Prelude.{Contains, filter, map, slice_get}
 use Rattle.std.proofs.lemmas.Bool.{false≢true}
 use Rattle.std.proofs.lemmas.List.{get_or-append-add}
 use Rattle.armus_base.specs.declared.ids.TaskId.{TaskId}
 use Rattle.armus_base.specs.declared.status.Status.{Status}
-use Rattle.armus_base.specs.Deadlocks.{IsDeadBy}
+use Rattle.armus_base.specs.Deadlocks.{IsDeadBy, IsDeadIn}
 use Rattle.armus_base.specs.Finals.{final_of}
 use Rattle.armus_base.specs.Plans.{Plan}
-use Rattle.armus_base.specs.Relations.{IsWalkCycle}
 use Rattle.armus_base.specs.States.{State}
 use Rattle.report.specs.Reports.{IsLeastDead, IsReportedCycle, IsSomeDead}
 use Rattle.verdict.specs.Cycles.{IsDeadStep}
@@ -22,20 +21,23 @@ use Rattle.explain_tasks.specs.Facts.{FactsValue, forking_of, is_deadlocked, is_
 use Rattle.explain_tasks.specs.Groups.{each_once}
 use Rattle.explain_deadlock.specs.ImpederLines.{is_this_impeder, told_of}
 use Rattle.explain_tasks.specs.Impeders.{impeders_by_facts}
-use Rattle.explain_deadlock.specs.Laws.{DeadlockIsReported}
-use Rattle.explain_deadlock.specs.calls.Laws.{DeadlockStandsFirst, IsDeadAndWaitsFor, ShownAreDead, ShowsCircle}
+use Rattle.explain_deadlock.specs.Laws.{DeadlockIsReported, IsDeadAndWaitsFor, ShownAreShortest, ShowsCircle}
+use Rattle.explain_deadlock.specs.calls.Laws.{DeadlockStandsFirst, ShownAreDead}
 use Rattle.explain_tasks.specs.Nexts.{IsNext, first_or, next_by, next_of}
 use Rattle.explain_deadlock.specs.RunEnds.{AreFactsAt}
 use Rattle.explain_tasks.specs.Sayings.{Said, impeder_said, impeder_words, same_said}
-use Rattle.explain_deadlock.specs.Verdicts.{IsVerdictFrom, IsWalkTo, walk_start}
-use Rattle.explain_deadlock.proofs.DeadNexts.{dead_waits, deadlocked_dead, next_dead, next_found, next_is_step}
+use Rattle.explain_deadlock.specs.Verdicts.{IsShownCircle, IsVerdictFrom, IsWalkTo, HasFollower, walk_start}
+use Rattle.explain_deadlock.specs.Circles.{IsCircleThrough, IsNoLater, LeadsBackTo}
+use Rattle.explain_deadlock.proofs.DeadNexts.{deadlocked_dead, follows_dead, next_dead, next_found, next_is_step, waits_follows}
+use Rattle.explain_deadlock.proofs.CircleWalks.{circle_of, circle_shown, leads_map, shown_circle}
+use Rattle.explain_deadlock.proofs.Followers.{next_follows}
 use Rattle.explain_tasks.proofs.Filters.{passed_from, passed_is}
 use Rattle.explain_deadlock.proofs.FitsEnds.{all_stand, dead_is, next_of_dead}
 use Rattle.explain_deadlock.proofs.NextInside.{find_contains, first_contains}
 use Rattle.explain_tasks.proofs.SameSaid.{same_said_is}
 use Rattle.explain_deadlock.proofs.Starts.{that_is}
 use Rattle.explain_deadlock.proofs.TasksThat.{some_first, that_has, that_least}
-use Rattle.explain_deadlock.proofs.WalksMapped.{all_keep, circle_back, circle_steps, cycle_maps}
+use Rattle.explain_deadlock.proofs.WalksMapped.{all_keep, cycle_maps}
 
 -- with what a text begins
 abbrev first_byte : List ℕ → ℕ
@@ -82,26 +84,97 @@ module _ (plan : Plan) (s : State) (done : ℕ → ℕ) (f : FactsValue) (at : A
         let is = all_keep (IsNext f s.phases) IsDeadTask keeps start dead whole w.steps w.starts (length w.before + 1) start (omega arith) in
         has_next last (subst IsDeadTask (get_or-append-add w.before (held ∷ last ∷ []) 1 start) is) w.ends
 
-    shown_circle : (v : WaitVerdict) → IsVerdictFrom f s.phases (Some start) v → (cycle : List TaskId) × (v ≡ Circle cycle) × IsWalkCycle (IsNext f s.phases) start cycle
-    shown_circle Nobody is = absurd is
-    shown_circle (Circle c) is = (c, refl, is)
-    shown_circle (Chain held last) is = absurd (no_end held last is)
+    circle_of_verdict : (v : WaitVerdict) → IsVerdictFrom f s.phases (Some start) v → (shown : List TaskId) × (v ≡ Circle shown) × IsShownCircle f s.phases start shown
+    circle_of_verdict Nobody is = absurd is
+    circle_of_verdict (Circle c) is = (c, refl, is)
+    circle_of_verdict (Chain held last) is = absurd (no_end held last is)
 
-  pub reported : (v : WaitVerdict) → IsVerdictFrom f s.phases (walk_start f) v → IsSomeDead blocked → (cycle : List TaskId) × (v ≡ Circle cycle) × IsReportedCycle blocked cycle
-  reported v is some =
+    -- the task in which the walk closes is dead
+    dead_task : (shown : List TaskId) (w : IsShownCircle f s.phases start shown) → IsDeadTask w.task
+    dead_task shown w =
+        let cycle = w.task ∷ w.walked in
+        let n = length-append w.closes.before cycle in
+        subst IsDeadTask (get_or-append-add w.closes.before cycle 0 start)
+        (all_keep (IsNext f s.phases) IsDeadTask keeps start dead (w.closes.before ++ cycle) w.closes.steps w.closes.starts (length w.closes.before + 0) start (omega arith))
+
+  -- a circle begins with its task
+  begins : (R : TaskId → TaskId → Type 0) (t : TaskId) (c : List TaskId) → IsCircleThrough R t c → (rest : List TaskId) × (c ≡ t ∷ rest) × LeadsBackTo R t t rest
+  begins R t [] closes = absurd closes
+  begins R t (u ∷ rest) closes = (rest, ap (λ x. x ∷ rest) closes.0, closes.1)
+
+  -- what is not later is not longer
+  not_longer : (xs ys : List TaskId) → IsNoLater xs ys → length xs ≤ length ys
+  not_longer xs ys is = elim is [ inl same ↦ (let n = ap length same in omega arith) | inr before ↦ elim before [ inl less ↦ omega arith | inr (sized, less) ↦ omega arith ] ]
+
+  -- what is shown where a task is dead
+  record Shows (v : WaitVerdict) : Type 0 where
+    start : TaskId
+    least : IsLeastDead blocked start
+    shown : List TaskId
+    is : v ≡ Circle shown
+    circle : IsShownCircle f s.phases start shown
+
+  shows : (v : WaitVerdict) → IsVerdictFrom f s.phases (walk_start f) v → IsSomeDead blocked → Shows v
+  shows v is some =
       let (start, starts, least) = starts_dead some in
-      let (c, same, walk) = shown_circle start least.dead v (subst (λ o. IsVerdictFrom f s.phases o v) starts is) in
-      (c, same, (start, least, cycle_maps (IsNext f s.phases) IsDeadTask keeps start least.dead (IsDeadStep blocked) (next_is_step plan s done f at) c walk))
+      let (shown, same, circle) = circle_of_verdict start least.dead v (subst (λ o. IsVerdictFrom f s.phases o v) starts is) in
+      record { start = start; least = least; shown = shown; is = same; circle = circle }
+
+  pub reported : (v : WaitVerdict) → IsVerdictFrom f s.phases (walk_start f) v → IsSomeDead blocked →
+      (t : TaskId) × (shown cycle : List TaskId) × (v ≡ Circle (t ∷ shown)) × IsReportedCycle blocked (t ∷ cycle) × (length shown ≤ length cycle)
+  reported v is some =
+      let all = shows v is some in
+      let t = all.circle.task in
+      let cycle = all.circle.walked in
+      let (rest, same, leads) = begins (HasFollower f s.phases) t all.shown all.circle.first.closes in
+      let walk = circle_of (IsNext f s.phases) (HasFollower f s.phases) (next_follows f s.phases) all.start t cycle all.circle.closes in
+      let le = not_longer all.shown (t ∷ cycle) (all.circle.first.first (t ∷ cycle) walk) in
+      let sized : length all.shown ≡ length (t ∷ rest) = ap length same in (
+        t,
+        rest,
+        cycle,
+        all.is ∙ ap Circle same,
+        (all.start, all.least, cycle_maps (IsNext f s.phases) IsDeadTask keeps all.start all.least.dead (IsDeadStep blocked) (next_is_step plan s done f at) (t ∷ cycle) all.circle.closes),
+        omega arith,
+      )
+
+  same_shown : (c d : List TaskId) → Circle c ≡ Circle d → c ≡ d
+  same_shown c d e = cc
 
   pub shown_dead : (shown : List TaskId) → IsVerdictFrom f s.phases (walk_start f) (Circle shown) → IsSomeDead blocked → ShowsCircle (IsDeadAndWaitsFor s) shown
   shown_dead shown is some =
-      let (start, starts, least) = starts_dead some in
-      let walk : IsWalkCycle (IsNext f s.phases) start shown = subst (λ o. IsVerdictFrom f s.phases o (Circle shown)) starts is in
-      record {
-        some = walk.some;
-        steps = circle_steps (IsNext f s.phases) IsDeadTask keeps start least.dead (IsDeadAndWaitsFor s) (dead_waits plan s done f at) shown walk;
-        back = circle_back (IsNext f s.phases) IsDeadTask keeps start least.dead (IsDeadAndWaitsFor s) (dead_waits plan s done f at) shown walk;
-      }
+      let all = shows (Circle shown) is some in
+      let t = all.circle.task in
+      let (rest, same, leads) = begins (HasFollower f s.phases) t all.shown all.circle.first.closes in
+      let dead = leads_map (HasFollower f s.phases) (IsDeadAndWaitsFor s) IsDeadTask (follows_dead plan s done f at) t t rest (dead_task all.start all.least.dead all.shown all.circle) leads in
+      subst (λ xs. ShowsCircle (IsDeadAndWaitsFor s) xs) (sym (same_shown shown all.shown all.is ∙ same)) (circle_shown (IsDeadAndWaitsFor s) t rest dead)
+
+  -- each task of a circle of the dead is dead
+  is_dead : (last u : TaskId) (xs : List TaskId) → LeadsBackTo (IsDeadAndWaitsFor s) last u xs → IsDeadIn s u.0
+  is_dead last u [] leads = leads.0
+  is_dead last u (x ∷ xs) leads = leads.0.0
+
+  -- so each is one for whom the one before it waits
+  all_follow : (last u : TaskId) (xs : List TaskId) → IsDeadIn s last.0 → LeadsBackTo (IsDeadAndWaitsFor s) last u xs → LeadsBackTo (HasFollower f s.phases) last u xs
+  all_follow last u [] dead leads = waits_follows plan s done f at u last leads dead
+  all_follow last u (x ∷ xs) dead leads = (waits_follows plan s done f at u x leads.0 (is_dead last x xs leads.1), all_follow last x xs dead leads.1)
+
+  pub shortest : (shown other : List TaskId) → IsVerdictFrom f s.phases (walk_start f) (Circle shown) → IsSomeDead blocked → ShowsCircle (IsDeadAndWaitsFor s) other →
+      slice_get other 0 ≡ slice_get shown 0 → length shown ≤ length other
+  shortest shown [] is some circle same = absurd (let n = circle.some in omega arith)
+  shortest shown (u ∷ rest) is some circle same =
+      let all = shows (Circle shown) is some in
+      let t = all.circle.task in
+      let (others, whole, leads) = begins (HasFollower f s.phases) t all.shown all.circle.first.closes in
+      let shown_is : shown ≡ t ∷ others = same_shown shown all.shown all.is ∙ whole in
+      let both : Some u ≡ Some t = same ∙ ap (λ xs. slice_get xs 0) shown_is in
+      let first : u ≡ t = cc in
+      let goes = shown_circle (IsDeadAndWaitsFor s) u rest circle in
+      let follow = all_follow u u rest (is_dead u u rest goes) goes in
+      let closes : IsCircleThrough (HasFollower f s.phases) t (u ∷ rest) = (first, subst (λ x. LeadsBackTo (HasFollower f s.phases) x x rest) first follow) in
+      let le = not_longer all.shown (u ∷ rest) (all.circle.first.first (u ∷ rest) closes) in
+      let sized : length shown ≡ length all.shown = ap length (same_shown shown all.shown all.is) in
+      omega arith
 
   -- ---- the lines of the impeders
 
@@ -157,6 +230,9 @@ deadlock_is_reported plan s done f v at is some = reported plan s done f at v is
 
 pub shown_are_dead : ShownAreDead
 shown_are_dead plan s done f shown at is some = shown_dead plan s done f at shown is some
+
+pub shown_are_shortest : ShownAreShortest
+shown_are_shortest plan s done f shown other at is some circle same = shortest plan s done f at shown other is some circle same
 
 pub deadlock_stands_first : DeadlockStandsFirst
 deadlock_stands_first plan s done f t at deadlocked = stands_first plan s done f at t deadlocked

@@ -27,3 +27,8 @@ pub mod DeadlockShown
 pub mod ForkersWait
 pub mod EachToldOnce
 pub mod WaitingAlike
+pub mod ListOrder
+pub mod Searches
+pub mod Followers
+pub mod CircleWalks
+pub mod FirstCircles

@@ -10,7 +10,13 @@ use Rattle.explain_deadlock.specs.declared.outcome.WaitVerdict.{WaitVerdict}
 use Rattle.explain_deadlock.specs.declared.outcome.WaitVerdict.TheVariants.{Nobody, Circle, Chain}
 use Rattle.explain_tasks.specs.Facts.{FactsValue}
 use Rattle.explain_tasks.specs.Nexts.{IsNext, next_of}
-use Rattle.explain_deadlock.specs.Verdicts.{IsVerdict, IsVerdictFrom, IsWalkTo, walk_start}
+use Rattle.explain_deadlock.specs.Verdicts.{IsVerdict, IsVerdictFrom, IsWalkTo, HasFollower, walk_start}
+use Rattle.explain_deadlock.specs.Circles.{IsFirstThrough}
+use Rattle.explain_deadlock.proofs.ListOrder.{no_later_same}
+
+-- there is one first circle
+one_first : (R : TaskId → TaskId → Type 0) (t : TaskId) (c d : List TaskId) → IsFirstThrough R t c → IsFirstThrough R t d → c ≡ d
+one_first R t c d a b = no_later_same c d (a.first d b.closes) (b.first c a.closes)
 
 -- what stands at a place of a list that is put together
 at_behind : {A : Type 0} (xs ys : List A) (k : ℕ) (d : A) → get_or (xs ++ ys) (length xs + k) d ≡ get_or ys k d
@@ -124,9 +130,12 @@ module _ (f : FactsValue) (phases : ℕ → Phases) where
   one_from (Some s) Nobody w a b = absurd a
   one_from (Some s) (Circle c) Nobody a b = absurd b
   one_from (Some s) (Chain h l) Nobody a b = absurd b
-  one_from (Some s) (Circle c) (Circle d) a b = ap Circle (one_cycle (IsNext f phases) one_next s c d a b)
-  one_from (Some s) (Circle c) (Chain h l) a b = absurd (no_end s c a h l b)
-  one_from (Some s) (Chain h l) (Circle c) a b = absurd (no_end s c b h l a)
+  one_from (Some s) (Circle c) (Circle d) a b =
+      let cycles : a.task ∷ a.walked ≡ b.task ∷ b.walked = one_cycle (IsNext f phases) one_next s (a.task ∷ a.walked) (b.task ∷ b.walked) a.closes b.closes in
+      let same : a.task ≡ b.task = cc in
+      ap Circle (one_first (HasFollower f phases) b.task c d (subst (λ t. IsFirstThrough (HasFollower f phases) t c) same a.first) b.first)
+  one_from (Some s) (Circle c) (Chain h l) a b = absurd (no_end s (a.task ∷ a.walked) a.closes h l b)
+  one_from (Some s) (Chain h l) (Circle c) a b = absurd (no_end s (b.task ∷ b.walked) b.closes h l a)
   one_from (Some s) (Chain h l) (Chain h' l') a b =
       let both = one_end s h l h' l' a b in
       ap (λ x. Chain x l) both.0 ∙ ap (λ x. Chain h' x) both.1

@@ -1,5 +1,5 @@
 -- The walk along the nexts shows a verdict.
-use Rattle.std.proofs.Common.{◌≡◌, ℕ, zero, suc, ◌+◌, ◌-◌, ◌<◌, ◌≤◌, true, Option, Some, None, IsSome, List, [], ◌∷◌, ◌++◌, length, drop, sym, ap, ◌∙◌, subst, inl, inr, arith, get_or, refl, length-append}
+use Rattle.std.proofs.Common.{◌≡◌, ℕ, zero, suc, ◌+◌, ◌-◌, ◌<◌, ◌≤◌, true, Option, Some, None, IsSome, List, [], ◌∷◌, ◌++◌, length, sym, ap, ◌∙◌, subst, inl, inr, arith, get_or, refl, length-append}
 use Rattle.std.specs.Prelude.{Contains}
 use Rattle.std.proofs.lemmas.Bool.{cases_lt, false≢true}
 use Rattle.std.proofs.lemmas.List.{get_or_default}
@@ -17,13 +17,15 @@ use Rattle.explain_deadlock.specs.declared.outcome.WaitVerdict.{WaitVerdict}
 use Rattle.explain_deadlock.specs.declared.outcome.WaitVerdict.TheVariants.{Nobody, Circle, Chain}
 use Rattle.explain_tasks.specs.Facts.{FactsValue, is_waiting, situation_of}
 use Rattle.explain_tasks.specs.Nexts.{IsNext, next_of}
-use Rattle.explain_deadlock.specs.Verdicts.{IsVerdict, IsVerdictFrom, walk_start}
+use Rattle.explain_deadlock.specs.Verdicts.{IsVerdict, IsVerdictFrom, followers_of, walk_start}
 use Rattle.explain_tasks.specs.calls.Fitting.{FactsFitPlan}
 use Rattle.explain_deadlock.specs.inside.Fitting.{WaitForSome}
 use Rattle.explain_deadlock.proofs.NextInside.{next_inside}
 use Rattle.explain_deadlock.proofs.Starts.{start_waits}
 use Rattle.explain_deadlock.proofs.TasksThat.{task_below}
-use Rattle.explain_deadlock.proofs.VerdictWalks.{closes, ends}
+use Rattle.explain_deadlock.proofs.VerdictWalks.{circle_there, closes, ends}
+use Rattle.explain_deadlock.proofs.FirstCircles.{first_exists}
+use Rattle.explain_deadlock.proofs.Followers.{followers_ascend}
 
 abbrev task : ℕ → TaskId
 task t = record { 0 = t }
@@ -44,9 +46,10 @@ module _ (f : FactsValue) (phases : ℕ → Phases) (plan : Plan) (fits : FactsF
 
   module _ (path : List TaskId) (node : TaskId) (h : Walked path node) where
     back_at : Contains path node → (v : WaitVerdict) × IsVerdictFrom f phases (Some start) v
-    back_at (k, lt, e) =
-        let v = Circle (drop k path) in
-        (v, closes f phases start node path h.walk v (k, lt, λ d. get_or_default path k d node lt ∙ e, refl))
+    back_at there =
+        let (circle, is) = circle_there f phases start node path h.walk there in
+        let (first, shown) = first_exists (λ (u : TaskId). followers_of f phases u.0) (λ u. followers_ascend f phases u.0) node circle is in
+        (Circle first, closes f phases start node path h.walk there (Circle first) shown)
 
     ends_at : next_of f phases node.0 ≡ None → (v : WaitVerdict) × IsVerdictFrom f phases (Some start) v
     ends_at none =

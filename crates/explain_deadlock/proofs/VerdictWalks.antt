@@ -1,7 +1,7 @@
 -- What the walk along the nexts shows.
-use Rattle.std.proofs.Common.{◌≡◌, ℕ, ◌+◌, ◌-◌, ◌<◌, Bool, true, false, Some, None, List, [], ◌∷◌, ◌++◌, length, get_or, set, take, arith, sym, ◌∙◌, ap, subst, refl, inl, inr, append_assoc}
+use Rattle.std.proofs.Common.{◌≡◌, ℕ, suc, ◌+◌, ◌-◌, ◌<◌, Bool, true, false, Some, None, List, [], ◌∷◌, ◌++◌, length, drop, drop-cons, get_or, set, take, arith, sym, ◌∙◌, ap, subst, refl, inl, inr, append_assoc}
 use Rattle.std.specs.Prelude.{Contains, ◌↔◌}
-use Rattle.std.proofs.lemmas.List.{take_more, take_all}
+use Rattle.std.proofs.lemmas.List.{get_or_default, take_more, take_all}
 use Rattle.std.proofs.lemmas.List.Elements.{Contains-append_left, Contains-push, Contains-push_cases}
 use Rattle.armus_base.specs.declared.ids.TaskId.{TaskId}
 use Rattle.armus_base.specs.Relations.{IsWalk, IsWalkCycle}
@@ -12,8 +12,11 @@ use Rattle.explain_deadlock.specs.declared.outcome.WaitVerdict.{WaitVerdict}
 use Rattle.explain_deadlock.specs.declared.outcome.WaitVerdict.TheVariants.{Nobody, Circle, Chain}
 use Rattle.explain_tasks.specs.Facts.{FactsValue}
 use Rattle.explain_tasks.specs.Nexts.{IsNext, next_of}
-use Rattle.explain_deadlock.specs.Verdicts.{IsVerdictFrom}
-use Rattle.explain_deadlock.specs.inside.WalkEnds.{ClosesIn, WalkEndsIn}
+use Rattle.explain_deadlock.specs.Verdicts.{IsVerdictFrom, HasFollower}
+use Rattle.explain_deadlock.specs.inside.Searches.{HasCircle}
+use Rattle.explain_deadlock.specs.inside.WalkEnds.{ShowsFirst, WalkEndsIn}
+use Rattle.explain_deadlock.proofs.CircleWalks.{circle_of}
+use Rattle.explain_deadlock.proofs.Followers.{next_follows}
 
 -- task v
 task : ℕ → TaskId
@@ -27,11 +30,24 @@ last_split xs x some at =
     ap (λ y. take (length xs - 1) xs ++ y ∷ []) (sym (at x)) ∙ sym more ∙ all
 
 module _ (f : FactsValue) (phases : ℕ → Phases) (start t : TaskId) (path : List TaskId) (goes : Goes (IsNext f phases) start path t) where
-  -- it closes
-  pub closes : (v : WaitVerdict) → ClosesIn path t v → IsVerdictFrom f phases (Some start) v
-  closes Nobody is = is
-  closes (Chain held last) is = absurd is
-  closes (Circle shown) (at, lt, there, same) = subst (λ xs. IsWalkCycle (IsNext f phases) start xs) (sym same) (walk_done (IsNext f phases) start path t goes at lt there)
+  -- it comes back to a task of its path
+  pub closes_in : Contains path t → (walked : List TaskId) × IsWalkCycle (IsNext f phases) start (t ∷ walked)
+  closes_in (at, lt, e) =
+      let there : (d : TaskId) → get_or path at d ≡ t = λ d. get_or_default path at d t lt ∙ e in
+      let whole : drop at path ≡ t ∷ drop (suc at) path = drop-cons path at t lt ∙ ap (λ x. x ∷ drop (suc at) path) (there t) in
+      (drop (suc at) path, subst (λ xs. IsWalkCycle (IsNext f phases) start xs) whole (walk_done (IsNext f phases) start path t goes at lt there))
+
+  -- so that there is a circle through it
+  pub circle_there : Contains path t → HasCircle (HasFollower f phases) t
+  circle_there there =
+      let (walked, c) = closes_in there in
+      (t ∷ walked, circle_of (IsNext f phases) (HasFollower f phases) (next_follows f phases) start t walked c)
+
+  -- and its first one is shown
+  pub closes : Contains path t → (v : WaitVerdict) → ShowsFirst (HasFollower f phases) t v → IsVerdictFrom f phases (Some start) v
+  closes there Nobody is = is
+  closes there (Chain held last) is = absurd is
+  closes there (Circle shown) is = let (walked, c) = closes_in there in record { task = t; walked = walked; closes = c; first = is }
 
   -- it comes to its end
   pub ends : (v : WaitVerdict) → 0 < length path → next_of f phases t.0 ≡ None → WalkEndsIn path t v → IsVerdictFrom f phases (Some start) v

@@ -1,11 +1,13 @@
 -- What is proved of explanations.
-use Rattle.std.specs.Prelude.{◌≡◌, ◌↔◌, ℕ, ◌<◌, true, false, List, ◌++◌, Contains, Some, flat_map, length, take}
+use Rattle.std.specs.Prelude.{◌≡◌, ◌↔◌, ℕ, ◌-◌, ◌<◌, ◌≤◌, true, false, List, ◌∷◌, ◌++◌, Contains, Some, flat_map, length, slice_get, slice_index_or, take}
 use Rattle.armus_base.specs.declared.ids.TaskId.{TaskId}
 use Rattle.armus_base.specs.declared.event.Event.{Event}
 use Rattle.armus_base.specs.CheckedPlans.{IsCheckedPlan}
 use Rattle.armus_base.specs.Counts.{IsDistinct}
+use Rattle.armus_base.specs.Deadlocks.{IsDeadIn}
 use Rattle.armus_base.specs.Finals.{final_of}
 use Rattle.armus_base.specs.Plans.{IsMakerOf, Plan, code_of}
+use Rattle.armus_base.specs.Relations.{IsWalk}
 use Rattle.armus_base.specs.Runs.{IsLegalRun, IsPlainRun, places, state_after}
 use Rattle.armus_base.specs.States.{IsMember, IsReached, Phases, State, Step}
 use Rattle.pl_core.specs.Tasks.{IsAtOp}
@@ -68,12 +70,31 @@ EachImpederIsTold =
     (f : FactsValue) (phases : ℕ → Phases) (t : ℕ) →
     IsDistinct (named_impeders f phases t) × ((u : TaskId) → Contains (named_impeders f phases t) u ↔ IsImpededBy f phases t u)
 
--- where a task is dead, the verdict is a circle: the cycle of the report
+-- where a task is dead, the verdict is a circle that begins as the cycle of the report, and is no longer
 abbrev pub DeadlockIsReported : Type 0
 DeadlockIsReported =
     (plan : Plan) (s : State) (done : ℕ → ℕ) (f : FactsValue) (v : WaitVerdict) → AreFactsAt plan s done f → IsVerdict f s.phases v →
     IsSomeDead (final_of plan s).blocked →
-    (cycle : List TaskId) × (v ≡ Circle cycle) × IsReportedCycle (final_of plan s).blocked cycle
+    (t : TaskId) × (shown cycle : List TaskId) × (v ≡ Circle (t ∷ shown)) × IsReportedCycle (final_of plan s).blocked (t ∷ cycle)
+    × (length shown ≤ length cycle)
+
+-- task t is dead in this state, and task u impedes the event that it awaits
+abbrev pub IsDeadAndWaitsFor : State → TaskId → TaskId → Type 0
+IsDeadAndWaitsFor s t u = IsDeadIn s t.0 × (e : Event) × (s.published t.0 ≡ Some e) × (m : ℕ) × (s.phases u.0 e.p.0 ≡ Some m) × (m < e.n)
+
+-- there are tasks, each of them stands so to the one behind it, and the last to the first
+pub record ShowsCircle (R : TaskId → TaskId → Type 0) (shown : List TaskId) : Type 0 where
+  pub some : 0 < length shown
+  pub steps : IsWalk R shown
+  pub back : (d : TaskId) → R (slice_index_or shown (length shown - 1) d) (slice_index_or shown 0 d)
+
+-- where a task is dead, no circle of dead tasks, each impeded by the one behind it, the last by the first, that begins with the first shown task is shorter than the
+-- shown one
+abbrev pub ShownAreShortest : Type 0
+ShownAreShortest =
+    (plan : Plan) (s : State) (done : ℕ → ℕ) (f : FactsValue) (shown other : List TaskId) → AreFactsAt plan s done f → IsVerdict f s.phases (Circle shown) →
+    IsSomeDead (final_of plan s).blocked → ShowsCircle (IsDeadAndWaitsFor s) other → slice_get other 0 ≡ slice_get shown 0 →
+    length shown ≤ length other
 
 -- ---- the notes
 

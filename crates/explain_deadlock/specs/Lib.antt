@@ -1,6 +1,7 @@
 -- Where a run has ended.
 pub mod RunEnds
 -- The verdict.
+pub mod Circles
 pub mod Verdicts
 pub mod VerdictWords
 -- The paragraphs.

@@ -3,3 +3,4 @@ pub mod WalkEnds
 pub mod Grouped
 pub mod GroupTexts
 pub mod Numbered
+pub mod Searches

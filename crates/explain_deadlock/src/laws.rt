@@ -1,6 +1,6 @@
 // Laws of explanations.
 ghost use Rattle.explain_deadlock.specs.calls.Laws.{ChainsEnd, DeadlockStandsFirst, ExplanationExists, ForkersAreToCome, HeldAreNotImpededByDead, NothingIsSaidTwice, OneExplanation, ShownAreDead, WaitingIsTold};
-ghost use Rattle.explain_deadlock.specs.Laws.{DeadlockIsReported, EachHasAParagraph, EachImpederIsTold, NobodyIsHeldUpThere, NobodyWaitsThere, OnlyMakersAreMembers, SaysWhatIsSo, WaitAlike};
+ghost use Rattle.explain_deadlock.specs.Laws.{DeadlockIsReported, EachHasAParagraph, EachImpederIsTold, NobodyIsHeldUpThere, NobodyWaitsThere, OnlyMakersAreMembers, SaysWhatIsSo, ShownAreShortest, WaitAlike};
 
 /// The places of a text's plan have one explanation at most.
 pub fn one_explanation()
@@ -47,10 +47,12 @@ pub fn somebody_waits()
     ensures { WaitingIsTold }
 {}
 
-/// Where a task is dead, the verdict shows the cycle of the report: its tasks are dead, and each is impeded by the one behind it, the last by the first.
+/// Where a task is dead, the verdict shows a circle: its tasks are dead, and each is impeded by the one behind it, the last by the first. It begins as the cycle of
+/// the report, and no circle that begins so is shorter.
 pub fn deadlock_is_shown()
     ensures reported { DeadlockIsReported }
     ensures dead { ShownAreDead }
+    ensures shortest { ShownAreShortest }
 {}
 
 /// No impeder of a held task is deadlocked.

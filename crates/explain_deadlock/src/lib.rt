@@ -3,6 +3,7 @@
 //! It stands on `explain_tasks`, `adaptive` and `verdict`. Its rows are kernels of the gallery.
 #![tactic(auto)]
 
+mod circle;
 mod explaining;
 mod hint;
 mod impeder_lines;

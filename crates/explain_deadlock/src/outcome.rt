@@ -7,7 +7,7 @@ use armus_base::{List, TaskId};
 pub enum WaitVerdict {
     /// No task waits.
     Nobody,
-    /// The walk from the least task that waits closes in these tasks.
+    /// The walk from the least task that waits closes in the first of these tasks, and they are the first circle through it.
     Circle(List<TaskId>),
     /// The walk comes to its end: the task before the last, which is held, and the last.
     Chain(TaskId, TaskId),

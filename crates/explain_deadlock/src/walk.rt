@@ -1,39 +1,28 @@
 // The walk along the nexts.
 ghost use Rattle.explain_tasks.specs.Facts.{is_deadlocked, is_waiting, situation_of, tasks_that};
-ghost use Rattle.explain_deadlock.specs.Verdicts.{IsVerdict, IsVerdictFrom, walk_start};
+ghost use Rattle.explain_deadlock.specs.Verdicts.{IsVerdict, IsVerdictFrom, HasFollower, walk_start};
 ghost use Rattle.explain_tasks.specs.calls.Fitting.{FactsFitPlan};
 ghost use Rattle.explain_deadlock.specs.inside.Fitting.{WaitForSome};
-ghost use Rattle.std.specs.Prelude.{◌≡◌, ◌<◌, ℕ, Contains, IfOk, Some, true, length, slice_get, slice_index_or};
-ghost use Rattle.armus_base.specs.declared.ids.TaskId.{TaskId};
-ghost use Rattle.explain_deadlock.specs.inside.WalkEnds.{ClosesIn, WalkEndsIn};
+ghost use Rattle.explain_deadlock.specs.inside.Searches.{HasCircle};
+ghost use Rattle.std.specs.Prelude.{◌≡◌, ◌<◌, IfOk, Some, true, length, slice_get};
+ghost use Rattle.explain_deadlock.specs.inside.WalkEnds.{ShowsFirst, WalkEndsIn};
 ghost use Rattle.pl_core.specs.calls.Worlds.{state_of};
 
+use crate::circle::first_circle;
 use crate::outcome::WaitVerdict;
 use armus_base::{List, NoMemory, TaskId};
 use explain_tasks::{Facts, first_or, is_deadlocked, is_waiting, least_below};
 use pl_core::World;
-use std::alloc::Global;
 
-// Where a task stands in a list that has it.
-fn place(path: &[TaskId], t: TaskId) -> usize
-    requires { Contains path.now t }
-    ensures inside { result < length path.now }
-    ensures there { (d : TaskId) → slice_index_or path.now result d ≡ t }
+// The verdict where a walk closes in a task.
+fn circle_of(facts: &Facts, world: &World, t: TaskId) -> Result<WaitVerdict, NoMemory>
+    requires fits { FactsFitPlan facts.now world.now.plan }
+    requires inside { t.0 < length world.now.plan.parents }
+    requires circle { HasCircle (HasFollower facts.now (state_of world.now).phases) t }
+    ensures { IfOk result (ShowsFirst (HasFollower facts.now (state_of world.now).phases) t) }
 {
-    let mut at = 0;
-    while path[at].0 != t.0 {
-        at += 1;
-    }
-    at
-}
-
-// The circle in which a walk closes that comes back to a task.
-fn circle_of(alloc: Global, path: &[TaskId], t: TaskId) -> Result<WaitVerdict, NoMemory>
-    requires { Contains path.now t }
-    ensures { IfOk result (ClosesIn path.now t) }
-{
-    let at = place(path, t);
-    Ok(WaitVerdict::Circle(List::from_vec(Vec::from_slice(alloc, &path[at..])?)))
+    let circle = first_circle(facts, world, t)?;
+    Ok(WaitVerdict::Circle(List::from_vec(circle)))
 }
 
 // What a walk shows that comes to its end in a task, from the task before it.
@@ -85,7 +74,7 @@ fn walk_from(facts: &Facts, world: &World, start: TaskId) -> Result<WaitVerdict,
         path.push(t)?;
         t = next;
     }
-    circle_of(facts.alloc(), &path, t)
+    circle_of(facts, world, t)
 }
 
 /// The verdict.

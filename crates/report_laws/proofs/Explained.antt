@@ -1,5 +1,5 @@
 -- An explanation of a text and the report of its run agree.
-use Rattle.std.proofs.Common.{◌≡◌, ◌∙◌, ◌++◌, ℕ, Bool, List, true, ap, append_assoc, arith, inl, inr, refl, subst, sym}
+use Rattle.std.proofs.Common.{◌≡◌, ◌∙◌, ◌++◌, ◌∷◌, ◌≤◌, ℕ, Bool, List, length, true, ap, append_assoc, arith, inl, inr, refl, subst, sym}
 use Rattle.std.specs.Prelude.{if◌then◌else◌}
 use Rattle.armus_base.specs.Deadlocks.{IsDeadBy, IsDeadIn}
 use Rattle.armus_base.specs.declared.ids.TaskId.{TaskId}
@@ -94,18 +94,20 @@ module _ (form : Form) (text : Text) (status number : ℕ) (lines report : Text)
       let (t, dead) = some_dead run.state number run.status_is one in
       subst (λ (s : State). IsSomeDead (final_of plan s).blocked) same_state (t, (dead_by_final plan run.state t of_plan).1 dead)
 
-  shows_cycle : number ≡ 1 → (cycle : List TaskId) × (run.report_is.cycle_text ≡ cycle_line cycle) × (e.explains.tells.explains.explains.verdict ≡ Circle cycle)
-  shows_cycle one =
+  shows_circle : number ≡ 1 →
+      (t : TaskId) × (shown cycle : List TaskId) × (run.report_is.cycle_text ≡ cycle_line (t ∷ cycle)) × (e.explains.tells.explains.explains.verdict ≡ Circle (t ∷ shown))
+      × (length shown ≤ length cycle)
+  shows_circle one =
       let x = e.explains.tells.explains.explains in
-      let (cycle, is, reported) = deadlock_is_reported plan s (done_after e.steps) facts x.verdict facts_at x.found (dead_there one) in
+      let (t, shown, cycle, is, reported, short) = deadlock_is_reported plan s (done_after e.steps) facts x.verdict facts_at x.found (dead_there one) in
       let told : IsCycleText (final_of plan s).blocked run.report_is.cycle_text =
       subst (λ (s : State). IsCycleText (final_of plan s).blocked run.report_is.cycle_text) same_state run.report_is.cycle in
-      (cycle, one_cycle_text (final_of plan s).blocked run.report_is.cycle_text (cycle_line cycle) told (inr (cycle, reported, refl)), is)
+      (t, shown, cycle, one_cycle_text (final_of plan s).blocked run.report_is.cycle_text (cycle_line (t ∷ cycle)) told (inr (t ∷ cycle, reported, refl)), is, short)
 
   status_too : number ≡ 1 → status ≡ 1
   status_too one =
       let x = e.explains.tells.explains.explains in
-      let (cycle, line, is) = shows_cycle one in
+      let (t, shown, cycle, line, is, short) = shows_circle one in
       let waits : e.waits ≡ true = x.tells ∙ ap somebody_waits is in
       e.status_is ∙ ap (λ (b : Bool). if b then 1 else 0) waits
 
@@ -114,6 +116,6 @@ explains_as_run form text status number lines report g e run = (
   sym (stands form text status number lines report g e run),
   begin_alike form text status number lines report g e run,
   λ one.
-      let (cycle, line, is) = shows_cycle form text status number lines report g e run one in
-      (status_too form text status number lines report g e run one, cycle, line, is),
+      let (t, shown, cycle, line, is, short) = shows_circle form text status number lines report g e run one in
+      (status_too form text status number lines report g e run one, t, shown, cycle, line, is, short),
 )

@@ -24,7 +24,7 @@ pub fn replay_tells_as_run()
 {}
 
 /// The explanation of a text knows of each task the standing that the report of its run has, and begins with the first line of that report; and where the report
-/// has status 1, so has the explanation, whose verdict shows the tasks of the report's cycle.
+/// has status 1, so has the explanation, whose verdict shows a circle that begins as the report's, and is no longer.
 pub fn explains_as_run()
     ensures { ExplainsAsRun }
 {}

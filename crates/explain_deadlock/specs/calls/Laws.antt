@@ -1,12 +1,9 @@
 -- What is proved of explanations.
-use Rattle.std.specs.Prelude.{◌≡◌, ◌↔◌, ◌⊎◌, ℕ, ◌-◌, ◌<◌, Bool, true, List, Contains, Ok, Option, Some, length, slice_get, slice_index_or}
-use Rattle.armus_base.specs.declared.event.Event.{Event}
+use Rattle.std.specs.Prelude.{◌≡◌, ◌↔◌, ◌⊎◌, ℕ, Bool, true, List, Contains, Ok, Option, Some, slice_get}
 use Rattle.armus_base.specs.declared.ids.TaskId.{TaskId}
 use Rattle.armus_base.specs.Counts.{IsDistinct}
-use Rattle.armus_base.specs.Deadlocks.{IsDeadIn}
 use Rattle.armus_base.specs.Finals.{final_of}
 use Rattle.armus_base.specs.Plans.{Plan}
-use Rattle.armus_base.specs.Relations.{IsWalk}
 use Rattle.armus_base.specs.Runs.{IsLegalRun, IsMaximal, IsPlainRun, state_after}
 use Rattle.armus_base.specs.States.{Phases, State, Step}
 use Rattle.explain_facts.specs.RunStates.{done_after}
@@ -24,6 +21,7 @@ use Rattle.explain_tasks.specs.Facts.{FactsValue, is_waiting, situation_of, task
 use Rattle.explain_deadlock.specs.ImpederLines.{told_of}
 use Rattle.explain_tasks.specs.Impeders.{impeders_by_facts}
 use Rattle.explain_tasks.specs.Nexts.{IsNext, next_of}
+use Rattle.explain_deadlock.specs.Laws.{IsDeadAndWaitsFor, ShowsCircle}
 use Rattle.explain_deadlock.specs.Paragraphs.{sayings_of}
 use Rattle.explain_deadlock.specs.RunEnds.{AreFactsAt}
 use Rattle.explain_tasks.specs.Sayings.{Said, impeder_said, same_said}
@@ -61,10 +59,6 @@ abbrev pub WaitingIsTold : Type 0
 WaitingIsTold =
     (f : FactsValue) (phases : ℕ → Phases) (v : WaitVerdict) → IsVerdict f phases v → (somebody_waits v ≡ true) ↔ ((t : TaskId) × Contains (tasks_that is_waiting f) t)
 
--- task t is dead in this state, and task u impedes the event that it awaits
-abbrev pub IsDeadAndWaitsFor : State → TaskId → TaskId → Type 0
-IsDeadAndWaitsFor s t u = IsDeadIn s t.0 × (e : Event) × (s.published t.0 ≡ Some e) × (m : ℕ) × (s.phases u.0 e.p.0 ≡ Some m) × (m < e.n)
-
 -- no impeder of a held task is deadlocked
 abbrev pub HeldAreNotImpededByDead : Type 0
 HeldAreNotImpededByDead =
@@ -88,12 +82,6 @@ ChainsEnd =
     (plan : Plan) (steps : List Step) (f : FactsValue) (held last : TaskId) → IsPlainRun plan steps → IsMaximal plan steps → AreFactsAt plan (state_after steps) (done_after steps) f →
     IsVerdict f (state_after steps).phases (Chain held last) →
     (situation_of f held.0 ≡ Held) × ((situation_of f last.0 ≡ HasEnded) ⊎ (situation_of f last.0 ≡ NeverForked))
-
--- there are tasks, each of them stands so to the one behind it, and the last to the first
-pub record ShowsCircle (R : TaskId → TaskId → Type 0) (shown : List TaskId) : Type 0 where
-  pub some : 0 < length shown
-  pub steps : IsWalk R shown
-  pub back : (d : TaskId) → R (slice_index_or shown (length shown - 1) d) (slice_index_or shown 0 d)
 
 -- where a task is dead, all shown tasks are, and each is impeded by the one behind it, the last by the first
 abbrev pub ShownAreDead : Type 0

@@ -1,5 +1,4 @@
 use Rattle.std.proofs.Common.{◌≡◌, ℕ, ◌<◌, Bool, Option, Some, None, List, length, arith, ◌∙◌, sym, ap, subst, get_or, true, false, length-set, IsSome, inl, inr}
-use Rattle.std.specs.Prelude.{Contains}
 use Rattle.std.proofs.lemmas.Bool.{cases_lt}
 use Rattle.std.proofs.lemmas.List.{get_or_default}
 use Rattle.std.proofs.lemmas.Result.{IfOk-weaker}
@@ -7,10 +6,10 @@ use Rattle.armus_base.specs.declared.ids.TaskId.{TaskId}
 use Rattle.armus_base.proofs.WalkCycles.{walk_more}
 use Rattle.pl_core.specs.calls.Worlds.{state_of}
 use Rattle.explain_tasks.specs.Nexts.{next_of}
-use Rattle.explain_deadlock.specs.Verdicts.{IsVerdictFrom}
-use Rattle.explain_deadlock.specs.inside.WalkEnds.{ClosesIn, WalkEndsIn}
+use Rattle.explain_deadlock.specs.Verdicts.{IsVerdictFrom, HasFollower}
+use Rattle.explain_deadlock.specs.inside.WalkEnds.{ShowsFirst, WalkEndsIn}
 use Rattle.explain_deadlock.proofs.NextInside.{next_inside}
-use Rattle.explain_deadlock.proofs.VerdictWalks.{closes, ends, set_task_flags}
+use Rattle.explain_deadlock.proofs.VerdictWalks.{circle_there, closes, ends, set_task_flags}
 use Rattle.explain_deadlock.proofs.walk.walk_from.Goals as goal
 
 -- a flag is what is read
@@ -51,17 +50,22 @@ walk-preserved c =
       sized = length-set c.walk.seen.items c.walk.t.0 true ∙ inv.sized;
     }
 
-pub circle_of-requires : goal.circle_of-requires
-circle_of-requires c =
+pub circle_of-requires-clause-inside : goal.circle_of-requires-clause-inside
+circle_of-requires-clause-inside c = c.walk.invariant.inside
+
+pub circle_of-requires-clause-circle : goal.circle_of-requires-clause-circle
+circle_of-requires-clause-circle c =
     let inv = c.walk.invariant in
     let lt : c.walk.t.0 < length c.walk.seen.items = rw inv.sized inv.inside in
     let seen : get_or c.walk.seen.items c.walk.t.0 false ≡ true = read c.walk.seen.items c.walk.t.0 c.index.result.now lt c.index.ensures ∙ c.walk-test.false in
-    subst (λ xs. Contains xs c.walk.t) (sym c.deref-2.ensures.value) ((inv.marks c.walk.t.0).0 seen)
+    circle_there c.args.facts.now (state_of c.args.world.now).phases c.args.start c.walk.t c.walk.path.items inv.walk ((inv.marks c.walk.t.0).0 seen)
 
 pub returns : goal.returns
 returns c =
     let f = c.args.facts.now in
     let phases = (state_of c.args.world.now).phases in
-    IfOk-weaker c.circle_of.result (ClosesIn c.deref-2.result.now c.walk.t) (IsVerdictFrom f phases (Some c.args.start))
-    (λ v is. closes f phases c.args.start c.walk.t c.walk.path.items c.walk.invariant.walk v (subst (λ xs. ClosesIn xs c.walk.t v) c.deref-2.ensures.value is))
-    c.circle_of.ensures
+    let inv = c.walk.invariant in
+    let lt : c.walk.t.0 < length c.walk.seen.items = rw inv.sized inv.inside in
+    let seen : get_or c.walk.seen.items c.walk.t.0 false ≡ true = read c.walk.seen.items c.walk.t.0 c.index.result.now lt c.index.ensures ∙ c.walk-test.false in
+    IfOk-weaker c.circle_of.result (ShowsFirst (HasFollower f phases) c.walk.t) (IsVerdictFrom f phases (Some c.args.start))
+    (closes f phases c.args.start c.walk.t c.walk.path.items inv.walk ((inv.marks c.walk.t.0).0 seen)) c.circle_of.ensures
