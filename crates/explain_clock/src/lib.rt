@@ -14,6 +14,7 @@ mod hints;
 mod keepers;
 mod kept_lines;
 mod laws;
+mod notes;
 mod paragraphs;
 mod pending;
 mod refusing;
