@@ -33,7 +33,7 @@ pub struct ClockExplanation {
 
 /// Where a run of a plan has ended, and where its activities wait.
 #[derive(Drop)]
-struct RunEnd<'a> {
+struct ClockRunEnd<'a> {
     plan: &'a Plan,
     end: &'a Final,
     waits: Vec<Wait>,
@@ -83,14 +83,14 @@ fn explain_facts(
 // Explains what is known of a text, where a run has ended so.
 fn explain_waits(
     of_text: &ClockTextFacts<'_>,
-    run: RunEnd<'_>,
+    run: ClockRunEnd<'_>,
 ) -> Result<ClockExplanation, NoMemory>
     requires few { length run.end.now.ends < 2 ^ 32 }
     requires in_order { IsInOrder run.end.now.blocked }
     ensures { IfOk result (λ e. (f : ClockFacts) → f ≡ record { of_text = of_text.now; ends = run.entry.end.now.ends; blocked = run.entry.end.now.blocked; waits = run.entry.waits.items }
         → IsToldByFacts f run.entry.plan.now e.lines × (e.has_waiting ≡ some_activity_waits f.ends)) }
 {
-    let RunEnd { plan, end, waits } = run;
+    let ClockRunEnd { plan, end, waits } = run;
     let facts = ClockFacts::new(of_text, end, waits);
     let circle = circle_of(of_text.alloc, end.blocked.as_slice())?;
     let explanation = explain_facts(&facts, plan, circle.as_slice())?;
@@ -103,7 +103,7 @@ fn explain_layout(
     places: &TextPlaces<'_>,
     file: Option<&[u8]>,
     layout: &ClockLayout<'_>,
-    run: RunEnd<'_>,
+    run: ClockRunEnd<'_>,
 ) -> Result<ClockExplanation, NoMemory>
     requires few { length run.end.now.ends < 2 ^ 32 }
     requires in_order { IsInOrder run.end.now.blocked }
@@ -155,6 +155,12 @@ pub fn clock_explanation_of(
         world,
         end.ends.as_slice(),
     )?;
-    let explanation = explain_layout(alloc, places, file, &layout, RunEnd { plan, end, waits })?;
+    let explanation = explain_layout(
+        alloc,
+        places,
+        file,
+        &layout,
+        ClockRunEnd { plan, end, waits },
+    )?;
     Ok(explanation)
 }

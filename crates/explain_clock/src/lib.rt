@@ -26,5 +26,6 @@ mod words;
 
 pub use explaining::{ClockExplanation, clock_explanation_of};
 pub use laws::{one_clock_explanation, those_behind_are_named};
+pub use notes::ClockNote;
 pub use refusing::{clock_fault_refusal, clock_syntax_refusal};
 pub use text_facts::{ClockLayout, ClockTextFacts};

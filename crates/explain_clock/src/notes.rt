@@ -11,7 +11,7 @@ use explain_facts::{PhaserUse, used_phasers};
 
 /// What is noted of the clocks, or the finishes, that a statement makes.
 #[derive(Clone, Copy, Debug, PartialEq, Eq)]
-pub(crate) enum ClockNote {
+pub enum ClockNote {
     /// No activity ever advances one of these clocks.
     NobodyAdvances,
     /// On each of these clocks its maker alone is ever registered.
