@@ -7,6 +7,7 @@ pub mod ToldTogether
 pub mod Ahead
 pub mod Stands
 pub mod Mends
+pub mod NotesOfThings
 pub mod KeptLines
 pub mod Standing
 pub mod PendingRows

@@ -53,7 +53,7 @@ one_clock_explanation file text p u plan s done lines others waits other x y =
     let same = one_facts file text p u plan s done x.facts y.facts x.are_facts y.are_facts in
     let own : IsClockCircle y.facts.blocked x.circle = subst (λ (f : ClockFacts). IsClockCircle f.blocked x.circle) same x.circle_is in
     let circles : x.circle ≡ y.circle = one_circle y.facts.blocked x.circle y.circle own y.circle_is in (
-      x.lines_are ∙ ap (λ (f : ClockFacts). clock_lines f x.circle) same ∙ ap (clock_lines y.facts) circles ∙ sym y.lines_are,
+      x.lines_are ∙ ap (λ (f : ClockFacts). clock_lines f plan x.circle) same ∙ ap (clock_lines y.facts plan) circles ∙ sym y.lines_are,
       x.waits_are ∙ ap (λ (f : ClockFacts). some_activity_waits f.ends) same ∙ sym y.waits_are,
     )
 
@@ -105,7 +105,7 @@ clock_explanation_exists file text p u plan s done reads unfolds plan_is =
       waits = ws;
     } in
     let (circle, circle_is) = some_circle facts.blocked in (
-      clock_lines facts circle,
+      clock_lines facts plan circle,
       some_activity_waits facts.ends,
       record {
         reads = reads;

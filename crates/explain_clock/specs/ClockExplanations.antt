@@ -18,6 +18,7 @@ use Rattle.explain_clock.specs.ActivityLists.{activity_list, things_said, those_
 use Rattle.explain_clock.specs.ClockCircles.{IsClockCircle, clock_verdict_line}
 use Rattle.explain_clock.specs.ClockFacts.{AreClockFacts, ClockFacts, ClockTextValue, end_at, pending_in}
 use Rattle.explain_clock.specs.ClockMends.{clock_circle_hint}
+use Rattle.explain_clock.specs.ClockNotes.{clock_notes}
 use Rattle.explain_clock.specs.ClockKeepers.{keeper_lines, others_line}
 use Rattle.explain_clock.specs.ClockWords.{front_of, made_clock_words, made_finish_words, started_at_words, waits_at}
 
@@ -146,12 +147,17 @@ paragraph_sayings f circle = things_said (paragraph_said f) (circle ++ explained
 
 -- ---- the explanation
 
+-- what stands behind the paragraphs: the hint of the circle where somebody waits, and the notes where nobody does
+abbrev pub clock_end : ClockFacts → Plan → List TaskId → Bool → List ℕ
+clock_end f plan circle true = clock_circle_hint f circle
+clock_end f plan circle false = clock_notes f.of_text plan
+
 -- all lines, where this is the circle
-abbrev pub clock_lines : ClockFacts → List TaskId → List ℕ
-clock_lines f circle =
+abbrev pub clock_lines : ClockFacts → Plan → List TaskId → List ℕ
+clock_lines f plan circle =
     ended_counts f.ends ++ waiting_counts f.ends ++ clock_verdict_line f circle (some_activity_waits f.ends)
     ++ flat_map (paragraph_saying f) (paragraph_sayings f circle)
-    ++ clock_circle_hint f circle
+    ++ clock_end f plan circle (some_activity_waits f.ends)
 
 -- the lines explain how the activities of a text, of the file with this name or of none, stand in this state of the plan of its program's unfolding
 pub record ExplainsActivities (file : Option (List ℕ)) (text : List ℕ) (p : ClockTree) (u : ClockUnfolding) (plan : Plan) (s : State) (done : ℕ → ℕ) (lines : List ℕ) (waits : Bool) : Type 0 where
@@ -162,5 +168,5 @@ pub record ExplainsActivities (file : Option (List ℕ)) (text : List ℕ) (p : 
   pub are_facts : AreClockFacts file text p u plan s done facts
   pub circle : List TaskId
   pub circle_is : IsClockCircle facts.blocked circle
-  pub lines_are : lines ≡ clock_lines facts circle
+  pub lines_are : lines ≡ clock_lines facts plan circle
   pub waits_are : waits ≡ some_activity_waits facts.ends

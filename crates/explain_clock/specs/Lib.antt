@@ -5,6 +5,7 @@ pub mod ActivityLists
 pub mod ClockKeepers
 pub mod ClockCircles
 pub mod ClockMends
+pub mod ClockNotes
 pub mod ClockExplanations
 pub mod ClockStands
 pub mod ClockHints

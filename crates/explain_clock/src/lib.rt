@@ -14,6 +14,7 @@ mod hints;
 mod keepers;
 mod kept_lines;
 mod laws;
+mod notes;
 mod paragraphs;
 mod pending;
 mod refusing;
@@ -25,5 +26,6 @@ mod words;
 
 pub use explaining::{ClockExplanation, clock_explanation_of};
 pub use laws::{one_clock_explanation, those_behind_are_named};
+pub use notes::ClockNote;
 pub use refusing::{clock_fault_refusal, clock_syntax_refusal};
 pub use text_facts::{ClockLayout, ClockTextFacts};

@@ -28,6 +28,7 @@ pub mod PendingByMoves
 pub mod WaitingMoves
 pub mod WaitingEnds
 pub mod PendingTold
+pub mod NotesOnClocks
 pub mod StagesOfVisits
 pub mod StagesThatFork
 pub mod StagesUnfold

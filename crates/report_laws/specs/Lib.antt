@@ -17,6 +17,7 @@ pub mod MovesMade
 pub mod ClocksTold
 pub mod WaitsTold
 pub mod PendingTold
+pub mod NotesOnClocks
 pub mod OriginsOfScenes
 pub mod OpsOfStages
 -- Words of contracts further down, which no promise of a program needs.

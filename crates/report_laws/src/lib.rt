@@ -6,6 +6,7 @@
 
 mod agreement;
 mod answers;
+mod clock_notes;
 mod clock_origins;
 mod explanations;
 mod origins;
@@ -16,6 +17,7 @@ pub use agreement::{
     steps_end_as_explained, who_gains_and_pays,
 };
 pub use answers::{live_tells_as_run, one_answer, printing_keeps_meaning, texts_go_by_plan};
+pub use clock_notes::clock_notes_are_so;
 pub use clock_origins::{
     clocks_come_from_what_is_told, pending_is_remembered, waits_are_told_where_they_stand,
     waits_come_from_what_is_told,

@@ -11,6 +11,8 @@ use Rattle.clock_semantics.specs.Unfolding.{plan_of_moves}
 use Rattle.clock_source_map.proofs.AllOrigins.{unfolding_of_plan}
 use Rattle.clock_source_map.proofs.Walked.{same_unfolding}
 use Rattle.clock_source_map.specs.ClockOrigins.{all_waits}
+use Rattle.armus_base.specs.Plans.{Plan}
+use Rattle.explain_clock.specs.ClockExplanations.{clock_lines}
 use Rattle.explain_clock.specs.ClockFacts.{AreWaitsAt, ClockFacts}
 use Rattle.explain_clock.proofs.KnownTexts.{known_text}
 use Rattle.explain_clock.proofs.explaining.clock_explanation_of.Goals as goal
@@ -63,6 +65,6 @@ returns c = λ u is.
       };
       circle = told.0.0;
       circle_is = told.0.1;
-      lines_are = told.0.2;
+      lines_are = told.0.2 ∙ ap (λ (p : Plan). clock_lines f p told.0.0) c.plan-plan.ensures.plan;
       waits_are = told.1;
     }
