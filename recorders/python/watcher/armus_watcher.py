@@ -570,6 +570,9 @@ class Watcher:
                     standing[ident] = wait
                     if ALL in wait.keepers:
                         wait.asleep = natives[ident], self.slept[ident][1]
+        for ident in [i for i in standing if isinstance(asleep.get(i), int) or asleep.get(i) is IN_CHILD]:
+            if switches(natives[ident]) != self.slept[ident][1] or sleeps_at(natives[ident]) != asleep[ident]:
+                del standing[ident]                              # it went on while this was worked out
         self.add_others(present, standing, {n for n in natives.values() if n})
         for ident, frame in sys._current_frames().items():       # who began meanwhile
             if ident not in present and ident != self.own:
