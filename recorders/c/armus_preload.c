@@ -1685,3 +1685,6 @@ __asm__(".text\n.globl syscall\n.type syscall,@function\nsyscall:\n"
         "  pop %r9\n  pop %r8\n  pop %rcx\n  pop %rdx\n  pop %rsi\n  pop %rdi\n  mov real_syscall(%rip), %rax\n  jmp 2b\n"
         ".size syscall,.-syscall\n");
 #endif
+
+/* The last of the constructors: what was looked for and not found is no error of the program's, which may ask for its own. */
+__attribute__((constructor)) static void forget_errors(void) { dlerror(); }

@@ -239,10 +239,11 @@ class Text:
 
 
 def gives_back(body, lock=None):
-    """Whether the lock, or any, is given back in the midst of these lines: then who stands there may not have it."""
+    """Whether the lock is given back in the midst of these lines: then who stands there may not have it. With no lock, whether any is, or is put into a stack that has not
+    entered it."""
     text = ast.dump(lock) if lock is not None else None
-    return any(isinstance(node, ast.Call) and isinstance(node.func, ast.Attribute) and node.func.attr == 'release' and text in (None, ast.dump(node.func.value))
-               for one in body for node in ast.walk(one))
+    return any(isinstance(node, ast.Call) and isinstance(node.func, ast.Attribute) and (node.func.attr == 'release' and text in (None, ast.dump(node.func.value))
+               or node.func.attr == 'push' and text is None) for one in body for node in ast.walk(one))
 
 
 def begin_of(node):
@@ -566,13 +567,10 @@ class Watcher:
                     self.add_loop(ident, natives[ident], frames[ident], present, standing)
                     continue
                 wait = self.wait_of(ident, frames[ident], asleep, frames)
-                if wait is not None:
-                    standing[ident] = wait
+                if wait is not None and sleeps_at(natives[ident]) == asleep[ident] and self.slept[ident][1] == switches(natives[ident]):
+                    standing[ident] = wait               # it slept all the while, so what was seen of it is of one moment
                     if ALL in wait.keepers:
                         wait.asleep = natives[ident], self.slept[ident][1]
-        for ident in [i for i in standing if isinstance(asleep.get(i), int) or asleep.get(i) is IN_CHILD]:
-            if switches(natives[ident]) != self.slept[ident][1] or sleeps_at(natives[ident]) != asleep[ident]:
-                del standing[ident]                              # it went on while this was worked out
         self.add_others(present, standing, {n for n in natives.values() if n})
         for ident, frame in sys._current_frames().items():       # who began meanwhile
             if ident not in present and ident != self.own:
