@@ -28,8 +28,7 @@ use Rattle.report.specs.Standings.{AreStandings, Stands}
 use Rattle.report.specs.declared.standing.Standing.{Standing}
 use Rattle.report.specs.declared.standing.Standing.TheVariants as way
 use Rattle.explain_clock.specs.ClockCircles.{IsClockCircle, clock_verdict_line}
-use Rattle.explain_clock.specs.ClockMends.{clock_circle_hint}
-use Rattle.explain_clock.specs.ClockExplanations.{ended_counts, is_ended, is_unstarted, paragraph_saying, paragraph_sayings, some_activity_waits, waiting_counts, waits_there}
+use Rattle.explain_clock.specs.ClockExplanations.{clock_end, ended_counts, is_ended, is_unstarted, paragraph_saying, paragraph_sayings, some_activity_waits, waiting_counts, waits_there}
 use Rattle.command_line.specs.declared.command.RunKind.TheVariants.{Plain}
 use Rattle.program_io.specs.Texts.{Text}
 use Rattle.armus_top.specs.ClockRuns.{IsClockRunOf}
@@ -173,7 +172,7 @@ module _ (form : Form) (text : Text) (status number : ℕ) (lines report : Text)
       let f = x.explains.tells.facts in
       let nobody = clock_verdict_line f x.explains.tells.circle (some_activity_waits all) in
       let said = flat_map (paragraph_saying f) (paragraph_sayings f x.explains.tells.circle) in
-      let hint = clock_circle_hint f x.explains.tells.circle in
+      let hint = clock_end f moves x.explains.tells.circle (some_activity_waits all) in
       let paragraphs = said ++ hint in
       let c = counts_of standings in
       record {
