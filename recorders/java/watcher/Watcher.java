@@ -138,6 +138,16 @@ public final class Watcher implements Runnable {
         return present;
     }
 
+    /** Whether daemons alone are left, so that the machine ends. */
+    private static boolean isOver(Map<Long, Thread> present) {
+        for (Thread thread : present.values()) {
+            if (!thread.isDaemon()) {
+                return false;
+            }
+        }
+        return true;
+    }
+
     private static boolean mayWait(Thread thread) {
         Thread.State state = thread.getState();
         return state == Thread.State.WAITING || state == Thread.State.BLOCKED;
@@ -145,6 +155,9 @@ public final class Watcher implements Runnable {
 
     private void look() throws IOException {
         Map<Long, Thread> present = present();                 // who is not here has ended before anybody is looked at
+        if (isOver(present)) {
+            return;
+        }
         there = present;
         List<Long> asleep = new ArrayList<>();
         for (Map.Entry<Long, Thread> entry : present.entrySet()) {
