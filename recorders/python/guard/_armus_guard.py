@@ -595,7 +595,7 @@ class Lock(Taken):
         return True
 
     def __enter__(self):
-        self._takes(True)
+        self._takes(sys._getframe(1).f_code.co_name != 'enter_context')      # an ExitStack may hand it on to another thread
         return True
 
     def release(self):
