@@ -1,11 +1,13 @@
 -- What is noted of clocks and finishes is so in each run of the machine on the text: by the moves of its activities, and by the runs of the plan that stand for its runs.
-use Rattle.std.proofs.Common.{◌≡◌, ◌∙◌, ◌<◌, ◌++◌, ◌||◌, ◌&&◌, ◌==◌, ◌⊎◌, ℕ, suc, Bool, true, false, not, List, [], ◌∷◌, Option, Some, None, Ok, ap, arith, eq-eqb, if◌then◌else◌, inl, inr, length, refl, subst, sym}
+use Rattle.std.proofs.Common.{◌≡◌, ◌∙◌, ◌<◌, ◌++◌, ◌||◌, ◌&&◌, ◌⊎◌, ℕ, suc, Bool, true, false, not, List, [], ◌∷◌, Option, Some, None, Ok, ap, arith, eq-eqb, if◌then◌else◌, inl, inr, length, refl, subst, sym}
 use Rattle.std.specs.Prelude.{Contains, is_some}
 use Rattle.std.specs.List.{list_any, slice_get}
 use Rattle.std.specs.Option.{option_map}
 use Rattle.std.proofs.lemmas.Bool.{false≢true}
 use Rattle.std.proofs.lemmas.Option.{slice_get_within}
 use Rattle.std.proofs.lemmas.List.Elements.{Contains-append_left, Contains-append_right}
+use Rattle.std.proofs.Math.Bool.{or-true, true-or}
+use Rattle.std.proofs.lemmas.List.Folds.{list_any-append}
 use Rattle.armus_base.specs.declared.ids.TaskId.{TaskId}
 use Rattle.armus_base.specs.declared.offset.Offset.TheVariants.{Here}
 use Rattle.armus_base.specs.declared.op.Op.{Op}
@@ -43,14 +45,6 @@ use Rattle.explain_deadlock.proofs.MakersAlone.{only_makers_are_members}
 use Rattle.report_laws.specs.NotesOnClocks.{FinishesNeverWait, NobodyAdvancesThere, OnlyMakersAreRegistered}
 
 -- ---- what a note says of the plan
-
-or_right : (a b : Bool) → b ≡ true → (a || b) ≡ true
-or_right true b e = refl
-or_right false b e = e
-
-or_left : (a b : Bool) → a ≡ true → (a || b) ≡ true
-or_left true b e = refl
-or_left false b e = absurd (cc)
 
 not_advanced : (clocks awaited registered : Bool) → noted_by clocks awaited registered ≡ Some NobodyAdvances → awaited ≡ false
 not_advanced true true true e = absurd (cc)
@@ -90,21 +84,15 @@ not_used use_so things plan q thing there within none = by (is_used_so use_so pl
 -- ---- the ops of a move
 
 any_left : (test : Op → Bool) (xs ys : List Op) → list_any test xs ≡ true → list_any test (xs ++ ys) ≡ true
-any_left test [] ys e = absurd (false≢true e)
-any_left test (x ∷ xs) ys e = by (test x) refl (λ h. any_left test xs ys h)
-  where
-    by : (b : Bool) → test x ≡ b → (list_any test xs ≡ true → list_any test (xs ++ ys) ≡ true) → (test x || list_any test (xs ++ ys)) ≡ true
-    by true is rest = or_left (test x) (list_any test (xs ++ ys)) is
-    by false is rest = or_right (test x) (list_any test (xs ++ ys)) (rest (sym (ap (λ b. b || list_any test xs) is) ∙ e))
+any_left test xs ys e = list_any-append test xs ys ∙ ap (λ b. b || list_any test ys) e ∙ true-or (list_any test ys)
 
 any_right : (test : Op → Bool) (xs ys : List Op) → list_any test ys ≡ true → list_any test (xs ++ ys) ≡ true
-any_right test [] ys e = e
-any_right test (x ∷ xs) ys e = or_right (test x) (list_any test (xs ++ ys)) (any_right test xs ys e)
+any_right test xs ys e = list_any-append test xs ys ∙ ap (λ b. list_any test xs || b) e ∙ or-true (list_any test xs)
 
 -- an advance of p awaits it
 awaits_own : (s : ActivityStanding) (p : ℕ) → some_op Awaits (ops_of s (advances p)) p ≡ true
 awaits_own s p = any_right (λ op. is_on_phaser p (used_by Awaits op)) (if s.pending p then [] else Adv (phaser p) ∷ []) (Await (phaser p) Here ∷ [])
-    (or_left (p == p) false (eq-eqb p p refl))
+    (ap (λ b. b || false) (eq-eqb p p refl))
 
 awaits_in : (s : ActivityStanding) (ms : List Move) (p : ℕ) → Contains ms (advances p) → some_op Awaits (code_from s ms) p ≡ true
 awaits_in s [] p has = absurd (let l = has.1 in omega arith)
